@@ -1,0 +1,1 @@
+// Rows of whole numbers: the definitions are in specs/.

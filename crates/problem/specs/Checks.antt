@@ -1,0 +1,97 @@
+-- A problem as it is handed to a call, and the causes 1 to 6 that turn it back.
+--   emptyProblem     no columns, no rows, no steps
+--   Posed            a problem with its lists: the coefficients, n to a row, and the right sides; the bounds and goals of the columns
+--   sizesFit ..      none of cause 1 holds; and so for the causes 2 to 6
+--   firstCause P L   the first cause of 1 to 6 that holds of the problem P and the lengths L of the buffers lent with it
+-- The checks are pieces, put together by `orNext`, so that other calls can take the first three or the first five.
+-- Assumes nothing.
+use mathlib.Core.Bool.{Bool, true, false, _&&_, _||_}
+use mathlib.Core.List.{List}
+use Prim.Native.Nat.{ℕ, _+_, _*_}
+use lib.Dec.{leb, eqb}
+use lib.IntN.{ℤ, pos}
+use lib.ListN.{length, getD}
+use lib.Signed.{leZ}
+use Rattle.whole.specs.Tests.{isZero, spans, inRange, every}
+use Rattle.problem.specs.Limits.{maxColumns, maxRows, maxCoefficient, maxRight, maxBound, maxGoal, maxSteps}
+use Rattle.problem.specs.declared.Problem.{Problem}
+use Rattle.problem.specs.declared.Lent.{Lent}
+use Rattle.problem.specs.declared.Refusal.{Refusal}
+use Rattle.problem.specs.declared.Refusal.the-variants.{Size, Length, Coefficient, Bound, Goal, Limit}
+use Rattle.problem.specs.declared.Check.{Check}
+use Rattle.problem.specs.declared.Check.the-variants.{Passed, Failed}
+
+abbrev pub emptyProblem : Problem
+emptyProblem = record { columns = 0; rows = 0; limit = 0 }
+
+pub record Posed : Type 0 where
+  pub problem : Problem
+  pub coefficients : List ℤ
+  pub rights : List ℤ
+  pub lower : List ℤ
+  pub upper : List ℤ
+  pub goals : List ℤ
+
+abbrev at : List ℤ → ℕ → ℤ
+at l j = getD l j (pos 0)
+
+-- 1: "n or m outside"
+abbrev pub sizesFit : ℕ → ℕ → Problem → Bool
+sizesFit columns rows p = leb 1 (p .columns) && (leb (p .columns) columns && leb (p .rows) rows)
+
+-- 2: "a lent length not exactly what n and m need"
+abbrev pub rowLengthsFit : Problem → List ℤ → List ℤ → Bool
+rowLengthsFit p coefficients rights = eqb (length coefficients) (p .rows * p .columns) && eqb (length rights) (p .rows)
+
+abbrev pub columnLengthsFit : Problem → List ℤ → List ℤ → List ℤ → Bool
+columnLengthsFit p lower upper goals =
+    eqb (length lower) (p .columns) && (eqb (length upper) (p .columns) && eqb (length goals) (p .columns))
+
+-- the tableau "has n rows of m + n"
+abbrev pub lentFit : Problem → Lent → Bool
+lentFit p l =
+    eqb (l .tableau) (p .columns * (p .rows + p .columns))
+    && (eqb (l .values) (p .columns) && eqb (l .strides) (p .columns))
+
+-- 3: "coefficient, right side or least half outside"; a call on buffers has no least half, since its y is a column like any other
+abbrev pub allSpan : ℕ → List ℤ → Bool
+allSpan k l = every (length l) (λ i. spans k (at l i))
+
+abbrev pub rowsFit : List ℤ → List ℤ → Bool
+rowsFit coefficients rights = allSpan maxCoefficient coefficients && allSpan maxRight rights
+
+-- 4: "bound outside, or lower above upper"
+abbrev pub boundFits : ℤ → ℤ → Bool
+boundFits lower upper = spans maxBound lower && (spans maxBound upper && leZ lower upper)
+
+abbrev pub boundsFit : List ℤ → List ℤ → Bool
+boundsFit lower upper = every (length lower) (λ j. boundFits (at lower j) (at upper j))
+
+-- 5: "goal outside, or goal with lower below 1"
+abbrev pub goalFits : ℤ → ℤ → Bool
+goalFits lower goal = inRange (pos 0) (pos maxGoal) goal && (isZero goal || leZ (pos 1) lower)
+
+abbrev pub goalsFit : List ℤ → List ℤ → Bool
+goalsFit lower goals = every (length lower) (λ j. goalFits (at lower j) (at goals j))
+
+-- 6: "step limit outside"
+abbrev pub limitFits : Problem → Bool
+limitFits p = leb (p .limit) maxSteps
+
+-- the refusal where the test fails, else the next check
+abbrev pub orNext : Bool → Refusal → Check → Check
+orNext true why next = next
+orNext false why next = Failed why
+
+-- "each under just its stated condition", in the order of the table
+unfoldable pub firstCause : Posed → Lent → Check
+firstCause P L =
+    let p : Problem = P .problem in
+    orNext (sizesFit maxColumns maxRows p) Size
+    (orNext (rowLengthsFit p (P .coefficients) (P .rights)) Length
+    (orNext (columnLengthsFit p (P .lower) (P .upper) (P .goals)) Length
+    (orNext (lentFit p L) Length
+    (orNext (rowsFit (P .coefficients) (P .rights)) Coefficient
+    (orNext (boundsFit (P .lower) (P .upper)) Bound
+    (orNext (goalsFit (P .lower) (P .goals)) Goal
+    (orNext (limitFits p) Limit Passed)))))))

@@ -1,0 +1,84 @@
+-- Laws of signed numbers that the proofs cite. A bound on a signed number is a bound on its `natAbs`. Assumes nothing.
+use mathlib.Core.Path.{_≡_, refl, sym, ap, _∙_, subst}
+use mathlib.Core.Bool.{Bool, true, false, not}
+use Prim.Native.Nat.{ℕ, zero, suc, _+_, _-_, _*_, _/_, _^_, _≤_, _<_, zero-le}
+use native.Mathlib.Nat.{zero-add, div-le-self, lt-of-le-of-lt, le-refl, le-of-eq, zero-lt-suc}
+use native.Mathlib.Omega.{arith}
+use borrow.Author.Tests.{ltb-true, ltb-false, lt-ltb, le-ltb}
+use lib.Dec.{ltb, T, lit<}
+use lib.IntN.{ℤ, pos, negsuc, negℤ, natAbs, _+ℤ_, _-ℤ_, _*ℤ_, subℕ}
+use lib.Signed.{_<ℤ_, _≤ℤ_, ltZ, nonNeg, quotZ, mag}
+use mir.Syntax.{Width, w64}
+use mir.Val.{toZ, ofZ, SFits}
+use mir.Facts.{toZ-ofZ}
+use Rattle.whole.specs.Quotient.{flip}
+
+-- ---- a difference of two naturals, where the test is known
+pub sub-ge : (a b : ℕ) → b ≤ a → subℕ a b ≡ pos (a - b)
+sub-ge a b h = rw (le-ltb a b h)
+
+pub sub-lt : (a b : ℕ) → a < b → subℕ a b ≡ negsuc (b - suc a)
+sub-lt a b h = rw (lt-ltb a b h)
+
+-- ---- natAbs of the operations
+pub abs-neg : (z : ℤ) → natAbs (negℤ z) ≡ natAbs z
+abs-neg (pos zero) = refl
+abs-neg (pos (suc n)) = refl
+abs-neg (negsuc n) = refl
+
+abs-sub : (a b : ℕ) (t : Bool) → ltb a b ≡ t → natAbs (subℕ a b) ≤ a + b
+abs-sub a b true e = let h : a < b = ltb-true a b e in rw (sub-lt a b h) (omega arith)
+abs-sub a b false e = let h : b ≤ a = ltb-false a b e in rw (sub-ge a b h) (omega arith)
+
+pub abs-add : (x y : ℤ) → natAbs (x +ℤ y) ≤ natAbs x + natAbs y
+abs-add (pos a) (pos b) = le-refl (a + b)
+abs-add (pos a) (negsuc b) = abs-sub a (suc b) (ltb a (suc b)) refl
+abs-add (negsuc a) (pos b) = let h : natAbs (subℕ b (suc a)) ≤ b + suc a = abs-sub b (suc a) (ltb b (suc a)) refl in omega arith
+abs-add (negsuc a) (negsuc b) = omega arith
+
+pub abs-mul : (x y : ℤ) → natAbs (x *ℤ y) ≡ natAbs x * natAbs y
+abs-mul (pos a) (pos b) = refl
+abs-mul (pos a) (negsuc b) = abs-neg (pos (a * suc b))
+abs-mul (negsuc a) (pos b) = abs-neg (pos (suc a * b))
+abs-mul (negsuc a) (negsuc b) = refl
+
+mag-le : (z : ℤ) → mag z ≤ natAbs z
+mag-le (pos n) = le-refl n
+mag-le (negsuc n) = omega arith
+
+-- a number of magnitude below 2 ^ 63 is an i64
+pub sfits-abs : (z : ℤ) → natAbs z < 2 ^ 63 → SFits w64 z
+sfits-abs z h = record { sfits = lt-of-le-of-lt (mag-le z) h }
+
+-- what the machine reads back
+pub back : (z : ℤ) → mag z < 2 ^ 63 → toZ w64 (ofZ w64 z) ≡ z
+back z h = toZ-ofZ (record { sfits = h })
+
+-- ---- −1 − z
+pub flip-is : (z : ℤ) → negsuc 0 -ℤ z ≡ flip z
+flip-is (pos zero) = refl
+flip-is (pos (suc n)) = ap (λ (m : ℕ). negsuc (suc m)) (zero-add n)
+flip-is (negsuc n) = sub-ge (suc n) 1 (omega arith) ∙ ap pos (omega arith)
+
+pub mag-flip : (z : ℤ) → mag (flip z) ≡ mag z
+mag-flip (pos n) = refl
+mag-flip (negsuc n) = refl
+
+pub flip-fits : {z : ℤ} → SFits w64 z → SFits w64 (flip z)
+flip-fits {z} f = record { sfits = rw mag-flip (f .sfits) }
+
+-- the machine's division of a number that is not below 0 by one above 0
+pub over : (a p : ℤ) → SFits w64 a → nonNeg a ≡ true → pos 0 <ℤ p → (0 < ofZ w64 p) × SFits w64 (quotZ a p)
+over (pos a) (pos (suc p)) f h k = (zero-lt-suc p, record { sfits = lt-of-le-of-lt (div-le-self a (suc p)) (f .sfits) })
+over (pos a) (pos zero) f h k = absurd (k .lt)
+over (pos a) (negsuc p) f h k = absurd (k .lt)
+over (negsuc a) p f h k = absurd (subst T (sym h) tt)
+
+-- what a test against 0 says of the sign
+pub lt-zero : (z : ℤ) → ltZ z (pos 0) ≡ not (nonNeg z)
+lt-zero (pos n) = le-ltb n 0 zero-le
+lt-zero (negsuc n) = refl
+
+pub flip-sign : (z : ℤ) → nonNeg (flip z) ≡ not (nonNeg z)
+flip-sign (pos n) = refl
+flip-sign (negsuc n) = refl

@@ -1,0 +1,4 @@
+-- The root of the definitions.
+pub mod Tests
+pub mod Quotient
+pub mod Divisor

@@ -1,0 +1,55 @@
+ghost use mathlib.Core.Path.{_≡_};
+ghost use mathlib.Core.Bool.{true};
+ghost use lib.IntN.{ℤ, pos, natAbs};
+ghost use lib.Signed.{_<ℤ_, ltZ, quotZ, nonNeg};
+ghost use Rattle.whole.specs.Quotient.{floorQuotient, flip};
+ghost use Rattle.whole.specs.Divisor as Divisor;
+
+// Whether a is below b.
+pub fn less(a: i64, b: i64) -> bool
+    ensures { λ r. ⌜ r ≡ ltZ a b ⌝ }
+{
+    a < b
+}
+
+// −1 − z: turns the sign round, and fits also for the least i64.
+fn flipped(z: i64) -> i64
+    ensures { λ r. ⌜ r ≡ flip z ⌝ }
+{
+    -1 - z
+}
+
+// The machine's quotient, of numbers where it cannot cut towards 0.
+fn quotient(a: i64, p: i64) -> i64
+    requires { ⌜ nonNeg a ≡ true ⌝ }
+    requires { ⌜ pos 0 <ℤ p ⌝ }
+    ensures { λ r. ⌜ r ≡ quotZ a p ⌝ }
+{
+    a / p
+}
+
+// The quotient of e by a positive pivot, rounded down.
+pub fn floor_quotient(e: i64, p: i64) -> i64
+    requires { ⌜ pos 0 <ℤ p ⌝ }
+    ensures { λ r. ⌜ r ≡ floorQuotient e p ⌝ }
+{
+    if less(e, 0) {
+        flipped(quotient(flipped(e), p))
+    } else {
+        quotient(e, p)
+    }
+}
+
+// The magnitude of any a, the least i64 too.
+pub fn magnitude(a: i64) -> u64
+    ensures { λ r. ⌜ r ≡ natAbs a ⌝ }
+{
+    if a < 0 { (-1 - a) as u64 + 1 } else { a as u64 }
+}
+
+// The greatest common divisor.
+pub fn divisor(a: u64, b: u64) -> u64
+    ensures { λ r. ⌜ r ≡ Divisor.divisor a b ⌝ }
+{
+    if b == 0 { a } else { divisor(b, a % b) }
+}
