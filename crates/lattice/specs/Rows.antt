@@ -1,8 +1,6 @@
 -- Rows of whole numbers, as lists, and tables of them.
---   entry c r     the number at column c, counted from 0; 0 past the end
 --   plus c r v    v + c r, with v's length
 --   neg r         −r
---   zeros n       n numbers that are 0
 --   unit n j      the j-th unit list of n numbers, j counted from 0
 --   allZero r     every number is 0
 --   lead r        the column of the first number other than 0; r's length if there is none
@@ -13,11 +11,9 @@ use mathlib.Core.Bool.{Bool, true, false, _&&_}
 use mathlib.Core.List.{List, [], _∷_, _++_}
 use Prim.Native.Nat.{ℕ, zero, suc}
 use lib.IntN.{ℤ, pos, negsuc, negℤ, _+ℤ_, _*ℤ_}
-use lib.ListN.{getD, replicate, take, drop}
+use lib.ListN.{take, drop}
+use Rattle.whole.specs.Lists.{zeros}
 use Rattle.whole.specs.Tests.{isZero}
-
-abbrev pub entry : ℕ → List ℤ → ℤ
-entry c r = getD r c (pos 0)
 
 unfoldable pub plus : ℤ → List ℤ → List ℤ → List ℤ
 plus c [] v = v
@@ -27,9 +23,6 @@ plus c (y ∷ r) (x ∷ v) = (x +ℤ c *ℤ y) ∷ plus c r v
 unfoldable pub neg : List ℤ → List ℤ
 neg [] = []
 neg (x ∷ v) = negℤ x ∷ neg v
-
-abbrev pub zeros : ℕ → List ℤ
-zeros n = replicate n (pos 0)
 
 abbrev pub unit : ℕ → ℕ → List ℤ
 unit zero j = []

@@ -1,4 +1,5 @@
 -- The root of the definitions.
+pub mod Lists
 pub mod Tests
 pub mod Quotient
 pub mod Divisor

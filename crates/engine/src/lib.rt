@@ -1,0 +1,1 @@
+// Whole assignments and Continue: the definitions are in specs/.

@@ -1,0 +1,74 @@
+-- Document 01, "Continue, text, listing": the listing's bytes. It "prints FITTED, OUTSIDE, SPENT, NONE or REFUSED. After the first three come both
+-- counts, then a line for each column: column, value, stride. NONE stands alone (refusal 8). REFUSED is followed by the number. Fields are parted by
+-- one space; each line ends with byte 10."
+--   line c v d       a column's line
+--   listing a v d    the listing of the answer a, with the values v and the strides d where it is a verdict
+-- Assumes nothing.
+use mathlib.Core.List.{List, [], _∷_, _++_}
+use Prim.Native.Nat.{ℕ, zero, suc, _+_}
+use lib.IntN.{ℤ}
+use Rattle.text.specs.Decimals.{natural, integer}
+use Rattle.problem.specs.Answers.{refusalNumber}
+use Rattle.problem.specs.declared.Counts.{Counts}
+use Rattle.problem.specs.declared.Refusal.{Refusal}
+use Rattle.problem.specs.declared.Refusal.the-variants.{Size, Length, Coefficient, Bound, Goal, Limit, Elimination, NoWholeNumbers, Seating, Standing, Layout, Term}
+use Rattle.problem.specs.declared.Answer.{Answer}
+use Rattle.problem.specs.declared.Answer.the-variants.{Fitted, Outside, Spent, Refused}
+
+-- "FITTED", "OUTSIDE", "SPENT", "NONE", "REFUSED"
+abbrev pub FITTED : List ℕ
+FITTED = 70 ∷ 73 ∷ 84 ∷ 84 ∷ 69 ∷ 68 ∷ []
+
+abbrev pub OUTSIDE : List ℕ
+OUTSIDE = 79 ∷ 85 ∷ 84 ∷ 83 ∷ 73 ∷ 68 ∷ 69 ∷ []
+
+abbrev pub SPENT : List ℕ
+SPENT = 83 ∷ 80 ∷ 69 ∷ 78 ∷ 84 ∷ []
+
+abbrev pub NONE : List ℕ
+NONE = 78 ∷ 79 ∷ 78 ∷ 69 ∷ []
+
+abbrev pub REFUSED : List ℕ
+REFUSED = 82 ∷ 69 ∷ 70 ∷ 85 ∷ 83 ∷ 69 ∷ 68 ∷ []
+
+-- a field after one space, and the end of a line
+abbrev pub field : List ℕ → List ℕ
+field w = 32 ∷ w
+
+abbrev pub lineEnd : List ℕ
+lineEnd = 10 ∷ []
+
+abbrev pub verdict : List ℕ → Counts → List ℕ
+verdict word k = word ++ (field (natural (k .bounds)) ++ (field (natural (k .goals)) ++ lineEnd))
+
+abbrev pub line : ℕ → ℤ → ℕ → List ℕ
+line c v d = natural c ++ (field (integer v) ++ (field (natural d) ++ lineEnd))
+
+-- the lines of the columns after the first i; columns are listed from 1
+unfoldable pub linesFrom : ℕ → List ℤ → List ℕ → List ℕ
+linesFrom i [] ds = []
+linesFrom i (v ∷ vs) [] = []
+linesFrom i (v ∷ vs) (d ∷ ds) = line (i + 1) v d ++ linesFrom (i + 1) vs ds
+
+abbrev pub numbered : Refusal → List ℕ
+numbered why = REFUSED ++ (field (natural (refusalNumber why)) ++ lineEnd)
+
+abbrev pub refusal : Refusal → List ℕ
+refusal NoWholeNumbers = NONE ++ lineEnd
+refusal Size = numbered Size
+refusal Length = numbered Length
+refusal Coefficient = numbered Coefficient
+refusal Bound = numbered Bound
+refusal Goal = numbered Goal
+refusal Limit = numbered Limit
+refusal Elimination = numbered Elimination
+refusal Seating = numbered Seating
+refusal Standing = numbered Standing
+refusal Layout = numbered Layout
+refusal Term = numbered Term
+
+unfoldable pub listing : Answer → List ℤ → List ℕ → List ℕ
+listing (Fitted k) v d = verdict FITTED k ++ linesFrom 0 v d
+listing (Outside k) v d = verdict OUTSIDE k ++ linesFrom 0 v d
+listing (Spent k) v d = verdict SPENT k ++ linesFrom 0 v d
+listing (Refused why) v d = refusal why

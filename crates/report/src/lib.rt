@@ -1,0 +1,1 @@
+// The listing: the definitions are in specs/.

@@ -1,0 +1,41 @@
+-- Document 01, "Seating": the ideal of a column, document 01's own term for the number that seating pulls it to.
+--   goalIdeal g         "k is floor(g/1000); take 1 if k = 0, k + 1 if k(k + 1) × 1,000,000 < g × g, else k"
+--   into lo hi x        x brought into the bounds lo to hi
+--   Wish                what a column is to come to: a number, or nothing set (declared in src/)
+--   goalWish g          the wish of a goal; nothing for 0, no goal
+--   ideal lo hi w x     the wish brought into the bounds; "Without a goal it is the present value brought into the bounds"
+-- Seating takes wishes and not goals, so that a wish may come from elsewhere too.
+-- Assumes nothing.
+use mathlib.Core.Bool.{Bool, true, false, cond}
+use Prim.Native.Nat.{ℕ, zero, suc, _+_, _*_, _/_}
+use lib.Dec.{ltb}
+use lib.IntN.{ℤ, pos, natAbs}
+use lib.Signed.{ltZ}
+use Rattle.settling.specs.declared.Wish.{Wish}
+use Rattle.settling.specs.declared.Wish.the-variants.{Unset, Set}
+
+-- for the goal g and its whole intervals k
+abbrev pub idealFrom : ℕ → ℕ → ℕ
+idealFrom g zero = 1
+idealFrom g (suc k) = cond (ltb (suc k * (suc k + 1) * 1000000) (g * g)) (suc k + 1) (suc k)
+
+unfoldable pub goalIdeal : ℕ → ℕ
+goalIdeal g = idealFrom g (g / 1000)
+
+abbrev pub into : ℤ → ℤ → ℤ → ℤ
+into lo hi x = cond (ltZ x lo) lo (cond (ltZ hi x) hi x)
+
+abbrev pub wishFrom : ℕ → Wish
+wishFrom zero = Unset
+wishFrom (suc g) = Set (pos (goalIdeal (suc g)))
+
+abbrev pub goalWish : ℤ → Wish
+goalWish g = wishFrom (natAbs g)
+
+-- the wish, or the present value x
+abbrev pub wished : Wish → ℤ → ℤ
+wished Unset x = x
+wished (Set y) x = y
+
+unfoldable pub ideal : ℤ → ℤ → Wish → ℤ → ℤ
+ideal lo hi w x = into lo hi (wished w x)

@@ -1,0 +1,9 @@
+-- The root of the definitions.
+pub mod Columns
+pub mod Ideals
+pub mod Seating
+pub mod Moves
+pub mod Measures
+pub mod Steps
+pub mod Settle
+pub mod Strides

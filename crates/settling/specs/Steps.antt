@@ -1,0 +1,112 @@
+-- Document 01, "Moves and settling": a step.
+--   inBounds C v       all distances are 0
+--   partOf C v         "Bounds part, while some distance is above 0"; "Goals part, once all distances are 0"
+--   improves ..        a move improves a column
+--   ranking part C v   the columns in the order in which they are tried
+--   Step               the column and its move, or that no move improves (declared in src/)
+--   nextStep C N v     "A step takes the first column with an improving move, and its first such move, once."
+-- Assumes nothing.
+use mathlib.Core.Bool.{Bool, true, false, not, cond, _&&_, _||_}
+use mathlib.Core.List.{List, [], _∷_}
+use Prim.Native.Nat.{ℕ, zero, suc}
+use lib.Dec.{ltb, eqb}
+use lib.IntN.{ℤ}
+use lib.ListN.{length}
+use Rattle.whole.specs.Lists.{entry}
+use Rattle.whole.specs.Tests.{isZero, every}
+use Rattle.problem.specs.Limits.{beyond}
+use Rattle.settling.specs.declared.Move.{Move}
+use Rattle.settling.specs.declared.Measure.{Measure}
+use Rattle.settling.specs.declared.Part.{Part}
+use Rattle.settling.specs.declared.Part.the-variants.{Bounds, Goals}
+use Rattle.settling.specs.declared.Step.{Step}
+use Rattle.settling.specs.declared.Step.the-variants.{Rest, Take}
+use Rattle.settling.specs.Columns.{Columns}
+use Rattle.settling.specs.Moves.{moves, change, changes, moved}
+use Rattle.settling.specs.Measures.{below, distance, measure}
+
+abbrev pub inBounds : Columns → List ℤ → Bool
+inBounds C v = every (C .count) (λ j. eqb (distance (entry j (C .lower)) (entry j (C .upper)) (entry j v)) 0)
+
+abbrev pub partIf : Bool → Part
+partIf true = Goals
+partIf false = Bounds
+
+abbrev pub partOf : Columns → List ℤ → Part
+partOf C v = partIf (inBounds C v)
+
+-- ---- one column with the bounds lo and hi, the goal g and the value x
+
+-- which columns are tried: "Columns with a distance above 0", "Columns with a goal"
+unfoldable pub isRanked : Part → ℤ → ℤ → ℤ → ℤ → Bool
+isRanked Bounds lo hi g x = ltb 0 (distance lo hi x)
+isRanked Goals lo hi g x = not (isZero g)
+
+-- which changed columns a move has to bring below the old measure: "every column it changes", "every changed column with a goal"
+abbrev pub isCompared : Part → ℤ → Bool
+isCompared Bounds g = true
+isCompared Goals g = not (isZero g)
+
+-- which values a move may leave in any column: "every value lies within ±M", "all values are then in bounds"
+abbrev pub isAllowed : Part → ℤ → ℤ → ℤ → Bool
+isAllowed Bounds lo hi y = not (beyond y)
+isAllowed Goals lo hi y = eqb (distance lo hi y) 0
+
+-- a move adds e to a column, which is then y, where it has to come below q
+unfoldable pub passes : Part → ℤ → ℤ → ℤ → ℤ → ℤ → Measure → Bool
+passes p lo hi g y e q = isAllowed p lo hi y && (not (not (isZero e) && isCompared p g) || below (measure p lo hi g y) q)
+
+-- ---- the column j of a problem
+abbrev pub measureAt : Part → Columns → List ℤ → ℕ → Measure
+measureAt p C v j = measure p (entry j (C .lower)) (entry j (C .upper)) (entry j (C .goals)) (entry j v)
+
+abbrev pub rankedAt : Part → Columns → List ℤ → ℕ → Bool
+rankedAt p C v j = isRanked p (entry j (C .lower)) (entry j (C .upper)) (entry j (C .goals)) (entry j v)
+
+abbrev pub passesAt : Part → Columns → List (List ℤ) → List ℤ → Move → Measure → ℕ → Bool
+passesAt p C N v o q j = passes p (entry j (C .lower)) (entry j (C .upper)) (entry j (C .goals)) (entry j (moved N o v)) (change N o j) q
+
+-- "A move improves column i if it changes i", and every column passes against i's old measure
+unfoldable pub improves : Part → Columns → List (List ℤ) → List ℤ → Move → ℕ → Bool
+improves p C N v o i = changes N o i && every (C .count) (passesAt p C N v o (measureAt p C v i))
+
+-- ---- the ranking: "largest first, ties to the lower column"
+abbrev pub largerAt : Part → Columns → List ℤ → ℕ → ℕ → Bool
+largerAt p C v i j = below (measureAt p C v j) (measureAt p C v i)
+
+-- i put behind those of later columns that are larger
+unfoldable pub insert : (ℕ → ℕ → Bool) → ℕ → List ℕ → List ℕ
+insert larger i [] = i ∷ []
+insert larger i (j ∷ L) = cond (larger j i) (j ∷ insert larger i L) (i ∷ j ∷ L)
+
+-- of the columns j and on, k of them
+unfoldable pub rankFrom : (ℕ → Bool) → (ℕ → ℕ → Bool) → ℕ → ℕ → List ℕ
+rankFrom ranked larger zero j = []
+rankFrom ranked larger (suc k) j = cond (ranked j) (insert larger j (rankFrom ranked larger k (suc j))) (rankFrom ranked larger k (suc j))
+
+abbrev pub ranking : Part → Columns → List ℤ → List ℕ
+ranking p C v = rankFrom (rankedAt p C v) (largerAt p C v) (C .count) 0
+
+-- ---- the step
+abbrev pub orElse : Step → Step → Step
+orElse Rest z = z
+orElse (Take i o) z = Take i o
+
+-- for column i the first move of the list that is good
+unfoldable pub firstMove : (Move → Bool) → ℕ → List Move → Step
+firstMove good i [] = Rest
+firstMove good i (o ∷ L) = cond (good o) (Take i o) (firstMove good i L)
+
+-- what the first column of the list with a step has
+unfoldable pub firstColumn : (ℕ → Step) → List ℕ → Step
+firstColumn f [] = Rest
+firstColumn f (i ∷ R) = orElse (f i) (firstColumn f R)
+
+unfoldable pub stepAt : Part → Columns → List (List ℤ) → List ℤ → ℕ → Step
+stepAt p C N v i = firstMove (λ o. improves p C N v o i) i (moves (length N))
+
+unfoldable pub stepOf : Part → Columns → List (List ℤ) → List ℤ → Step
+stepOf p C N v = firstColumn (stepAt p C N v) (ranking p C v)
+
+unfoldable pub nextStep : Columns → List (List ℤ) → List ℤ → Step
+nextStep C N v = stepOf (partOf C v) C N v

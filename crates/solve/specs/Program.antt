@@ -1,0 +1,32 @@
+-- Document 01, "Continue, text, listing": "The listing program reads the text from standard input, uses limit 10,000 and prints" the listing.
+--   programLimit    the step limit
+--   blank P         buffers of just the lengths that a problem needs, all 0, as the program lends them
+--   printed s       the bytes that the program prints for the text s
+-- Assumes nothing.
+use mathlib.Core.List.{List, []}
+use Prim.Native.Nat.{ℕ, _+_, _*_}
+use lib.ListN.{replicate}
+use Rattle.whole.specs.Lists.{zeros}
+use Rattle.problem.specs.Checks.{Posed}
+use Rattle.problem.specs.declared.Answer.the-variants.{Refused}
+use Rattle.engine.specs.Assign.{Buffers, Done, n, m, assign}
+use Rattle.deck.specs.Rules.{Outcome, ok, no}
+use Rattle.deck.specs.Sections.{Deck, readDeck}
+use Rattle.deck.specs.Columns.{posed}
+use Rattle.report.specs.Listing.{listing}
+
+abbrev pub programLimit : ℕ
+programLimit = 10000
+
+abbrev pub blank : Posed → Buffers
+blank P = record { tableau = zeros (n P * (m P + n P)); values = zeros (n P); strides = replicate (n P) 0 }
+
+abbrev pub listed : Done → List ℕ
+listed d = listing (d .answer) (d .values) (d .strides)
+
+abbrev pub onDeck : Outcome Deck → List ℕ
+onDeck (ok d ts) = listed (assign (posed programLimit d) (blank (posed programLimit d)))
+onDeck (no why) = listing (Refused why) [] []
+
+unfoldable pub printed : List ℕ → List ℕ
+printed s = onDeck (readDeck s)

@@ -1,0 +1,1 @@
+// From a text to the listing's bytes: the definitions are in specs/.

@@ -1,0 +1,141 @@
+-- Document 01, "The tableau": the steps that bring a table into its Hermite form, over unbounded whole numbers.
+--   Left             a row after a subtraction, and whether that left a number beyond ±M in it
+--   Choice           the row that gathering chooses, counted from row k, with its magnitude; `none` where all entries are 0
+--   Gathered         row k and the rows below it after gathering, and whether a subtraction left a number beyond ±M
+--   Run              a table after the steps, and whether a subtraction of theirs left a number beyond ±M
+--   gather           the rounds of one column
+--   passColumn       one column c: gathering, then the rows above
+--   eliminate w T    all w columns of the table T, from left to right
+-- A subtraction goes on with the number that it left, beyond ±M or not: `over` only remembers it. So the table is that of the rules over
+-- unbounded numbers, and refusal 7 reads the mark.
+-- Rows and columns are counted from 0; the rows above row k are kept in one list, the rows from k on in another.
+-- Assumes nothing.
+use mathlib.Core.Bool.{Bool, true, false, cond, _||_}
+use mathlib.Core.List.{List, [], _∷_, _++_}
+use Prim.Native.Nat.{ℕ, zero, suc}
+use lib.Dec.{leb}
+use lib.IntN.{ℤ, pos, negsuc, negℤ, natAbs}
+use lib.ListN.{getD, set}
+use Rattle.whole.specs.Lists.{entry}
+use Rattle.whole.specs.Tests.{isZero}
+use Rattle.whole.specs.Quotient.{floorQuotient, gatheringQuotient}
+use Rattle.lattice.specs.Rows.{plus, neg}
+use Rattle.problem.specs.Limits.{anyBeyond}
+
+-- ---- a subtraction
+pub record Left : Type 0 where
+  pub row : List ℤ
+  pub over : Bool
+
+-- q times r taken from s
+abbrev pub subtract : ℤ → List ℤ → List ℤ → Left
+subtract q r s = record { row = plus (negℤ q) r s; over = anyBeyond (plus (negℤ q) r s) }
+
+-- no subtraction
+abbrev pub kept : List ℤ → Left
+kept s = record { row = s; over = false }
+
+-- "From each lower row with a nonzero entry subtract the quotient (entry by p) times row k; the quotient is rounded down"
+unfoldable pub lowered : ℕ → List ℤ → List ℤ → Left
+lowered c r s = cond (isZero (entry c s)) (kept s) (subtract (gatheringQuotient (entry c s) (entry c r)) r s)
+
+-- "subtract the rounded-down quotient times row k, so that its entry lies in 0 to p − 1"
+unfoldable pub reduced : ℕ → List ℤ → List ℤ → Left
+reduced c r s = subtract (floorQuotient (entry c s) (entry c r)) r s
+
+-- ---- a table after steps
+pub record Run : Type 0 where
+  pub table : List (List ℤ)
+  pub over : Bool
+
+-- each row in turn, top first
+unfoldable pub each : (List ℤ → Left) → List (List ℤ) → Run
+each f [] = record { table = []; over = false }
+each f (s ∷ B) = record { table = f s .row ∷ each f B .table; over = f s .over || each f B .over }
+
+-- ---- the choice: "the smallest magnitude other than 0, ties to the upper row"
+pub data Choice : Type 0 where
+  none : Choice
+  at : ℕ → ℕ → Choice
+
+-- the choice among lower rows, counted from one row further up
+abbrev pub shifted : Choice → Choice
+shifted none = none
+shifted (at j p) = at (suc j) p
+
+-- an entry of magnitude k above rows with a choice
+abbrev pub prefer : ℕ → Choice → Choice
+prefer zero z = shifted z
+prefer (suc k) none = at 0 (suc k)
+prefer (suc k) (at j p) = cond (leb (suc k) p) (at 0 (suc k)) (at (suc j) p)
+
+unfoldable pub choose : ℕ → List (List ℤ) → Choice
+choose c [] = none
+choose c (r ∷ B) = prefer (natAbs (entry c r)) (choose c B)
+
+-- ---- a round of gathering, on row k, which is b, and the rows B below it
+pub record Gathered : Type 0 where
+  pub pivot : List ℤ
+  pub below : List (List ℤ)
+  pub over : Bool
+
+-- "swap it with row k"
+unfoldable pub exchange : Choice → List ℤ → List (List ℤ) → List ℤ × List (List ℤ)
+exchange none b B = (b, B)
+exchange (at zero p) b B = (b, B)
+exchange (at (suc j) p) b B = (getD B j b, set B j b)
+
+-- "negate row k if its entry p is negative"
+abbrev pub signed : ℤ → List ℤ → List ℤ
+signed (pos p) r = r
+signed (negsuc p) r = neg r
+
+-- the lower rows, by the row r
+unfoldable pub clear : ℕ → List ℤ → List (List ℤ) → Gathered
+clear c r B = record { pivot = r; below = each (lowered c r) B .table; over = each (lowered c r) B .over }
+
+unfoldable pub round : ℕ → List ℤ → List (List ℤ) → Gathered
+round c b B =
+    let x : List ℤ × List (List ℤ) = exchange (choose c (b ∷ B)) b B in
+    clear c (signed (entry c (x .0)) (x .0)) (x .1)
+
+-- what follows on a round
+abbrev pub onward : Bool → Gathered → Gathered
+onward over g = record { pivot = g .pivot; below = g .below; over = over || g .over }
+
+-- "Repeat until all lower entries are 0": a round, and more while the lower rows have a choice. The magnitude chosen falls with each round, so that
+-- as many rounds as the first one's are enough
+unfoldable pub gather : ℕ → ℕ → Choice → List ℤ → List (List ℤ) → Gathered
+gather zero c z b B = record { pivot = b; below = B; over = false }
+gather (suc f) c none b B = record { pivot = b; below = B; over = false }
+gather (suc f) c (at j p) b B =
+    let x : Gathered = round c b B in
+    onward (x .over) (gather f c (choose c (x .below)) (x .pivot) (x .below))
+
+-- ---- one column, with the rows A above row k and the rows B from k on
+pub record Passed : Type 0 where
+  pub above : List (List ℤ)
+  pub below : List (List ℤ)
+  pub over : Bool
+
+-- "If all entries at c there are 0, go to the next c." Else gathering; "Then from each row above k, top first, subtract"; "Add 1 to k"
+unfoldable pub passColumn : ℕ → List (List ℤ) → List (List ℤ) → Choice → Passed
+passColumn c A B none = record { above = A; below = B; over = false }
+passColumn c A [] (at j p) = record { above = A; below = []; over = false }
+passColumn c A (b ∷ B) (at j p) =
+    let g : Gathered = gather p c (at j p) b B in
+    let a : Run = each (reduced c (g .pivot)) A in
+    record { above = a .table ++ (g .pivot ∷ []); below = g .below; over = g .over || a .over }
+
+-- "take the table's columns c from left to right while k ≤ n": d columns from c on. Past row n no row is left to choose from, and every further
+-- column is passed over
+unfoldable pub passColumns : ℕ → ℕ → List (List ℤ) → List (List ℤ) → Run
+passColumns zero c A B = record { table = A ++ B; over = false }
+passColumns (suc d) c A B =
+    let x : Passed = passColumn c A B (choose c B) in
+    let y : Run = passColumns d (suc c) (x .above) (x .below) in
+    record { table = y .table; over = x .over || y .over }
+
+-- "Start with k = 1"
+unfoldable pub eliminate : ℕ → List (List ℤ) → Run
+eliminate w T = passColumns w 0 [] T

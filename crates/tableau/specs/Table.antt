@@ -1,0 +1,22 @@
+-- Document 01, "The tableau": the table of a problem before the first step.
+--   column j A      column j of the matrix A, the list of its rows
+--   tableau n A     "One table row per column of the problem: table row j is column j of the matrix (m numbers), then the j-th unit list (n
+--                   numbers)."
+-- Columns are counted from 0.
+-- Assumes nothing.
+use mathlib.Core.List.{List, [], _∷_, _++_, map}
+use Prim.Native.Nat.{ℕ, zero, suc}
+use lib.IntN.{ℤ}
+use Rattle.whole.specs.Lists.{entry}
+use Rattle.lattice.specs.Rows.{unit}
+
+abbrev pub column : ℕ → List (List ℤ) → List ℤ
+column j A = map (entry j) A
+
+-- the table rows j to j + k − 1
+unfoldable pub tableauFrom : ℕ → ℕ → ℕ → List (List ℤ) → List (List ℤ)
+tableauFrom zero j n A = []
+tableauFrom (suc k) j n A = (column j A ++ unit n j) ∷ tableauFrom k (suc j) n A
+
+unfoldable pub tableau : ℕ → List (List ℤ) → List (List ℤ)
+tableau n A = tableauFrom n 0 n A

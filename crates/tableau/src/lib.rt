@@ -1,0 +1,1 @@
+// The tableau: the definitions are in specs/.
