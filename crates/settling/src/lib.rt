@@ -3,6 +3,8 @@ ghost use Prim.Native.Nat.{_≤_};
 ghost use lib.IntN.{ℤ, natAbs};
 ghost use Rattle.problem.specs.Limits.{maxGoal};
 ghost use Rattle.settling.specs.Ideals.{goalIdeal, goalWish, into};
+ghost use Rattle.settling.specs.Ideals as Ideals;
+use whole::magnitude;
 
 // What a column is to come to when it is seated: a number, or its present value.
 pub enum Wish {
@@ -34,4 +36,56 @@ pub struct Measure {
 pub enum Step {
     Rest,
     Take(usize, Move),
+}
+
+// The ideal count of intervals for a goal in thousandths of one. The limit on goals keeps both products below 2^60.
+pub fn goal_ideal(g: u64) -> u64
+    requires { ⌜ g ≤ maxGoal ⌝ }
+    ensures { λ r. ⌜ r ≡ goalIdeal g ⌝ }
+{
+    let k = g / 1000;
+    if k == 0 {
+        return 1;
+    }
+    if k * (k + 1) * 1000000 < g * g {
+        k + 1
+    } else {
+        k
+    }
+}
+
+// The wish of a goal: nothing for 0, no goal.
+pub fn goal_wish(g: i64) -> Wish
+    requires { ⌜ natAbs g ≤ maxGoal ⌝ }
+    ensures { λ r. ⌜ r ≡ goalWish g ⌝ }
+{
+    let size = magnitude(g);
+    if size == 0 {
+        Wish::Unset
+    } else {
+        Wish::Set(goal_ideal(size) as i64)
+    }
+}
+
+// x brought into the bounds.
+pub fn into_bounds(lower: i64, upper: i64, x: i64) -> i64
+    ensures { λ r. ⌜ r ≡ into lower upper x ⌝ }
+{
+    if x < lower {
+        return lower;
+    }
+    if upper < x {
+        return upper;
+    }
+    x
+}
+
+// The ideal of a column with the present value x.
+pub fn ideal(lower: i64, upper: i64, wish: Wish, x: i64) -> i64
+    ensures { λ r. ⌜ r ≡ Ideals.ideal lower upper wish x ⌝ }
+{
+    match wish {
+        Wish::Unset => into_bounds(lower, upper, x),
+        Wish::Set(y) => into_bounds(lower, upper, y),
+    }
 }
