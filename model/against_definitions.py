@@ -1,0 +1,210 @@
+"""The formal definitions against the plain model, on random cases.
+
+    python3 model/against_definitions.py [PROBLEMS TEXTS SEED]
+
+The definitions of crates/*/specs compute. This writes a crate of one equation
+for each case below target/against, with the model's answer on its right side,
+and has the checker compute the left sides: whole assignments and Continue with
+every lent buffer afterwards, and texts with the listing's bytes. Cases are kept
+small, since the checker computes slowly. The last line is 'N passed, M failed'.
+"""
+
+import os
+import re
+import shutil
+import subprocess
+import sys
+
+from generate import problem_case, rng_for, text_case
+from listing import listing
+
+ROOT = os.path.dirname(os.path.dirname(os.path.abspath(__file__)))
+SCRATCH = os.path.join(ROOT, "target", "against")
+
+MOST_NUMBERS = 60
+MOST_STEPS = 12
+MOST_BYTES = 240
+MOST_DIGITS = 8
+
+REFUSALS = ["Size", "Length", "Coefficient", "Bound", "Goal", "Limit", "Elimination",
+            "NoWholeNumbers", "Seating", "Standing", "Layout", "Term"]
+
+
+# ------------------------------------------------------------- values as terms
+
+def integer(z):
+    return "pos %d" % z if z >= 0 else "negsuc %d" % (-z - 1)
+
+
+def listed(items):
+    return "(" + "".join(item + " ∷ " for item in items) + "[])"
+
+
+def integers(numbers):
+    return listed(integer(z) for z in numbers)
+
+
+def naturals(numbers):
+    return listed(str(n) for n in numbers)
+
+
+def posed(problem):
+    return ("(record { problem = record { columns = %d; rows = %d; limit = %d };"
+            " coefficients = %s; rights = %s; lower = %s; upper = %s; goals = %s })"
+            % (problem.n, problem.m, problem.limit, integers(problem.coefficients),
+               integers(problem.rights), integers(problem.lower),
+               integers(problem.upper), integers(problem.goals)))
+
+
+def buffers(lent):
+    return ("tableau = %s; values = %s; strides = %s"
+            % (integers(lent.tableau), integers(lent.values), naturals(lent.strides)))
+
+
+def answer(outcome, bounds, goals):
+    if isinstance(outcome, int):
+        return "Refused " + REFUSALS[outcome - 1]
+    return "%s (record { bounds = %d; goals = %d })" % (outcome.capitalize(), bounds, goals)
+
+
+# ------------------------------------------------------------------- the cases
+
+def problem_equation(rng):
+    """A call on buffers as an equation, or None where it is too large."""
+    case = problem_case(rng)
+    problem = case.problem
+    if problem.n * (problem.m + problem.n) > MOST_NUMBERS:
+        return None
+    problem.limit = min(problem.limit, MOST_STEPS) if problem.limit <= 65535 else problem.limit
+    case.lent.strides = [abs(stride) for stride in case.lent.strides]
+    before = "(record { %s })" % buffers(case.lent)
+    outcome, bounds, goals = case.run()
+    return ("%s %s %s ≡ record { answer = %s; %s }"
+            % (case.call, posed(problem), before, answer(outcome, bounds, goals),
+               buffers(case.lent)))
+
+
+def text_equation(rng):
+    """A text and its listing as an equation, or None where it is too large."""
+    data = text_case(rng)
+    out = listing(data)
+    first = out.split(b"\n")[0].split(b" ")
+    many = len(first) == 3 and int(first[1]) + int(first[2]) > MOST_STEPS
+    wide = any(len(word) > MOST_DIGITS for word in out.split())
+    if len(data) > MOST_BYTES or many or wide:
+        return None
+    return "printed %s ≡ %s" % (naturals(data), naturals(out))
+
+
+def some(make, count, seed):
+    """The first count cases that are small enough."""
+    found = []
+    number = 0
+    while len(found) < count:
+        number += 1
+        equation = make(rng_for(seed, number))
+        if equation is not None:
+            found.append(equation)
+    return found
+
+
+# ------------------------------------------------------------- the scratch crate
+
+def crates():
+    """The repository's crates.txt without comments, as (name, line)."""
+    lines = []
+    for line in open(os.path.join(ROOT, "crates.txt"), encoding="utf-8"):
+        line = line.split("#")[0].strip()
+        if line:
+            lines.append((line.split(":")[0].strip(), line))
+    return lines
+
+
+def needed(names):
+    """The crates that the definitions of a whole run lie in: solve and what it knows."""
+    lines = dict(names)
+    want, todo = [], ["solve"]
+    while todo:
+        name = todo.pop()
+        if name in lines and name not in want:
+            want.append(name)
+            todo += lines[name].split(":")[1].split()
+    return want
+
+
+def shut_definitions(names):
+    """The definitions marked `unfoldable`, by module: the checker opens those named."""
+    modules = {}
+    for name in names:
+        folder = os.path.join(ROOT, "crates", name, "specs")
+        for file in sorted(os.listdir(folder)):
+            if not file.endswith(".antt"):
+                continue
+            text = open(os.path.join(folder, file), encoding="utf-8").read()
+            shut = re.findall(r"^unfoldable pub (\S+) ", text, re.M)
+            if shut:
+                modules["Rattle.%s.specs.%s" % (name, file[:-5])] = shut
+    return modules
+
+
+HEAD = """use mathlib.Core.Path.{_≡_, refl}
+use mathlib.Core.List.{List, [], _∷_}
+use Prim.Native.Nat.{ℕ}
+use lib.IntN.{ℤ, pos, negsuc}
+use Rattle.problem.specs.Checks.{Posed}
+use Rattle.problem.specs.declared.Counts.{Counts}
+use Rattle.problem.specs.declared.Refusal.the-variants.{%s}
+use Rattle.problem.specs.declared.Answer.the-variants.{Fitted, Outside, Spent, Refused}
+use Rattle.engine.specs.Assign.{Buffers, Done, assign, continue}
+use Rattle.solve.specs.Program.{printed}
+""" % ", ".join(REFUSALS)
+
+
+def write_crate(equations):
+    names = crates()
+    want = needed(names)
+    shutil.rmtree(SCRATCH, ignore_errors=True)
+    specs = os.path.join(SCRATCH, "crates", "cases", "specs")
+    os.makedirs(specs)
+    os.makedirs(os.path.join(SCRATCH, "crates", "cases", "src"))
+    for name in want:
+        os.symlink(os.path.join(ROOT, "crates", name), os.path.join(SCRATCH, "crates", name))
+    with open(os.path.join(SCRATCH, "crates.txt"), "w", encoding="utf-8") as out:
+        out.write("".join(line + "\n" for name, line in names if name in want))
+        out.write("cases: " + " ".join(want) + "\n")
+    with open(os.path.join(SCRATCH, "crates", "cases", "src", "lib.rt"), "w") as out:
+        out.write("// Cases.\n")
+    with open(os.path.join(specs, "Lib.antt"), "w") as out:
+        out.write("pub mod Cases\n")
+    modules = shut_definitions(want)
+    uses, opened = "", []
+    for number, (module, shut) in enumerate(sorted(modules.items())):
+        uses += "use %s as open%d\n" % (module, number)
+        opened += ["open%d.%s" % (number, name) for name in shut]
+    with open(os.path.join(specs, "Cases.antt"), "w", encoding="utf-8") as out:
+        out.write(HEAD + uses)
+        for number, equation in enumerate(equations, 1):
+            out.write("\ncase%d : %s\nunfolding %s\ncase%d = refl\n"
+                      % (number, equation, " ".join(opened), number))
+
+
+def main(arguments):
+    counts = [int(word) for word in arguments] + [60, 60, 1][len(arguments):]
+    equations = some(problem_equation, counts[0], counts[2])
+    equations += some(text_equation, counts[1], counts[2])
+    write_crate(equations)
+    run = subprocess.run(["rt", "check", "cases"], cwd=SCRATCH, capture_output=True, text=True)
+    log = run.stdout + run.stderr
+    bad = set(re.findall(r"error: `(case\d+)`", log))
+    for name in sorted(bad, key=lambda name: int(name[4:])):
+        print("%s: %s" % (name, equations[int(name[4:]) - 1]))
+    failed = len(bad)
+    if run.returncode != 0 and failed == 0:
+        print(log[-4000:])
+        failed = len(equations)
+    print("%d passed, %d failed" % (len(equations) - failed, failed))
+    return 1 if failed else 0
+
+
+if __name__ == "__main__":
+    sys.exit(main(sys.argv[1:]))
