@@ -1,4 +1,5 @@
 -- The root of the definitions.
 pub mod Tests
+pub mod Counted
 pub mod Quotient
 pub mod Divisor
