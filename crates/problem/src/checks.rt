@@ -124,10 +124,11 @@ pub fn goal_fits(lower: i64, goal: i64) -> bool
     if less(goal, 0) {
         return false;
     }
-    if !spans(goal, Problem::MAX_GOAL) {
+    let size = magnitude(goal);
+    if Problem::MAX_GOAL < size {
         return false;
     }
-    if goal == 0 {
+    if size == 0 {
         return true;
     }
     !less(lower, 1)

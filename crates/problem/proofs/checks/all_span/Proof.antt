@@ -1,50 +1,60 @@
+use mir.Facts.{toZ-ofZ}
+use borrow.Author.Needs.{sfits-of}
+-- `problem::checks::all_span` meets its contract: the loop leaves at the first number that lies outside. Assumes nothing.
+use mathlib.Core.Path.{_≡_, sym, _∙_}
+use mathlib.Core.Bool.{Bool, true, false}
+use mathlib.Core.List.{List}
+use Prim.Native.Nat.{ℕ, _-_}
+use native.Mathlib.Omega.{arith}
+use borrow.Author.Needs.{needs}
+use borrow.Author.Tests.{not-true, not-false}
+use lib.IntN.{ℤ, pos}
+use lib.ListN.{length, getD}
+use Rattle.whole.specs.Tests.{spans}
+use Rattle.whole.specs.Counted.{SoFar, starts, goes-on, ends, fails}
 use Rattle.problem.proofs.checks.all_span.Statement.{statement}
 use Rattle.problem.proofs.checks.all_span.Tie as tie
-use Rattle.problem.proofs.checks.all_span.Reads as reads
-use Rattle.problem.proofs.checks.all_span.Lts as lts
-use Rattle.problem.proofs.checks.spans.Reads as spans-reads
+
+abbrev test : List ℤ → ℕ → ℕ → Bool
+test s most i = spans most (getD s i (pos 0))
 
 abbrev Inv-loop : tie.InvT-loop
-Inv-loop s most i₀ i = ?
+Inv-loop s most i₀ i = SoFar (length s) (test s most) i
 
 abbrev μ-loop : tie.MeasureT-loop
-μ-loop s most i₀ i = ?
+μ-loop s most i₀ i = length s - i
 
--- src/checks.rt:73:5
 loop-holds : tie.Need-loop-holds Inv-loop μ-loop
-loop-holds c = ?
+loop-holds c = starts _ _
 
--- src/checks.rt:74:19
 mul-spans : tie.Need-mul-spans Inv-loop μ-loop
-mul-spans c = ?
+mul-spans c = omega arith
 
--- src/checks.rt:74:19
 shared-slice-copy-out-spans : tie.Need-shared-slice-copy-out-spans Inv-loop μ-loop
-shared-slice-copy-out-spans c = ?
+shared-slice-copy-out-spans c = omega arith
 
--- src/checks.rt:74:13
 spans-requires : tie.Need-spans-requires Inv-loop μ-loop
-spans-requires c κs = ?
+spans-requires c κs = search needs
 
--- src/checks.rt:75:13
 returns : tie.Need-returns Inv-loop μ-loop
-returns c = ?
+returns c =
+    sym
+    (fails _ (test (c .before .before .before .before .before .args .s .now) (c .before .before .before .before .before .args .most)) (c .before .before .before .before .loop .i) (c .before .before .before .loop-test .taken)
+    (rw (toZ-ofZ (sfits-of (c .before .before .spans-arg .given))) at (sym (c .before .spans .ensures) ∙ not-true _ (c .if1 .taken))))
 
--- src/checks.rt:77:9
 add-i : tie.Need-add-i Inv-loop μ-loop
-add-i c = ?
+add-i c = omega arith
 
--- src/checks.rt:73:5
 loop-less : tie.Need-loop-less Inv-loop μ-loop
-loop-less c = ?
+loop-less c = omega arith
 
--- src/checks.rt:73:5
 loop-again : tie.Need-loop-again Inv-loop μ-loop
-loop-again c = ?
+loop-again c =
+    goes-on (c .before .before .before .before .loop .inv) (c .before .before .before .loop-test .taken)
+    (rw (toZ-ofZ (sfits-of (c .before .before .spans-arg .given))) at (sym (c .before .spans .ensures) ∙ not-false _ (c .if1 .left)))
 
--- src/checks.rt:69:1
 returns-2 : tie.Need-returns-2 Inv-loop μ-loop
-returns-2 c = ?
+returns-2 c = sym (ends (c .before .loop .inv) (c .loop-test .left))
 
 pub all-span-spec : {M : Type 1} → statement M
 all-span-spec =

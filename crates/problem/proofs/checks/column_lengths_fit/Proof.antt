@@ -1,19 +1,16 @@
+-- `problem::checks::column_lengths_fit` meets its contract: it is false at the first length that differs. Assumes nothing.
+use borrow.Author.Tests.{eq-eqb, ne-eqb}
 use Rattle.problem.proofs.checks.column_lengths_fit.Statement.{statement}
 use Rattle.problem.proofs.checks.column_lengths_fit.Tie as tie
-use Rattle.problem.proofs.checks.column_lengths_fit.Reads as reads
-use Rattle.problem.proofs.checks.column_lengths_fit.Lts as lts
 
--- src/checks.rt:39:9
 returns : tie.Need-returns
-returns c = ?
+returns c = rw (ne-eqb _ _ (c .if1 .taken))
 
--- src/checks.rt:42:9
 returns-2 : tie.Need-returns-2
-returns-2 c = ?
+returns-2 c = rw (eq-eqb _ _ (c .before .before .if1 .left), ne-eqb _ _ (c .if2 .taken))
 
--- src/checks.rt:35:1
 returns-3 : tie.Need-returns-3
-returns-3 c = ?
+returns-3 c = rw (eq-eqb _ _ (c .before .before .before .if1 .left), eq-eqb _ _ (c .before .if2 .left))
 
 pub column-lengths-fit-spec : {M : Type 1} → statement M
 column-lengths-fit-spec = tie.close (tie.spec returns returns-2 returns-3)

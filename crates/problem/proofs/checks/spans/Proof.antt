@@ -1,17 +1,14 @@
+-- `problem::checks::spans` meets its contract: the magnitude is the number's own. Assumes nothing.
+use mir.Facts.{toZ-ofZ}
 use borrow.Author.Needs.{needs}
 use Rattle.problem.proofs.checks.spans.Statement.{statement}
 use Rattle.problem.proofs.checks.spans.Tie as tie
-use Rattle.problem.proofs.checks.spans.Reads as reads
-use Rattle.problem.proofs.checks.spans.Lts as lts
-use Rattle.whole.proofs.magnitude.Reads as magnitude-reads
 
--- src/checks.rt:65:5
 magnitude-requires : tie.Need-magnitude-requires
 magnitude-requires c κs = search needs
 
--- src/checks.rt:62:1
 returns : tie.Need-returns
-returns c = ?
+returns c = cc (c .magnitude .ensures, toZ-ofZ (c .before .fits .x))
 
 pub spans-spec : {M : Type 1} → statement M
 spans-spec = tie.close (tie.spec magnitude-requires returns)
