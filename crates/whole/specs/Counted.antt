@@ -32,11 +32,14 @@ goes-on {n} {f} {i} s l e = record { within = omega arith; held = one-more i f (
 pub ends : {n : ℕ} {f : ℕ → Bool} {i : ℕ} → SoFar n f i → n ≤ i → every n f ≡ true
 ends {n} {f} {i} s l = subst (λ (k : ℕ). every k f ≡ true) (le-antisymm (s .within) l) (s .held)
 
-pub fails : (n : ℕ) (f : ℕ → Bool) (i : ℕ) → i < n → f i ≡ false → every n f ≡ false
+one-fails : (n : ℕ) (f : ℕ → Bool) (i : ℕ) → i < n → f i ≡ false → every n f ≡ false
 unfolding every
-fails zero f i l e = absurd (not-suc-le-zero l)
-fails (suc n) f i l e =
+one-fails zero f i l e = absurd (not-suc-le-zero l)
+one-fails (suc n) f i l e =
     ⊎-elim
     (λ p. rw (← p, e) (and-false (every i f)))
-    (λ p. rw (fails n f i p e))
+    (λ p. rw (one-fails n f i p e))
     (eq-or-lt-of-le (le-of-suc-le-suc l))
+
+pub fails : {n : ℕ} {f : ℕ → Bool} {i : ℕ} → SoFar n f i → i < n → f i ≡ false → every n f ≡ false
+fails {n} {f} {i} s l e = one-fails n f i l e

@@ -1,5 +1,4 @@
-use mir.Facts.{toZ-ofZ}
-use borrow.Author.Needs.{sfits-of}
+use Rattle.whole.proofs.Signed.{back}
 -- `problem::checks::all_span` meets its contract: the loop leaves at the first number that lies outside. Assumes nothing.
 use mathlib.Core.Path.{_≡_, sym, _∙_}
 use mathlib.Core.Bool.{Bool, true, false}
@@ -24,6 +23,11 @@ Inv-loop s most i₀ i = SoFar (length s) (test s most) i
 abbrev μ-loop : tie.MeasureT-loop
 μ-loop s most i₀ i = length s - i
 
+tested :
+    (c : tie.After-spans Inv-loop μ-loop)
+    → c .spans .result ≡ test (c .before .before .before .before .args .s .now) (c .before .before .before .before .args .most) (c .before .before .before .loop .i)
+tested c = rw (back _ (c .before .spans-arg .given)) at (c .spans .ensures)
+
 loop-holds : tie.Need-loop-holds Inv-loop μ-loop
 loop-holds c = starts _ _
 
@@ -37,10 +41,7 @@ spans-requires : tie.Need-spans-requires Inv-loop μ-loop
 spans-requires c κs = search needs
 
 returns : tie.Need-returns Inv-loop μ-loop
-returns c =
-    sym
-    (fails _ (test (c .before .before .before .before .before .args .s .now) (c .before .before .before .before .before .args .most)) (c .before .before .before .before .loop .i) (c .before .before .before .loop-test .taken)
-    (rw (toZ-ofZ (sfits-of (c .before .before .spans-arg .given))) at (sym (c .before .spans .ensures) ∙ not-true _ (c .if1 .taken))))
+returns c = sym (fails (c .before .before .before .before .loop .inv) (c .before .before .before .loop-test .taken) (sym (tested (c .before)) ∙ not-true _ (c .if1 .taken)))
 
 add-i : tie.Need-add-i Inv-loop μ-loop
 add-i c = omega arith
@@ -49,9 +50,7 @@ loop-less : tie.Need-loop-less Inv-loop μ-loop
 loop-less c = omega arith
 
 loop-again : tie.Need-loop-again Inv-loop μ-loop
-loop-again c =
-    goes-on (c .before .before .before .before .loop .inv) (c .before .before .before .loop-test .taken)
-    (rw (toZ-ofZ (sfits-of (c .before .before .spans-arg .given))) at (sym (c .before .spans .ensures) ∙ not-false _ (c .if1 .left)))
+loop-again c = goes-on (c .before .before .before .before .loop .inv) (c .before .before .before .loop-test .taken) (sym (tested (c .before)) ∙ not-false _ (c .if1 .left))
 
 returns-2 : tie.Need-returns-2 Inv-loop μ-loop
 returns-2 c = sym (ends (c .before .loop .inv) (c .loop-test .left))

@@ -1,31 +1,47 @@
 -- `problem::checks::bound_fits` meets its contract: it is false at the first of the three tests that fails. Assumes nothing.
 use mathlib.Core.Path.{_≡_, sym, _∙_}
-use mathlib.Core.Bool.{true, false}
 use borrow.Author.Tests.{not-true, not-false}
 use mir.Facts.{toZ-ofZ}
 use Rattle.whole.specs.Tests.{spans}
+use Rattle.problem.specs.Limits.{maxBound}
 use Rattle.problem.proofs.Laws.{not-less}
 use borrow.Author.Needs.{needs}
 use Rattle.problem.proofs.checks.bound_fits.Statement.{statement}
 use Rattle.problem.proofs.checks.bound_fits.Tie as tie
 
+lower-tested : (c : tie.After-spans) → c .spans .result ≡ spans maxBound (c .before .args .lower)
+lower-tested c = rw (toZ-ofZ (c .before .fits .lower)) at (c .spans .ensures)
+
+upper-tested : (c : tie.After-spans2) → c .spans2 .result ≡ spans maxBound (c .before .before .before .args .upper)
+upper-tested c = rw (toZ-ofZ (c .before .before .before .fits .upper)) at (c .spans2 .ensures)
+
 spans-requires : tie.Need-spans-requires
 spans-requires c κs = search needs
 
 returns : tie.Need-returns
-returns c = ?
+returns c = rw (sym (lower-tested (c .before)) ∙ not-true _ (c .if1 .taken))
 
 spans-requires-2 : tie.Need-spans-requires-2
 spans-requires-2 c κs = search needs
 
 returns-2 : tie.Need-returns-2
-returns-2 c = ?
+returns-2 c =
+    rw (
+      sym (lower-tested (c .before .before .before)) ∙ not-false _ (c .before .before .if1 .left),
+      sym (upper-tested (c .before)) ∙ not-true _ (c .if2 .taken),
+    )
 
 less-requires : tie.Need-less-requires
 less-requires c κs = search needs
 
 returns-3 : tie.Need-returns-3
-returns-3 c = ?
+returns-3 c =
+    let s = c .before .before .before .before .before in
+    rw (
+      sym (lower-tested (c .before .before .before .before)) ∙ not-false _ (c .before .before .before .if1 .left),
+      sym (upper-tested (c .before .before)) ∙ not-false _ (c .before .if2 .left),
+    )
+    (cc (c .less .ensures, toZ-ofZ (s .fits .lower), toZ-ofZ (s .fits .upper), not-less (s .args .lower) (s .args .upper)))
 
 pub bound-fits-spec : {M : Type 1} → statement M
 bound-fits-spec =

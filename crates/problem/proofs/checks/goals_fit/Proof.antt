@@ -1,58 +1,74 @@
+-- `problem::checks::goals_fit` meets its contract: the loop leaves at the first column whose goal fail. Assumes nothing.
+use mathlib.Core.Path.{_≡_, sym, ap₂, _∙_}
+use mathlib.Core.Bool.{Bool}
+use mathlib.Core.List.{List}
+use Prim.Native.Nat.{ℕ, _-_}
+use native.Mathlib.Omega.{arith}
+use borrow.Author.Needs.{needs}
+use borrow.Author.Tests.{not-true, not-false}
+use lib.IntN.{ℤ, pos}
+use lib.ListN.{length, getD}
+use Rattle.whole.proofs.Signed.{back}
+use Rattle.whole.specs.Counted.{SoFar, starts, goes-on, ends, fails}
+use Rattle.problem.specs.Checks.{goalFits}
 use Rattle.problem.proofs.checks.goals_fit.Statement.{statement}
 use Rattle.problem.proofs.checks.goals_fit.Tie as tie
-use Rattle.problem.proofs.checks.goals_fit.Reads as reads
-use Rattle.problem.proofs.checks.goals_fit.Lts as lts
-use Rattle.problem.proofs.checks.goal_fits.Reads as goal-fits-reads
+
+abbrev test : List ℤ → List ℤ → ℕ → Bool
+test lower goals j = goalFits (getD lower j (pos 0)) (getD goals j (pos 0))
 
 abbrev Inv-loop : tie.InvT-loop
-Inv-loop lower goals j₀ j = ?
+Inv-loop lower goals j₀ j = SoFar (length lower) (test lower goals) j
 
 abbrev μ-loop : tie.MeasureT-loop
-μ-loop lower goals j₀ j = ?
+μ-loop lower goals j₀ j = length lower - j
 
--- src/checks.rt:142:5
+abbrev column : tie.After-goal-fits Inv-loop μ-loop → ℕ
+column c = c .before .before .before .before .loop .j
+
+tested :
+    (c : tie.After-goal-fits Inv-loop μ-loop) →
+    let s = c .before .before .before .before .before in
+    c .goal-fits .result ≡ test (s .args .lower .now) (s .args .goals .now) (column c)
+tested c =
+    let s = c .before .before .before .before .before in
+    c .goal-fits .ensures
+    ∙ ap₂ goalFits
+    (back (getD (s .args .lower .now) (column c) (pos 0)) (c .before .before .goal-fits-arg .given))
+    (back (getD (s .args .goals .now) (column c) (pos 0)) (c .before .goal-fits-arg2 .given))
+
 loop-holds : tie.Need-loop-holds Inv-loop μ-loop
-loop-holds c = ?
+loop-holds c = starts _ _
 
--- src/checks.rt:143:23
 mul-goal-fits : tie.Need-mul-goal-fits Inv-loop μ-loop
-mul-goal-fits c = ?
+mul-goal-fits c = omega arith
 
--- src/checks.rt:143:23
 shared-slice-copy-out-goal-fits : tie.Need-shared-slice-copy-out-goal-fits Inv-loop μ-loop
-shared-slice-copy-out-goal-fits c = ?
+shared-slice-copy-out-goal-fits c = omega arith
 
--- src/checks.rt:143:33
 mul-goal-fits-2 : tie.Need-mul-goal-fits-2 Inv-loop μ-loop
-mul-goal-fits-2 c = ?
+mul-goal-fits-2 c = omega arith
 
--- src/checks.rt:143:33
 shared-slice-copy-out-goal-fits-2 : tie.Need-shared-slice-copy-out-goal-fits-2 Inv-loop μ-loop
-shared-slice-copy-out-goal-fits-2 c = ?
+shared-slice-copy-out-goal-fits-2 c = omega arith
 
--- src/checks.rt:143:13
 goal-fits-requires : tie.Need-goal-fits-requires Inv-loop μ-loop
-goal-fits-requires c κs = ?
+goal-fits-requires c κs = search needs
 
--- src/checks.rt:144:13
 returns : tie.Need-returns Inv-loop μ-loop
-returns c = ?
+returns c = sym (fails (c .before .before .before .before .before .loop .inv) (c .before .before .before .before .loop-test .taken) (sym (tested (c .before)) ∙ not-true _ (c .if1 .taken)))
 
--- src/checks.rt:146:9
 add-j : tie.Need-add-j Inv-loop μ-loop
-add-j c = ?
+add-j c = omega arith
 
--- src/checks.rt:142:5
 loop-less : tie.Need-loop-less Inv-loop μ-loop
-loop-less c = ?
+loop-less c = omega arith
 
--- src/checks.rt:142:5
 loop-again : tie.Need-loop-again Inv-loop μ-loop
-loop-again c = ?
+loop-again c = goes-on (c .before .before .before .before .before .loop .inv) (c .before .before .before .before .loop-test .taken) (sym (tested (c .before)) ∙ not-false _ (c .if1 .left))
 
--- src/checks.rt:137:1
 returns-2 : tie.Need-returns-2 Inv-loop μ-loop
-returns-2 c = ?
+returns-2 c = sym (ends (c .before .loop .inv) (c .loop-test .left))
 
 pub goals-fit-spec : {M : Type 1} → statement M
 goals-fit-spec =
