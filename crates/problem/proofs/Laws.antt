@@ -11,7 +11,7 @@ use mathlib.Core.List.{List}
 use Prim.Native.Nat.{ℕ, _+_, _*_, _≤_, _<_}
 use native.Mathlib.Nat.{mul-le-mul, lt-of-le-of-lt}
 use native.Mathlib.Omega.{arith}
-use borrow.Author.Tests.{leb-true, leb-false, eqb-true, ltb-true, lt-ltb, le-ltb}
+use borrow.Author.Tests.{leb-true, leb-false, eqb-true, not-true, not-false, ltb-true, lt-ltb, le-ltb}
 use lib.Dec.{leb, ltb, eqb, lit<, leb·zero}
 use lib.IntN.{ℤ, pos, negsuc}
 use lib.ListN.{length}
@@ -22,6 +22,13 @@ use Rattle.whole.specs.Tests.{spans, inRange}
 use Rattle.problem.specs.Limits.{maxColumns, maxRows}
 use Rattle.problem.specs.Checks.{sizesFit, columnLengthsFit}
 use Rattle.problem.specs.declared.Problem.{Problem}
+
+-- a test t whose result r the code turned round
+pub passed : {r t : Bool} → r ≡ t → not r ≡ false → t ≡ true
+passed {r} e h = sym e ∙ not-false r h
+
+pub failed : {r t : Bool} → r ≡ t → not r ≡ true → t ≡ false
+failed {r} e h = sym e ∙ not-true r h
 
 pub record Room (p : Problem) : Type 0 where
   pub table : Fits w64 (p .rows * p .columns)
