@@ -1,10 +1,9 @@
 -- `problem::checks::bound_fits` meets its contract: it is false at the first of the three tests that fails. Assumes nothing.
-use mathlib.Core.Path.{_≡_, sym, _∙_}
-use borrow.Author.Tests.{not-true, not-false}
+use mathlib.Core.Path.{_≡_}
 use mir.Facts.{toZ-ofZ}
 use Rattle.whole.specs.Tests.{spans}
 use Rattle.problem.specs.Limits.{maxBound}
-use Rattle.problem.proofs.Laws.{not-less}
+use Rattle.problem.proofs.Laws.{passed, failed, not-less}
 use borrow.Author.Needs.{needs}
 use Rattle.problem.proofs.checks.bound_fits.Statement.{statement}
 use Rattle.problem.proofs.checks.bound_fits.Tie as tie
@@ -19,7 +18,7 @@ spans-requires : tie.Need-spans-requires
 spans-requires c κs = search needs
 
 returns : tie.Need-returns
-returns c = rw (sym (lower-tested (c .before)) ∙ not-true _ (c .if1 .taken))
+returns c = rw (failed (lower-tested (c .before)) (c .if1 .taken))
 
 spans-requires-2 : tie.Need-spans-requires-2
 spans-requires-2 c κs = search needs
@@ -27,8 +26,8 @@ spans-requires-2 c κs = search needs
 returns-2 : tie.Need-returns-2
 returns-2 c =
     rw (
-      sym (lower-tested (c .before .before .before)) ∙ not-false _ (c .before .before .if1 .left),
-      sym (upper-tested (c .before)) ∙ not-true _ (c .if2 .taken),
+      passed (lower-tested (c .before .before .before)) (c .before .before .if1 .left),
+      failed (upper-tested (c .before)) (c .if2 .taken),
     )
 
 less-requires : tie.Need-less-requires
@@ -38,8 +37,8 @@ returns-3 : tie.Need-returns-3
 returns-3 c =
     let s = c .before .before .before .before .before in
     rw (
-      sym (lower-tested (c .before .before .before .before)) ∙ not-false _ (c .before .before .before .if1 .left),
-      sym (upper-tested (c .before .before)) ∙ not-false _ (c .before .if2 .left),
+      passed (lower-tested (c .before .before .before .before)) (c .before .before .before .if1 .left),
+      passed (upper-tested (c .before .before)) (c .before .if2 .left),
     )
     (cc (c .less .ensures, toZ-ofZ (s .fits .lower), toZ-ofZ (s .fits .upper), not-less (s .args .lower) (s .args .upper)))
 

@@ -1,34 +1,83 @@
 -- `problem::checks::first_cause` meets its contract: each check that fails names its own cause, after those before it passed. Assumes nothing.
-use borrow.Author.Tests.{le-leb, lt-leb}
-use mathlib.Core.Path.{_≡_}
+use mathlib.Core.Path.{_≡_, sym, _∙_}
 use mathlib.Core.Bool.{true}
-use Rattle.problem.specs.Limits.{maxColumns, maxRows}
-use Rattle.problem.specs.Checks.{sizesFit, rowLengthsFit, columnLengthsFit, lentFit, rowsFit, boundsFit, goalsFit, firstCause}
-use Rattle.problem.proofs.Laws.{passed, failed, same-lengths}
 use borrow.Author.Needs.{needs}
+use borrow.Author.Tests.{le-leb, lt-leb}
+use Rattle.problem.specs.Limits.{maxColumns, maxRows}
+use Rattle.problem.specs.Checks.{posed, sizesFit, rowLengthsFit, columnLengthsFit, lentFit, rowsFit, boundsFit, goalsFit, limitFits, orNext, firstCause}
+use Rattle.problem.specs.declared.Refusal.the-variants.{Size, Length, Coefficient, Bound, Goal, Limit}
+use Rattle.problem.specs.declared.Check.{Check}
+use Rattle.problem.specs.declared.Check.the-variants.{Passed}
+use Rattle.problem.proofs.Laws.{passed, failed, same-lengths}
 use Rattle.problem.proofs.checks.first_cause.Statement.{statement}
 use Rattle.problem.proofs.checks.first_cause.Tie as tie
 
-sizes : (c : tie.Else1) → let s = c .before .before in sizesFit maxColumns maxRows (s .args .p) ≡ true
-sizes c = passed (c .before .sizes-fit .ensures) (c .if1 .left)
+-- what is left to check after each check that passed
+module _ (s : tie.Start) where
+  abbrev after-goals : Check
+  after-goals = orNext (limitFits (s .args .p)) Limit Passed
 
-rows : (c : tie.Else2) → let s = c .before .before .before .before in rowLengthsFit (s .args .p) (s .args .coefficients .now) (s .args .rights .now) ≡ true
-rows c = passed (c .before .row-lengths-fit .ensures) (c .if2 .left)
+  abbrev after-bounds : Check
+  after-bounds = orNext (goalsFit (s .args .lower .now) (s .args .goals .now)) Goal after-goals
 
-columns : (c : tie.Else3) → let s = c .before .before .before .before .before .before in columnLengthsFit (s .args .p) (s .args .lower .now) (s .args .upper .now) (s .args .goals .now) ≡ true
-columns c = passed (c .before .column-lengths-fit .ensures) (c .if3 .left)
+  abbrev after-numbers : Check
+  after-numbers = orNext (boundsFit (s .args .lower .now) (s .args .upper .now)) Bound after-bounds
 
-lent : (c : tie.Else4) → let s = c .before .before .before .before .before .before .before .before in lentFit (s .args .p) (s .args .lent) ≡ true
-lent c = passed (c .before .lent-fit .ensures) (c .if4 .left)
+  abbrev after-lent : Check
+  after-lent = orNext (rowsFit (s .args .coefficients .now) (s .args .rights .now)) Coefficient after-numbers
 
-numbers : (c : tie.Else5) → let s = c .before .before .before .before .before .before .before .before .before .before in rowsFit (s .args .coefficients .now) (s .args .rights .now) ≡ true
-numbers c = passed (c .before .rows-fit .ensures) (c .if5 .left)
+  abbrev after-columns : Check
+  after-columns = orNext (lentFit (s .args .p) (s .args .lent)) Length after-lent
 
-bounds : (c : tie.Else6) → let s = c .before .before .before .before .before .before .before .before .before .before .before .before in boundsFit (s .args .lower .now) (s .args .upper .now) ≡ true
-bounds c = passed (c .before .bounds-fit .ensures) (c .if6 .left)
+  abbrev after-rows : Check
+  after-rows = orNext (columnLengthsFit (s .args .p) (s .args .lower .now) (s .args .upper .now) (s .args .goals .now)) Length after-columns
 
-goals : (c : tie.Else7) → let s = c .before .before .before .before .before .before .before .before .before .before .before .before .before .before in goalsFit (s .args .lower .now) (s .args .goals .now) ≡ true
-goals c = passed (c .before .goals-fit .ensures) (c .if7 .left)
+  abbrev after-sizes : Check
+  after-sizes = orNext (rowLengthsFit (s .args .p) (s .args .coefficients .now) (s .args .rights .now)) Length after-rows
+
+abbrev Leaves : tie.Start → (tie.Start → Check) → Type 0
+Leaves s rest =
+    firstCause
+    (posed
+    (s .args .p)
+    (s .args .coefficients .now)
+    (s .args .rights .now)
+    (s .args .lower .now)
+    (s .args .upper .now)
+    (s .args .goals .now))
+    (s .args .lent)
+    ≡ rest s
+
+sizes-hold : (c : tie.Else1) → sizesFit maxColumns maxRows (c .before .before .args .p) ≡ true
+sizes-hold c = passed (c .before .sizes-fit .ensures) (c .if1 .left)
+
+lengths-hold :
+    (c : tie.Else3) →
+    let a = c .before .before .before .before .before .before .args in
+    columnLengthsFit (a .p) (a .lower .now) (a .upper .now) (a .goals .now) ≡ true
+lengths-hold c = passed (c .before .column-lengths-fit .ensures) (c .if3 .left)
+
+sizes : (c : tie.Else1) → Leaves (c .before .before) after-sizes
+unfolding firstCause
+sizes c = rw (sizes-hold c)
+
+rows : (c : tie.Else2) → Leaves (c .before .before .before .before) after-rows
+rows c = sizes (c .before .before) ∙ rw (passed (c .before .row-lengths-fit .ensures) (c .if2 .left))
+
+columns : (c : tie.Else3) → Leaves (c .before .before .before .before .before .before) after-columns
+columns c = rows (c .before .before) ∙ rw (lengths-hold c)
+
+lent : (c : tie.Else4) → Leaves (c .before .before .before .before .before .before .before .before) after-lent
+lent c = columns (c .before .before) ∙ rw (passed (c .before .lent-fit .ensures) (c .if4 .left))
+
+numbers : (c : tie.Else5) → Leaves (c .before .before .before .before .before .before .before .before .before .before) after-numbers
+numbers c = lent (c .before .before) ∙ rw (passed (c .before .rows-fit .ensures) (c .if5 .left))
+
+bounds : (c : tie.Else6) → Leaves (c .before .before .before .before .before .before .before .before .before .before .before .before) after-bounds
+bounds c = numbers (c .before .before) ∙ rw (passed (c .before .bounds-fit .ensures) (c .if6 .left))
+
+goals : (c : tie.Else7) → Leaves (c .before .before .before .before .before .before .before .before .before .before .before .before .before .before) after-goals
+goals c = bounds (c .before .before) ∙ rw (passed (c .before .goals-fit .ensures) (c .if7 .left))
 
 sizes-fit-requires : tie.Need-sizes-fit-requires
 sizes-fit-requires c κs = search needs
@@ -38,92 +87,50 @@ unfolding firstCause
 returns c = rw (failed (c .before .sizes-fit .ensures) (c .if1 .taken))
 
 row-lengths-fit-requires : tie.Need-row-lengths-fit-requires
-row-lengths-fit-requires c κs = sizes c
+row-lengths-fit-requires c κs = sizes-hold c
 
 returns-2 : tie.Need-returns-2
-unfolding firstCause
-returns-2 c = rw (sizes (c .before .before), failed (c .before .row-lengths-fit .ensures) (c .if2 .taken))
+returns-2 c = sym (sizes (c .before .before) ∙ rw (failed (c .before .row-lengths-fit .ensures) (c .if2 .taken)))
 
 column-lengths-fit-requires : tie.Need-column-lengths-fit-requires
 column-lengths-fit-requires c κs = search needs
 
 returns-3 : tie.Need-returns-3
-unfolding firstCause
-returns-3 c =
-    let c2 = c .before .before in
-    rw (sizes (c2 .before .before), rows c2, failed (c .before .column-lengths-fit .ensures) (c .if3 .taken))
+returns-3 c = sym (rows (c .before .before) ∙ rw (failed (c .before .column-lengths-fit .ensures) (c .if3 .taken)))
 
 lent-fit-requires : tie.Need-lent-fit-requires
-lent-fit-requires c κs = sizes (c .before .before .before .before)
+lent-fit-requires c κs = sizes-hold (c .before .before .before .before)
 
 returns-4 : tie.Need-returns-4
-unfolding firstCause
-returns-4 c =
-    let c3 = c .before .before in
-    let c2 = c3 .before .before in
-    rw (sizes (c2 .before .before), rows c2, columns c3, failed (c .before .lent-fit .ensures) (c .if4 .taken))
+returns-4 c = sym (columns (c .before .before) ∙ rw (failed (c .before .lent-fit .ensures) (c .if4 .taken)))
 
 rows-fit-requires : tie.Need-rows-fit-requires
 rows-fit-requires c κs = search needs
 
 returns-5 : tie.Need-returns-5
-unfolding firstCause
-returns-5 c =
-    let c4 = c .before .before in
-    let c3 = c4 .before .before in
-    let c2 = c3 .before .before in
-    rw (sizes (c2 .before .before), rows c2, columns c3, lent c4, failed (c .before .rows-fit .ensures) (c .if5 .taken))
+returns-5 c = sym (lent (c .before .before) ∙ rw (failed (c .before .rows-fit .ensures) (c .if5 .taken)))
 
 bounds-fit-requires : tie.Need-bounds-fit-requires
 bounds-fit-requires c κs =
-    let s = c .before .before .before .before .before .before .before .before .before .before .args in
-    same-lengths (s .p) (s .lower .now) (s .upper .now) (s .goals .now) (columns (c .before .before .before .before)) .0
+    let a = c .before .before .before .before .before .before .before .before .before .before .args in
+    same-lengths (a .p) (a .lower .now) (a .upper .now) (a .goals .now) (lengths-hold (c .before .before .before .before)) .0
 
 returns-6 : tie.Need-returns-6
-unfolding firstCause
-returns-6 c =
-    let c5 = c .before .before in
-    let c4 = c5 .before .before in
-    let c3 = c4 .before .before in
-    let c2 = c3 .before .before in
-    rw (sizes (c2 .before .before), rows c2, columns c3, lent c4, numbers c5, failed (c .before .bounds-fit .ensures) (c .if6 .taken))
+returns-6 c = sym (numbers (c .before .before) ∙ rw (failed (c .before .bounds-fit .ensures) (c .if6 .taken)))
 
 goals-fit-requires : tie.Need-goals-fit-requires
 goals-fit-requires c κs =
-    let s = c .before .before .before .before .before .before .before .before .before .before .before .before .args in
-    same-lengths (s .p) (s .lower .now) (s .upper .now) (s .goals .now) (columns (c .before .before .before .before .before .before)) .1
+    let a = c .before .before .before .before .before .before .before .before .before .before .before .before .args in
+    same-lengths (a .p) (a .lower .now) (a .upper .now) (a .goals .now) (lengths-hold (c .before .before .before .before .before .before)) .1
 
 returns-7 : tie.Need-returns-7
-unfolding firstCause
-returns-7 c =
-    let c6 = c .before .before in
-    let c5 = c6 .before .before in
-    let c4 = c5 .before .before in
-    let c3 = c4 .before .before in
-    let c2 = c3 .before .before in
-    rw (sizes (c2 .before .before), rows c2, columns c3, lent c4, numbers c5, bounds c6, failed (c .before .goals-fit .ensures) (c .if7 .taken))
+returns-7 c = sym (bounds (c .before .before) ∙ rw (failed (c .before .goals-fit .ensures) (c .if7 .taken)))
 
 returns-8 : tie.Need-returns-8
-unfolding firstCause
-returns-8 c =
-    let c7 = c .before .before in
-    let c6 = c7 .before .before in
-    let c5 = c6 .before .before in
-    let c4 = c5 .before .before in
-    let c3 = c4 .before .before in
-    let c2 = c3 .before .before in
-    rw (sizes (c2 .before .before), rows c2, columns c3, lent c4, numbers c5, bounds c6, goals c7, lt-leb _ _ (c .if8 .taken))
+returns-8 c = sym (goals (c .before .before) ∙ rw (lt-leb _ _ (c .if8 .taken)))
 
 returns-9 : tie.Need-returns-9
-unfolding firstCause
-returns-9 c =
-    let c7 = c .before .before in
-    let c6 = c7 .before .before in
-    let c5 = c6 .before .before in
-    let c4 = c5 .before .before in
-    let c3 = c4 .before .before in
-    let c2 = c3 .before .before in
-    rw (sizes (c2 .before .before), rows c2, columns c3, lent c4, numbers c5, bounds c6, goals c7, le-leb _ _ (c .if8 .left))
+returns-9 c = sym (goals (c .before .before) ∙ rw (le-leb _ _ (c .if8 .left)))
 
 pub first-cause-spec : {M : Type 1} → statement M
 first-cause-spec =

@@ -5,12 +5,12 @@ use mathlib.Core.List.{List}
 use Prim.Native.Nat.{ℕ, _-_}
 use native.Mathlib.Omega.{arith}
 use borrow.Author.Needs.{needs}
-use borrow.Author.Tests.{not-true, not-false}
 use lib.IntN.{ℤ, pos}
 use lib.ListN.{length, getD}
 use Rattle.whole.proofs.Signed.{back}
 use Rattle.whole.specs.Counted.{SoFar, starts, goes-on, ends, fails}
 use Rattle.problem.specs.Checks.{goalFits}
+use Rattle.problem.proofs.Laws.{passed, failed}
 use Rattle.problem.proofs.checks.goals_fit.Statement.{statement}
 use Rattle.problem.proofs.checks.goals_fit.Tie as tie
 
@@ -56,7 +56,7 @@ goal-fits-requires : tie.Need-goal-fits-requires Inv-loop μ-loop
 goal-fits-requires c κs = search needs
 
 returns : tie.Need-returns Inv-loop μ-loop
-returns c = sym (fails (c .before .before .before .before .before .loop .inv) (c .before .before .before .before .loop-test .taken) (sym (tested (c .before)) ∙ not-true _ (c .if1 .taken)))
+returns c = sym (fails (c .before .before .before .before .before .loop .inv) (c .before .before .before .before .loop-test .taken) (failed (tested (c .before)) (c .if1 .taken)))
 
 add-j : tie.Need-add-j Inv-loop μ-loop
 add-j c = omega arith
@@ -65,7 +65,7 @@ loop-less : tie.Need-loop-less Inv-loop μ-loop
 loop-less c = omega arith
 
 loop-again : tie.Need-loop-again Inv-loop μ-loop
-loop-again c = goes-on (c .before .before .before .before .before .loop .inv) (c .before .before .before .before .loop-test .taken) (sym (tested (c .before)) ∙ not-false _ (c .if1 .left))
+loop-again c = goes-on (c .before .before .before .before .before .loop .inv) (c .before .before .before .before .loop-test .taken) (passed (tested (c .before)) (c .if1 .left))
 
 returns-2 : tie.Need-returns-2 Inv-loop μ-loop
 returns-2 c = sym (ends (c .before .loop .inv) (c .loop-test .left))
