@@ -1,9 +1,10 @@
 -- Laws that the proofs cite.
---   room         a problem of the allowed sizes has lengths that a usize holds
---   same-lengths  the columns' lists are equally long once their lengths have passed
---   not-less     "at most" by the test that the code makes
---   range-low    a number below 0 lies in no range from 0
---   range-spans  any other lies in the range from 0 to k where its magnitude is at most k
+--   passed, failed   what a test t is, where the code turned its result r round
+--   room             a problem of the allowed sizes has lengths that a usize holds
+--   same-lengths     the columns' lists are equally long, once their lengths have passed
+--   not-less         "at most", by the test that the code makes
+--   range-low        a number below 0 lies in no range from 0
+--   range-spans      any other lies in the range from 0 to k where its magnitude is at most k
 -- Assumes nothing.
 use mathlib.Core.Path.{_≡_, refl, sym, _∙_}
 use mathlib.Core.Bool.{Bool, true, false, not, _&&_, true≢false}
@@ -23,7 +24,6 @@ use Rattle.problem.specs.Limits.{maxColumns, maxRows}
 use Rattle.problem.specs.Checks.{sizesFit, columnLengthsFit}
 use Rattle.problem.specs.declared.Problem.{Problem}
 
--- a test t whose result r the code turned round
 pub passed : {r t : Bool} → r ≡ t → not r ≡ false → t ≡ true
 passed {r} e h = sym e ∙ not-false r h
 
@@ -45,9 +45,9 @@ product a b h k = record { fits = lt-of-le-of-lt (mul-le-mul {n₂ = maxColumns}
 
 pub room : (p : Problem) → sizesFit maxColumns maxRows p ≡ true → Room p
 room p e =
-    let passed = three (leb 1 (p .columns)) (leb (p .columns) maxColumns) (leb (p .rows) maxRows) e in
-    let columns : p .columns ≤ maxColumns = leb-true _ _ (passed .1) in
-    let rows : p .rows ≤ maxRows = leb-true _ _ (passed .2) in
+    let tests = three (leb 1 (p .columns)) (leb (p .columns) maxColumns) (leb (p .rows) maxRows) e in
+    let columns : p .columns ≤ maxColumns = leb-true _ _ (tests .1) in
+    let rows : p .rows ≤ maxRows = leb-true _ _ (tests .2) in
     record {
       table = product (p .rows) (p .columns) (omega arith) (omega arith);
       width = omega arith;
@@ -58,9 +58,9 @@ pub same-lengths :
     (p : Problem) (lower upper goals : List ℤ) → columnLengthsFit p lower upper goals ≡ true
     → (length upper ≡ length lower) × (length goals ≡ length lower)
 same-lengths p lower upper goals e =
-    let passed = three (eqb (length lower) (p .columns)) (eqb (length upper) (p .columns)) (eqb (length goals) (p .columns)) e in
-    let l : length lower ≡ p .columns = eqb-true _ _ (passed .0) in
-    (eqb-true _ _ (passed .1) ∙ sym l, eqb-true _ _ (passed .2) ∙ sym l)
+    let tests = three (eqb (length lower) (p .columns)) (eqb (length upper) (p .columns)) (eqb (length goals) (p .columns)) e in
+    let l : length lower ≡ p .columns = eqb-true _ _ (tests .0) in
+    (eqb-true _ _ (tests .1) ∙ sym l, eqb-true _ _ (tests .2) ∙ sym l)
 
 not-ltb : (a b : ℕ) (t : Bool) → leb a b ≡ t → not (ltb b a) ≡ t
 not-ltb a b true e = rw (le-ltb b a (leb-true a b e))

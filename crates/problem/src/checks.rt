@@ -4,8 +4,12 @@ ghost use lib.ListN.{length};
 ghost use Rattle.whole.specs.Tests as Tests;
 ghost use Rattle.problem.specs.Limits.{maxColumns, maxRows};
 ghost use Rattle.problem.specs.Checks.{posed, allSpan, sizesFit, rowLengthsFit, columnLengthsFit, lentFit, rowsFit, boundFits, boundsFit, goalFits, goalsFit, firstCause};
-use crate::{Problem, Lent, Refusal, Check};
-use whole::{less, magnitude};
+use crate::Check;
+use crate::Lent;
+use crate::Problem;
+use crate::Refusal;
+use whole::less;
+use whole::magnitude;
 
 // Cause 1, against the most columns and rows that the caller allows.
 pub fn sizes_fit(p: Problem, columns: usize, rows: usize) -> bool

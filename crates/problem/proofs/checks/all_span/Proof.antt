@@ -1,13 +1,13 @@
-use Rattle.whole.proofs.Signed.{back}
 -- `problem::checks::all_span` meets its contract: the loop leaves at the first number that lies outside. Assumes nothing.
-use mathlib.Core.Path.{_≡_, sym, _∙_}
-use mathlib.Core.Bool.{Bool, true, false}
+use mathlib.Core.Path.{_≡_, sym}
+use mathlib.Core.Bool.{Bool}
 use mathlib.Core.List.{List}
 use Prim.Native.Nat.{ℕ, _-_}
 use native.Mathlib.Omega.{arith}
 use borrow.Author.Needs.{needs}
 use lib.IntN.{ℤ, pos}
 use lib.ListN.{length, getD}
+use Rattle.whole.proofs.Signed.{back}
 use Rattle.whole.specs.Tests.{spans}
 use Rattle.whole.specs.Counted.{SoFar, starts, goes-on, ends, fails}
 use Rattle.problem.proofs.Laws.{passed, failed}
@@ -23,9 +23,11 @@ Inv-loop s most i₀ i = SoFar (length s) (test s most) i
 abbrev μ-loop : tie.MeasureT-loop
 μ-loop s most i₀ i = length s - i
 
+-- what the call answers at the place that the loop has come to
 tested :
-    (c : tie.After-spans Inv-loop μ-loop)
-    → c .spans .result ≡ test (c .before .before .before .before .args .s .now) (c .before .before .before .before .args .most) (c .before .before .before .loop .i)
+    (c : tie.After-spans Inv-loop μ-loop) →
+    let s = c .before .before .before .before in
+    c .spans .result ≡ test (s .args .s .now) (s .args .most) (c .before .before .before .loop .i)
 tested c = rw (back _ (c .before .spans-arg .given)) at (c .spans .ensures)
 
 loop-holds : tie.Need-loop-holds Inv-loop μ-loop

@@ -1,10 +1,10 @@
 -- `problem::checks::bound_fits` meets its contract: it is false at the first of the three tests that fails. Assumes nothing.
 use mathlib.Core.Path.{_≡_}
+use borrow.Author.Needs.{needs}
 use mir.Facts.{toZ-ofZ}
 use Rattle.whole.specs.Tests.{spans}
 use Rattle.problem.specs.Limits.{maxBound}
 use Rattle.problem.proofs.Laws.{passed, failed, not-less}
-use borrow.Author.Needs.{needs}
 use Rattle.problem.proofs.checks.bound_fits.Statement.{statement}
 use Rattle.problem.proofs.checks.bound_fits.Tie as tie
 

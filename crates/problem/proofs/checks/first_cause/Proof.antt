@@ -35,6 +35,7 @@ module _ (s : tie.Start) where
   abbrev after-sizes : Check
   after-sizes = orNext (rowLengthsFit (s .args .p) (s .args .coefficients .now) (s .args .rights .now)) Length after-rows
 
+-- the first cause is the one that `rest` names
 abbrev Leaves : tie.Start → (tie.Start → Check) → Type 0
 Leaves s rest =
     firstCause

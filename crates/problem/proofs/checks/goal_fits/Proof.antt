@@ -1,7 +1,6 @@
 -- `problem::checks::goal_fits` meets its contract: from 0 up a goal is its own magnitude, and only one above 0 asks for the lower bound. Assumes nothing.
 use mathlib.Core.Path.{_≡_, sym, _∙_}
-use mathlib.Core.Bool.{true, false}
-use Prim.Native.Nat.{ℕ}
+use borrow.Author.Needs.{needs}
 use borrow.Author.Tests.{le-leb, lt-leb, eq-eqb, ne-eqb}
 use lib.Dec.{leb}
 use lib.IntN.{pos, natAbs}
@@ -10,7 +9,6 @@ use mir.Facts.{toZ-ofZ}
 use Rattle.whole.specs.Tests.{inRange}
 use Rattle.problem.specs.Limits.{maxGoal}
 use Rattle.problem.proofs.Laws.{not-less, range-low, range-spans}
-use borrow.Author.Needs.{needs}
 use Rattle.problem.proofs.checks.goal_fits.Statement.{statement}
 use Rattle.problem.proofs.checks.goal_fits.Tie as tie
 

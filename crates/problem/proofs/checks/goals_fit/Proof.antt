@@ -1,4 +1,4 @@
--- `problem::checks::goals_fit` meets its contract: the loop leaves at the first column whose goal fail. Assumes nothing.
+-- `problem::checks::goals_fit` meets its contract: the loop leaves at the first column whose goal does not fit. Assumes nothing.
 use mathlib.Core.Path.{_≡_, sym, ap₂, _∙_}
 use mathlib.Core.Bool.{Bool}
 use mathlib.Core.List.{List}
@@ -26,6 +26,7 @@ abbrev μ-loop : tie.MeasureT-loop
 abbrev column : tie.After-goal-fits Inv-loop μ-loop → ℕ
 column c = c .before .before .before .before .loop .j
 
+-- what the call answers at the column that the loop has come to
 tested :
     (c : tie.After-goal-fits Inv-loop μ-loop) →
     let s = c .before .before .before .before .before in

@@ -1,6 +1,6 @@
-use Rattle.problem.proofs.Laws.{room}
--- `problem::checks::lent_fit` meets its contract: it is false at the first length that differs. Assumes nothing.
+-- `problem::checks::lent_fit` meets its contract: it is false at the first length that differs, and the sizes keep the products small. Assumes nothing.
 use borrow.Author.Tests.{eq-eqb, ne-eqb}
+use Rattle.problem.proofs.Laws.{room}
 use Rattle.problem.proofs.checks.lent_fit.Statement.{statement}
 use Rattle.problem.proofs.checks.lent_fit.Tie as tie
 

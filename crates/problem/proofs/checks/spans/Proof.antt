@@ -1,6 +1,6 @@
--- `problem::checks::spans` meets its contract: the magnitude is the number's own. Assumes nothing.
-use mir.Facts.{toZ-ofZ}
+-- `problem::checks::spans` meets its contract: a number lies in the span where its magnitude is at most its end. Assumes nothing.
 use borrow.Author.Needs.{needs}
+use mir.Facts.{toZ-ofZ}
 use Rattle.problem.proofs.checks.spans.Statement.{statement}
 use Rattle.problem.proofs.checks.spans.Tie as tie
 
