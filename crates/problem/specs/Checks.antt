@@ -32,16 +32,6 @@ pub record Posed : Type 0 where
   pub upper : List ℤ
   pub goals : List ℤ
 
-abbrev pub posed : Problem → List ℤ → List ℤ → List ℤ → List ℤ → List ℤ → Posed
-posed p coefficients rights lower upper goals = record {
-  problem = p;
-  coefficients = coefficients;
-  rights = rights;
-  lower = lower;
-  upper = upper;
-  goals = goals;
-}
-
 abbrev at : List ℤ → ℕ → ℤ
 at l j = getD l j (pos 0)
 

@@ -3,7 +3,7 @@ ghost use mathlib.Core.Bool.{true};
 ghost use lib.ListN.{length};
 ghost use Rattle.whole.specs.Tests as Tests;
 ghost use Rattle.problem.specs.Limits.{maxColumns, maxRows};
-ghost use Rattle.problem.specs.Checks.{posed, allSpan, sizesFit, rowLengthsFit, columnLengthsFit, lentFit, rowsFit, boundFits, boundsFit, goalFits, goalsFit, firstCause};
+ghost use Rattle.problem.specs.Checks.{allSpan, sizesFit, rowLengthsFit, columnLengthsFit, lentFit, rowsFit, boundFits, boundsFit, goalFits, goalsFit, firstCause};
 use crate::Check;
 use crate::Lent;
 use crate::Problem;
@@ -163,7 +163,7 @@ pub fn first_cause(
     goals: &[i64],
     lent: Lent,
 ) -> Check
-    ensures { λ r. ⌜ r ≡ firstCause (posed p (now (coefficients .entry)) (now (rights .entry)) (now (lower .entry)) (now (upper .entry)) (now (goals .entry))) lent ⌝ }
+    ensures { λ r. ⌜ r ≡ firstCause (record { problem = p; coefficients = now (coefficients .entry); rights = now (rights .entry); lower = now (lower .entry); upper = now (upper .entry); goals = now (goals .entry) }) lent ⌝ }
 {
     if !sizes_fit(p, Problem::MAX_COLUMNS, Problem::MAX_ROWS) {
         return Check::Failed(Refusal::Size);

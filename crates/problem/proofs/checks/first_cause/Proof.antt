@@ -4,8 +4,8 @@ use mathlib.Core.Bool.{true}
 use borrow.Author.Needs.{needs}
 use borrow.Author.Tests.{le-leb, lt-leb}
 use Rattle.problem.specs.Limits.{maxColumns, maxRows}
-use Rattle.problem.specs.Checks.{posed, sizesFit, rowLengthsFit, columnLengthsFit, lentFit, rowsFit, boundsFit, goalsFit, limitFits, orNext, firstCause}
-use Rattle.problem.specs.declared.Refusal.the-variants.{Size, Length, Coefficient, Bound, Goal, Limit}
+use Rattle.problem.specs.Checks.{sizesFit, rowLengthsFit, columnLengthsFit, lentFit, rowsFit, boundsFit, goalsFit, limitFits, orNext, firstCause}
+use Rattle.problem.specs.declared.Refusal.the-variants.{Length, Coefficient, Bound, Goal, Limit}
 use Rattle.problem.specs.declared.Check.{Check}
 use Rattle.problem.specs.declared.Check.the-variants.{Passed}
 use Rattle.problem.proofs.Laws.{passed, failed, same-lengths}
@@ -38,14 +38,14 @@ module _ (s : tie.Start) where
 -- the first cause is the one that `rest` names
 abbrev Leaves : tie.Start → (tie.Start → Check) → Type 0
 Leaves s rest =
-    firstCause
-    (posed
-    (s .args .p)
-    (s .args .coefficients .now)
-    (s .args .rights .now)
-    (s .args .lower .now)
-    (s .args .upper .now)
-    (s .args .goals .now))
+    firstCause record {
+      problem = s .args .p;
+      coefficients = s .args .coefficients .now;
+      rights = s .args .rights .now;
+      lower = s .args .lower .now;
+      upper = s .args .upper .now;
+      goals = s .args .goals .now;
+    }
     (s .args .lent)
     ≡ rest s
 
