@@ -4,6 +4,8 @@ ghost use Rattle.problem.specs.Kinds.{slackCount};
 ghost use Rattle.problem.specs.Answers.{refusalNumber, answerNumber, answerCounts};
 ghost use Rattle.problem.specs.Checks.{emptyProblem};
 
+pub mod checks;
+
 // A problem's numbers: n columns, m rows and the step limit. Its lists are lent beside it, as slices.
 pub struct Problem {
     pub columns: usize,
@@ -173,6 +175,21 @@ impl Answer {
             Answer::Outside(_) => 0,
             Answer::Spent(_) => 0,
             Answer::Refused(why) => why.number(),
+        }
+    }
+
+    // The counts that are returned: 0 and 0 with a refusal.
+    pub fn counts(self) -> Counts
+        ensures { λ r. ⌜ r ≡ answerCounts self ⌝ }
+    {
+        match self {
+            Answer::Fitted(c) => c,
+            Answer::Outside(c) => c,
+            Answer::Spent(c) => c,
+            Answer::Refused(_) => Counts {
+                bounds: 0,
+                goals: 0,
+            },
         }
     }
 }

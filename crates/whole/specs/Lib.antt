@@ -1,5 +1,6 @@
 -- The root of the definitions.
 pub mod Lists
 pub mod Tests
+pub mod Counted
 pub mod Quotient
 pub mod Divisor

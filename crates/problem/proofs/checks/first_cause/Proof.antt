@@ -1,0 +1,155 @@
+-- `problem::checks::first_cause` meets its contract: each check that fails names its own cause, after those before it passed. Assumes nothing.
+use mathlib.Core.Path.{_≡_, sym, _∙_}
+use mathlib.Core.Bool.{true}
+use borrow.Author.Needs.{needs}
+use borrow.Author.Tests.{le-leb, lt-leb}
+use Rattle.problem.specs.Limits.{maxColumns, maxRows}
+use Rattle.problem.specs.Checks.{sizesFit, rowLengthsFit, columnLengthsFit, lentFit, rowsFit, boundsFit, goalsFit, limitFits, orNext, firstCause}
+use Rattle.problem.specs.declared.Refusal.the-variants.{Length, Coefficient, Bound, Goal, Limit}
+use Rattle.problem.specs.declared.Check.{Check}
+use Rattle.problem.specs.declared.Check.the-variants.{Passed}
+use Rattle.problem.proofs.Laws.{passed, failed, same-lengths}
+use Rattle.problem.proofs.checks.first_cause.Statement.{statement}
+use Rattle.problem.proofs.checks.first_cause.Tie as tie
+
+-- what is left to check after each check that passed
+module _ (s : tie.Start) where
+  abbrev after-goals : Check
+  after-goals = orNext (limitFits (s .args .p)) Limit Passed
+
+  abbrev after-bounds : Check
+  after-bounds = orNext (goalsFit (s .args .lower .now) (s .args .goals .now)) Goal after-goals
+
+  abbrev after-numbers : Check
+  after-numbers = orNext (boundsFit (s .args .lower .now) (s .args .upper .now)) Bound after-bounds
+
+  abbrev after-lent : Check
+  after-lent = orNext (rowsFit (s .args .coefficients .now) (s .args .rights .now)) Coefficient after-numbers
+
+  abbrev after-columns : Check
+  after-columns = orNext (lentFit (s .args .p) (s .args .lent)) Length after-lent
+
+  abbrev after-rows : Check
+  after-rows = orNext (columnLengthsFit (s .args .p) (s .args .lower .now) (s .args .upper .now) (s .args .goals .now)) Length after-columns
+
+  abbrev after-sizes : Check
+  after-sizes = orNext (rowLengthsFit (s .args .p) (s .args .coefficients .now) (s .args .rights .now)) Length after-rows
+
+-- the first cause is the one that `rest` names
+abbrev Leaves : tie.Start → (tie.Start → Check) → Type 0
+Leaves s rest =
+    firstCause record {
+      problem = s .args .p;
+      coefficients = s .args .coefficients .now;
+      rights = s .args .rights .now;
+      lower = s .args .lower .now;
+      upper = s .args .upper .now;
+      goals = s .args .goals .now;
+    }
+    (s .args .lent)
+    ≡ rest s
+
+sizes-hold : (c : tie.Else1) → sizesFit maxColumns maxRows (c .before .before .args .p) ≡ true
+sizes-hold c = passed (c .before .sizes-fit .ensures) (c .if1 .left)
+
+lengths-hold :
+    (c : tie.Else3) →
+    let a = c .before .before .before .before .before .before .args in
+    columnLengthsFit (a .p) (a .lower .now) (a .upper .now) (a .goals .now) ≡ true
+lengths-hold c = passed (c .before .column-lengths-fit .ensures) (c .if3 .left)
+
+sizes : (c : tie.Else1) → Leaves (c .before .before) after-sizes
+unfolding firstCause
+sizes c = rw (sizes-hold c)
+
+rows : (c : tie.Else2) → Leaves (c .before .before .before .before) after-rows
+rows c = sizes (c .before .before) ∙ rw (passed (c .before .row-lengths-fit .ensures) (c .if2 .left))
+
+columns : (c : tie.Else3) → Leaves (c .before .before .before .before .before .before) after-columns
+columns c = rows (c .before .before) ∙ rw (lengths-hold c)
+
+lent : (c : tie.Else4) → Leaves (c .before .before .before .before .before .before .before .before) after-lent
+lent c = columns (c .before .before) ∙ rw (passed (c .before .lent-fit .ensures) (c .if4 .left))
+
+numbers : (c : tie.Else5) → Leaves (c .before .before .before .before .before .before .before .before .before .before) after-numbers
+numbers c = lent (c .before .before) ∙ rw (passed (c .before .rows-fit .ensures) (c .if5 .left))
+
+bounds : (c : tie.Else6) → Leaves (c .before .before .before .before .before .before .before .before .before .before .before .before) after-bounds
+bounds c = numbers (c .before .before) ∙ rw (passed (c .before .bounds-fit .ensures) (c .if6 .left))
+
+goals : (c : tie.Else7) → Leaves (c .before .before .before .before .before .before .before .before .before .before .before .before .before .before) after-goals
+goals c = bounds (c .before .before) ∙ rw (passed (c .before .goals-fit .ensures) (c .if7 .left))
+
+sizes-fit-requires : tie.Need-sizes-fit-requires
+sizes-fit-requires c κs = search needs
+
+returns : tie.Need-returns
+unfolding firstCause
+returns c = rw (failed (c .before .sizes-fit .ensures) (c .if1 .taken))
+
+row-lengths-fit-requires : tie.Need-row-lengths-fit-requires
+row-lengths-fit-requires c κs = sizes-hold c
+
+returns-2 : tie.Need-returns-2
+returns-2 c = sym (sizes (c .before .before) ∙ rw (failed (c .before .row-lengths-fit .ensures) (c .if2 .taken)))
+
+column-lengths-fit-requires : tie.Need-column-lengths-fit-requires
+column-lengths-fit-requires c κs = search needs
+
+returns-3 : tie.Need-returns-3
+returns-3 c = sym (rows (c .before .before) ∙ rw (failed (c .before .column-lengths-fit .ensures) (c .if3 .taken)))
+
+lent-fit-requires : tie.Need-lent-fit-requires
+lent-fit-requires c κs = sizes-hold (c .before .before .before .before)
+
+returns-4 : tie.Need-returns-4
+returns-4 c = sym (columns (c .before .before) ∙ rw (failed (c .before .lent-fit .ensures) (c .if4 .taken)))
+
+rows-fit-requires : tie.Need-rows-fit-requires
+rows-fit-requires c κs = search needs
+
+returns-5 : tie.Need-returns-5
+returns-5 c = sym (lent (c .before .before) ∙ rw (failed (c .before .rows-fit .ensures) (c .if5 .taken)))
+
+bounds-fit-requires : tie.Need-bounds-fit-requires
+bounds-fit-requires c κs =
+    let a = c .before .before .before .before .before .before .before .before .before .before .args in
+    same-lengths (a .p) (a .lower .now) (a .upper .now) (a .goals .now) (lengths-hold (c .before .before .before .before)) .0
+
+returns-6 : tie.Need-returns-6
+returns-6 c = sym (numbers (c .before .before) ∙ rw (failed (c .before .bounds-fit .ensures) (c .if6 .taken)))
+
+goals-fit-requires : tie.Need-goals-fit-requires
+goals-fit-requires c κs =
+    let a = c .before .before .before .before .before .before .before .before .before .before .before .before .args in
+    same-lengths (a .p) (a .lower .now) (a .upper .now) (a .goals .now) (lengths-hold (c .before .before .before .before .before .before)) .1
+
+returns-7 : tie.Need-returns-7
+returns-7 c = sym (bounds (c .before .before) ∙ rw (failed (c .before .goals-fit .ensures) (c .if7 .taken)))
+
+returns-8 : tie.Need-returns-8
+returns-8 c = sym (goals (c .before .before) ∙ rw (lt-leb _ _ (c .if8 .taken)))
+
+returns-9 : tie.Need-returns-9
+returns-9 c = sym (goals (c .before .before) ∙ rw (le-leb _ _ (c .if8 .left)))
+
+pub first-cause-spec : {M : Type 1} → statement M
+first-cause-spec =
+    tie.close
+    (tie.spec
+    sizes-fit-requires
+    returns
+    row-lengths-fit-requires
+    returns-2
+    column-lengths-fit-requires
+    returns-3
+    lent-fit-requires
+    returns-4
+    rows-fit-requires
+    returns-5
+    bounds-fit-requires
+    returns-6
+    goals-fit-requires
+    returns-7
+    returns-8
+    returns-9)

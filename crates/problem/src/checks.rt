@@ -1,0 +1,193 @@
+ghost use mathlib.Core.Path.{_≡_};
+ghost use mathlib.Core.Bool.{true};
+ghost use lib.ListN.{length};
+ghost use Rattle.whole.specs.Tests as Tests;
+ghost use Rattle.problem.specs.Limits.{maxColumns, maxRows};
+ghost use Rattle.problem.specs.Checks.{allSpan, sizesFit, rowLengthsFit, columnLengthsFit, lentFit, rowsFit, boundFits, boundsFit, goalFits, goalsFit, firstCause};
+use crate::Check;
+use crate::Lent;
+use crate::Problem;
+use crate::Refusal;
+use whole::less;
+use whole::magnitude;
+
+// Cause 1, against the most columns and rows that the caller allows.
+pub fn sizes_fit(p: Problem, columns: usize, rows: usize) -> bool
+    ensures { λ r. ⌜ r ≡ sizesFit columns rows p ⌝ }
+{
+    if p.columns < 1 {
+        return false;
+    }
+    if columns < p.columns {
+        return false;
+    }
+    p.rows <= rows
+}
+
+// Cause 2 of the rows' lists. The sizes come first, so that the product fits.
+pub fn row_lengths_fit(p: Problem, coefficients: &[i64], rights: &[i64]) -> bool
+    requires { ⌜ sizesFit maxColumns maxRows p ≡ true ⌝ }
+    ensures { λ r. ⌜ r ≡ rowLengthsFit p (now (coefficients .entry)) (now (rights .entry)) ⌝ }
+{
+    if coefficients.len() != p.rows * p.columns {
+        return false;
+    }
+    rights.len() == p.rows
+}
+
+// Cause 2 of the columns' lists.
+pub fn column_lengths_fit(p: Problem, lower: &[i64], upper: &[i64], goals: &[i64]) -> bool
+    ensures { λ r. ⌜ r ≡ columnLengthsFit p (now (lower .entry)) (now (upper .entry)) (now (goals .entry)) ⌝ }
+{
+    if lower.len() != p.columns {
+        return false;
+    }
+    if upper.len() != p.columns {
+        return false;
+    }
+    goals.len() == p.columns
+}
+
+// Cause 2 of the buffers that the call fills.
+pub fn lent_fit(p: Problem, lent: Lent) -> bool
+    requires { ⌜ sizesFit maxColumns maxRows p ≡ true ⌝ }
+    ensures { λ r. ⌜ r ≡ lentFit p lent ⌝ }
+{
+    if lent.tableau != p.columns * (p.rows + p.columns) {
+        return false;
+    }
+    if lent.values != p.columns {
+        return false;
+    }
+    lent.strides == p.columns
+}
+
+// Whether x lies in −most to most.
+fn spans(x: i64, most: u64) -> bool
+    ensures { λ r. ⌜ r ≡ Tests.spans most x ⌝ }
+{
+    magnitude(x) <= most
+}
+
+// Whether every number lies in −most to most.
+pub fn all_span(s: &[i64], most: u64) -> bool
+    ensures { λ r. ⌜ r ≡ allSpan most (now (s .entry)) ⌝ }
+{
+    let mut i = 0;
+    while i < s.len() {
+        if !spans(s[i], most) {
+            return false;
+        }
+        i += 1;
+    }
+    true
+}
+
+// Cause 3.
+pub fn rows_fit(coefficients: &[i64], rights: &[i64]) -> bool
+    ensures { λ r. ⌜ r ≡ rowsFit (now (coefficients .entry)) (now (rights .entry)) ⌝ }
+{
+    if !all_span(coefficients, Problem::MAX_COEFFICIENT) {
+        return false;
+    }
+    all_span(rights, Problem::MAX_RIGHT)
+}
+
+// Cause 4 at one column.
+pub fn bound_fits(lower: i64, upper: i64) -> bool
+    ensures { λ r. ⌜ r ≡ boundFits lower upper ⌝ }
+{
+    if !spans(lower, Problem::MAX_BOUND) {
+        return false;
+    }
+    if !spans(upper, Problem::MAX_BOUND) {
+        return false;
+    }
+    !less(upper, lower)
+}
+
+// Cause 4. The lengths come first, so that each column has both bounds.
+pub fn bounds_fit(lower: &[i64], upper: &[i64]) -> bool
+    requires { ⌜ length (now upper) ≡ length (now lower) ⌝ }
+    ensures { λ r. ⌜ r ≡ boundsFit (now (lower .entry)) (now (upper .entry)) ⌝ }
+{
+    let mut j = 0;
+    while j < lower.len() {
+        if !bound_fits(lower[j], upper[j]) {
+            return false;
+        }
+        j += 1;
+    }
+    true
+}
+
+// Cause 5 at one column. A goal of 0 is no goal, and asks nothing of the lower bound.
+pub fn goal_fits(lower: i64, goal: i64) -> bool
+    ensures { λ r. ⌜ r ≡ goalFits lower goal ⌝ }
+{
+    if less(goal, 0) {
+        return false;
+    }
+    let size = magnitude(goal);
+    if Problem::MAX_GOAL < size {
+        return false;
+    }
+    if size == 0 {
+        return true;
+    }
+    !less(lower, 1)
+}
+
+// Cause 5. The lengths come first here too.
+pub fn goals_fit(lower: &[i64], goals: &[i64]) -> bool
+    requires { ⌜ length (now goals) ≡ length (now lower) ⌝ }
+    ensures { λ r. ⌜ r ≡ goalsFit (now (lower .entry)) (now (goals .entry)) ⌝ }
+{
+    let mut j = 0;
+    while j < lower.len() {
+        if !goal_fits(lower[j], goals[j]) {
+            return false;
+        }
+        j += 1;
+    }
+    true
+}
+
+// The first cause of 1 to 6 that holds, in the order of document 01's table.
+pub fn first_cause(
+    p: Problem,
+    coefficients: &[i64],
+    rights: &[i64],
+    lower: &[i64],
+    upper: &[i64],
+    goals: &[i64],
+    lent: Lent,
+) -> Check
+    ensures { λ r. ⌜ r ≡ firstCause (record { problem = p; coefficients = now (coefficients .entry); rights = now (rights .entry); lower = now (lower .entry); upper = now (upper .entry); goals = now (goals .entry) }) lent ⌝ }
+{
+    if !sizes_fit(p, Problem::MAX_COLUMNS, Problem::MAX_ROWS) {
+        return Check::Failed(Refusal::Size);
+    }
+    if !row_lengths_fit(p, coefficients, rights) {
+        return Check::Failed(Refusal::Length);
+    }
+    if !column_lengths_fit(p, lower, upper, goals) {
+        return Check::Failed(Refusal::Length);
+    }
+    if !lent_fit(p, lent) {
+        return Check::Failed(Refusal::Length);
+    }
+    if !rows_fit(coefficients, rights) {
+        return Check::Failed(Refusal::Coefficient);
+    }
+    if !bounds_fit(lower, upper) {
+        return Check::Failed(Refusal::Bound);
+    }
+    if !goals_fit(lower, goals) {
+        return Check::Failed(Refusal::Goal);
+    }
+    if Problem::MAX_STEPS < p.limit {
+        return Check::Failed(Refusal::Limit);
+    }
+    Check::Passed
+}

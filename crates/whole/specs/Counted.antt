@@ -1,0 +1,45 @@
+-- Laws of `every` for a loop that counts i up to n and leaves at the first place where the test f fails.
+--   SoFar n f i   what the loop knows before place i: f holds at the places passed
+--   starts        it knows that at 0
+--   goes-on       and at i + 1, where f holds at i
+--   ends          past the last place f holds at every one
+--   fails         where f fails at i, it does not
+-- Assumes nothing.
+use mathlib.Core.Path.{_≡_, refl, subst}
+use mathlib.Core.Bool.{Bool, true, false, and-false}
+use mathlib.Core.Logic.{⊎-elim}
+use Prim.Native.Nat.{ℕ, zero, suc, _+_, _≤_, _<_}
+use native.Mathlib.Nat.{le-antisymm, eq-or-lt-of-le, le-of-suc-le-suc, not-suc-le-zero}
+use native.Mathlib.Numerals.{add-one}
+use native.Mathlib.Omega.{arith}
+use Rattle.whole.specs.Tests.{every}
+
+pub record SoFar (n : ℕ) (f : ℕ → Bool) (i : ℕ) : Type 0 where
+  pub within : i ≤ n
+  pub held : every i f ≡ true
+
+pub starts : (n : ℕ) (f : ℕ → Bool) → SoFar n f 0
+unfolding every
+starts n f = record { within = omega arith; held = refl }
+
+one-more : (i : ℕ) (f : ℕ → Bool) → every i f ≡ true → f i ≡ true → every (i + 1) f ≡ true
+unfolding every
+one-more i f a b = rw (add-one, a, b)
+
+pub goes-on : {n : ℕ} {f : ℕ → Bool} {i : ℕ} → SoFar n f i → i < n → f i ≡ true → SoFar n f (i + 1)
+goes-on {n} {f} {i} s l e = record { within = omega arith; held = one-more i f (s .held) e }
+
+pub ends : {n : ℕ} {f : ℕ → Bool} {i : ℕ} → SoFar n f i → n ≤ i → every n f ≡ true
+ends {n} {f} {i} s l = subst (λ (k : ℕ). every k f ≡ true) (le-antisymm (s .within) l) (s .held)
+
+one-fails : (n : ℕ) (f : ℕ → Bool) (i : ℕ) → i < n → f i ≡ false → every n f ≡ false
+unfolding every
+one-fails zero f i l e = absurd (not-suc-le-zero l)
+one-fails (suc n) f i l e =
+    ⊎-elim
+    (λ p. rw (← p, e) (and-false (every i f)))
+    (λ p. rw (one-fails n f i p e))
+    (eq-or-lt-of-le (le-of-suc-le-suc l))
+
+pub fails : {n : ℕ} {f : ℕ → Bool} {i : ℕ} → SoFar n f i → i < n → f i ≡ false → every n f ≡ false
+fails {n} {f} {i} s l e = one-fails n f i l e
