@@ -10,8 +10,9 @@ use mathlib.Core.List.{List}
 use Prim.Native.Nat.{ℕ, _+_, _*_}
 use lib.Dec.{leb, eqb}
 use lib.IntN.{ℤ, pos}
-use lib.ListN.{length, getD}
+use lib.ListN.{length}
 use lib.Signed.{leZ}
+use Rattle.whole.specs.Lists.{entry}
 use Rattle.whole.specs.Tests.{isZero, spans, inRange, every}
 use Rattle.problem.specs.Limits.{maxColumns, maxRows, maxCoefficient, maxRight, maxBound, maxGoal, maxSteps}
 use Rattle.problem.specs.declared.Problem.{Problem}
@@ -31,9 +32,6 @@ pub record Posed : Type 0 where
   pub lower : List ℤ
   pub upper : List ℤ
   pub goals : List ℤ
-
-abbrev at : List ℤ → ℕ → ℤ
-at l j = getD l j (pos 0)
 
 -- 1: "n or m outside"
 abbrev pub sizesFit : ℕ → ℕ → Problem → Bool
@@ -55,7 +53,7 @@ lentFit p l =
 
 -- 3: "coefficient, right side or least half outside"; a call on buffers has no least half, since its y is a column like any other
 abbrev pub allSpan : ℕ → List ℤ → Bool
-allSpan k l = every (length l) (λ i. spans k (at l i))
+allSpan k l = every (length l) (λ i. spans k (entry i l))
 
 abbrev pub rowsFit : List ℤ → List ℤ → Bool
 rowsFit coefficients rights = allSpan maxCoefficient coefficients && allSpan maxRight rights
@@ -65,14 +63,14 @@ abbrev pub boundFits : ℤ → ℤ → Bool
 boundFits lower upper = spans maxBound lower && (spans maxBound upper && leZ lower upper)
 
 abbrev pub boundsFit : List ℤ → List ℤ → Bool
-boundsFit lower upper = every (length lower) (λ j. boundFits (at lower j) (at upper j))
+boundsFit lower upper = every (length lower) (λ j. boundFits (entry j lower) (entry j upper))
 
 -- 5: "goal outside, or goal with lower below 1"
 abbrev pub goalFits : ℤ → ℤ → Bool
 goalFits lower goal = inRange (pos 0) (pos maxGoal) goal && (isZero goal || leZ (pos 1) lower)
 
 abbrev pub goalsFit : List ℤ → List ℤ → Bool
-goalsFit lower goals = every (length lower) (λ j. goalFits (at lower j) (at goals j))
+goalsFit lower goals = every (length lower) (λ j. goalFits (entry j lower) (entry j goals))
 
 -- 6: "step limit outside"
 abbrev pub limitFits : Problem → Bool

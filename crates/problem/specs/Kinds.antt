@@ -3,17 +3,11 @@
 --   slackOf k    "Equal: sum = number. At least: sum − y = number, y from 0. At most: sum + y = number, y from 0. Even: sum − 2y = 0, y from the
 --                number, which is 0 to 1,000,000."
 --   slackCount k how many columns the kind adds
---   rowFits r    the right side and the least half are not outside (cause 3)
 -- Assumes nothing.
-use mathlib.Core.Bool.{Bool, true, false, _&&_}
 use Prim.Native.Nat.{ℕ}
-use lib.Dec.{leb}
 use lib.IntN.{ℤ, pos, negsuc}
-use Rattle.whole.specs.Tests.{spans}
-use Rattle.problem.specs.Limits.{maxRight}
 use Rattle.problem.specs.declared.Kind.{Kind}
 use Rattle.problem.specs.declared.Kind.the-variants.{Equal, AtLeast, AtMost, Even}
-use Rattle.problem.specs.declared.Row.{Row}
 
 pub data Slack : Type 0 where
   none : Slack
@@ -31,12 +25,3 @@ slackColumns (slack c low) = 1
 
 abbrev pub slackCount : Kind → ℕ
 slackCount k = slackColumns (slackOf k)
-
-abbrev pub halfFits : Kind → Bool
-halfFits Equal = true
-halfFits AtLeast = true
-halfFits AtMost = true
-halfFits (Even half) = leb half maxRight
-
-abbrev pub rowFits : Row → Bool
-rowFits r = spans maxRight (r .right) && halfFits (r .kind)
