@@ -50,7 +50,7 @@ def rng_for(seed, number):
 # ------------------------------------------------------------ problems on buffers
 
 class Case:
-    """A call on buffers: call is "assign" or "continue"."""
+    """A call on buffers: call is “assign” or “continue”."""
 
     def __init__(self, call, problem, lent):
         self.call = call
@@ -147,7 +147,7 @@ def middle_problem(rng):
 
 
 def wild_problem(rng):
-    """Rows without a known list: many are "none"."""
+    """Rows without a known list: many are “none”."""
     problem, hidden = small_problem(rng)
     problem.rights = [rng.randint(-9, 9) for _ in range(problem.m)]
     return problem, hidden
