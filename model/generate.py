@@ -161,6 +161,15 @@ def heavy_problem(rng):
     return solvable_problem(rng, n, m, size, 0.9, 10)
 
 
+def heavy_wild_problem(rng):
+    """Large coefficients and right sides of any size: 7 and “none” in either order."""
+    problem, hidden = heavy_problem(rng)
+    problem.rights = [rng.choice([0, 1, MAX_RIGHT, -MAX_RIGHT,
+                                  rng.randint(-MAX_RIGHT, MAX_RIGHT)])
+                      for _ in range(problem.m)]
+    return problem, hidden
+
+
 def large_problem(rng):
     """Many columns, sparse rows of 1 and -1, as structures make them."""
     n = rng.choice([16, 24, 32, MAX_COLUMNS])
@@ -241,8 +250,8 @@ def there_and_back_problem(rng):
 
 
 FAMILIES = [small_problem] * 6 + [middle_problem] * 4 + [wild_problem] * 3 + [
-    heavy_problem, heavy_problem, large_problem, extreme_counts, chain_problem,
-    near_m_problem, there_and_back_problem]
+    heavy_problem, heavy_problem, heavy_wild_problem, large_problem, extreme_counts,
+    chain_problem, near_m_problem, there_and_back_problem]
 
 
 def repeat_rows(rng, problem):
@@ -304,8 +313,8 @@ def change_a_number(rng, problem, lent):
             buffer.append(0)
 
 
-def continue_list(rng, problem, hidden):
-    """A list for Continue: the hidden one, a spoilt one, one near ±M or noise."""
+def continue_list(rng, hidden):
+    """A list for Continue: mostly the hidden one, or a spoilt one, or one near ±M."""
     values = list(hidden)
     what = rng.randrange(8)
     if what == 0:
@@ -317,8 +326,9 @@ def continue_list(rng, problem, hidden):
     return values
 
 
-def widen(rng, problem):
-    """Columns that the rows do not name, far out, so that ±M limits the moves."""
+def tie_columns(rng, problem):
+    """Puts rows a × v(i) = b × v(j) for the rows, so that lists far out satisfy some
+    of them and ±M limits the moves."""
     n, m = problem.n, problem.m
     problem.coefficients = [0] * (m * n)
     problem.rights = [0] * m
@@ -337,15 +347,16 @@ def problem_case(rng):
     call = rng.choice(["assign", "assign", "continue"])
     if call == "continue":
         if rng.random() < 0.1:
-            widen(rng, problem)
+            tie_columns(rng, problem)
             hidden = [rng.choice([0, M, M, -M])] * problem.n
             problem.limit = min(problem.limit, 40)
-        lent.values = continue_list(rng, problem, hidden)
+        lent.values = continue_list(rng, hidden)
     for _ in range(rng.choice([0, 0, 0, 0, 0, 0, 1, 1, 2])):
         change_a_number(rng, problem, lent)
-    if max(problem.upper + problem.lower, key=abs, default=0) > 1000:
+    if problem.limit <= MAX_LIMIT and any(abs(bound) > 1000 for bound in
+                                          problem.lower + problem.upper):
         # far bounds take many steps; keep the run short
-        problem.limit = min(problem.limit, 300) if problem.limit <= MAX_LIMIT else problem.limit
+        problem.limit = min(problem.limit, 300)
     return Case(call, problem, lent)
 
 
@@ -509,7 +520,8 @@ def chain_deck(rng):
     """A chain of ratios, from harmless to beyond M."""
     sketch = Sketch()
     factor = rng.choice([1, 2, 10, 100, MAX_COEFFICIENT])
-    curves = [sketch.curve(rng.choice([0, 1000, MAX_GOAL])) for _ in range(rng.randint(2, 6))]
+    curves = [sketch.curve(rng.choice([0, 1000, MAX_GOAL]))
+              for _ in range(rng.randint(2, 6))]
     for one, other in zip(curves, curves[1:]):
         sketch.row(0, 0, [(one, factor), (other, -1)])
     return sketch

@@ -185,7 +185,8 @@ def slips_to_rule_out():
     check("seating below 0", (got, lent.values), ((FITTED, 0, 0), [-3]))
     # 2v1 = 3v2 - 1: v1 = 1 and v2 = 1, not fractions of an echelon form
     got, lent = solve(make(2, [[2, -3]], [-1], (1, 9)))
-    check("whole lattice", (got, lent.values, lent.strides), ((FITTED, 0, 0), [1, 1], [3, 2]))
+    check("whole lattice", (got, lent.values, lent.strides),
+          ((FITTED, 0, 0), [1, 1], [3, 2]))
     check("quotient rounded down", form_of(make(2, [[2, -3]], [0], (0, 9))),
           [1, 2, 1, 0, 3, 2])
 
@@ -431,8 +432,9 @@ def reader_lengths():
 @test
 def text_length():
     for size, number in ((32767, 0), (32768, 0), (32769, 11), (70000, 11)):
-        check("padded to %d" % size, refusal_of(SOUND + b" " * (size - len(SOUND))), number)
-        check("opened to %d" % size, refusal_of(b"\n" * (size - len(SOUND)) + SOUND), number)
+        missing = size - len(SOUND)
+        check("padded to %d" % size, refusal_of(SOUND + b" " * missing), number)
+        check("opened to %d" % size, refusal_of(b"\n" * missing + SOUND), number)
     check("too long before any other rule", refusal_of(b"0 " * 20000), 11)
 
 
@@ -732,6 +734,8 @@ def reading_beyond_m_in_each_place():
     first, second = "right side, first half", "right side, second half"
     check_beyond(2, [25, 206, 0, -979], [-1000000, 0], first, False, 7)
     check_beyond(2, [557, -929, -971, 0], [-1000000, -195266], first, True, 7)
+    # the first row shows already that there are none, the second goes beyond M
+    check_beyond(3, [0, 78, -16, 25, 10, -93], [1, 1000000], first, True, 7)
     check_beyond(4, [-376, 264, 841, 405, 0, 342, 818, 0], [1000000, 1000000], second,
                  False, 7)
     check_beyond(4, [0, -468, -603, 0, -518, 515, -825, 575], [-1000000, 1000000],
@@ -756,8 +760,27 @@ def numbers_at_m_are_not_beyond():
 
 
 @test
-def right_side_of_a_seven_only_assignment():
-    """The same problem meets 7 in the right side but Continue cannot give 8."""
+def seating_at_m():
+    """A seated value of M is not beyond, M + 1 is."""
+    rows = [[2, -1, 0, 0, 0], [147, 1000, -1, 0, 0], [483, 0, 1000, -1, 0],
+            [647, 0, 0, 1000, -1]]
+    bounds = [(1, 1000000)] + [(-1000000, 1000000)] * 4
+    for right, answer in ((1, SPENT), (0, SPENT), (-1, 9), (-2, 9)):
+        problem = make(5, rows, [0, 0, 0, right], bounds, limit=0)
+        got, lent = solve(problem)
+        check("seated at M %+d" % -right, got, (answer, 0, 0))
+        if answer == SPENT:
+            check("its value", lent.values, [1, 2, 2147, 2147483, M - right])
+    for row in rows:
+        row[0] = -row[0]
+    for right, answer in ((-1, SPENT), (0, SPENT), (1, 9), (2, 9)):
+        problem = make(5, rows, [0, 0, 0, right], bounds, limit=0)
+        check("seated at -M %+d" % -right, solve(problem)[0], (answer, 0, 0))
+
+
+@test
+def continue_without_whole_numbers():
+    """Continue takes no right-side step, so it cannot give 8: no list passes 10."""
     problem = make(1, [[2]], [1], (0, 9))
     check("8", solve(problem)[0], (8, 0, 0))
     for value in range(-3, 4):
@@ -851,8 +874,9 @@ def reading_strict_comparisons():
           True)
     # goal 6000: 4 and 9 have the ratio 3/2
     problem = make(1, [], [], (1, 99), [6000])
-    check("equal ratio", engine.improves_goals(problem, [4], [(0, 5)], (6000, 4000)), False)
-    check("smaller ratio", engine.improves_goals(problem, [4], [(0, 4)], (6000, 4000)), True)
+    old = engine.ratio(6000, 4)
+    check("equal ratio", engine.improves_goals(problem, [4], [(0, 5)], old), False)
+    check("smaller ratio", engine.improves_goals(problem, [4], [(0, 4)], old), True)
 
 
 @test
@@ -964,7 +988,8 @@ def property_hermite_form():
 
 @test
 def property_refusal_7_exact():
-    families = [generate.heavy_problem, generate.chain_problem, generate.near_m_problem,
+    families = [generate.heavy_problem, generate.heavy_wild_problem,
+                generate.chain_problem, generate.near_m_problem,
                 generate.small_problem, generate.wild_problem]
     for _, problem, hidden in random_problems(12, 500, families):
         beyond, none = places_beyond(problem)
@@ -987,16 +1012,15 @@ def property_refusal_7_exact():
 
 @test
 def property_none_by_brute_force():
-    """Over small boxes: 8 where no list satisfies the rows. Lists need not be large
-    here: with two rows of coefficients −2 to 2, the box holds one if there is any."""
+    """8 exactly where no list satisfies the rows: for coefficients and right sides
+    −2 to 2, a box of −8 to 8 holds a list if there is any."""
     for number in range(400):
         rng = generate.rng_for(13, number)
         n, m = rng.randint(1, 3), rng.randint(1, 2)
         coefficients = [rng.randint(-2, 2) for _ in range(m * n)]
-        rights = [rng.randint(-3, 3) for _ in range(m)]
-        size = {1: 6, 2: 15, 3: 8}[n]
+        rights = [rng.randint(-2, 2) for _ in range(m)]
         found = any(generate.products(n, m, coefficients, values) == rights
-                    for values in itertools.product(range(-size, size + 1), repeat=n))
+                    for values in itertools.product(range(-8, 9), repeat=n))
         problem = Problem(n, m, coefficients, rights, [-99] * n, [99] * n, [0] * n, 0)
         check("none by brute force", solve(problem)[0][0] == 8, not found)
 
@@ -1016,7 +1040,8 @@ def property_answers_are_sound():
         if outcome == FITTED:
             check("FITTED is in bounds", inside, True)
         elif outcome == OUTSIDE:
-            check("OUTSIDE is not, and has no goal steps", (inside, goals_count), (False, 0))
+            check("OUTSIDE is not, and has no goal steps", (inside, goals_count),
+                  (False, 0))
         else:
             check("SPENT takes all steps", bounds_count + goals_count, problem.limit)
 
