@@ -42,7 +42,7 @@ def check(what, got, wanted):
         print("FAILED %s: got %r, wanted %r" % (what, got, wanted))
 
 
-# ------------------------------------------------------------------- small helpers
+# --------------------------------------------------------------------- small tools
 
 def make(n, rows, rights, bounds, goals=None, limit=10000):
     """A problem; bounds is one pair for all columns or a list of pairs."""
