@@ -1,0 +1,504 @@
+"""The plain model of the interval assignment engine, on buffers.
+
+Every function carries out a sentence of document 01 and quotes it. Whole
+numbers are Python's, so nothing here overflows or is cut off. Rows and columns
+are counted from 0 in the code and from 1 in document 01.
+
+assign(problem, lent) is a whole assignment, cont(problem, lent) is Continue.
+Both return (outcome, steps of the bounds part, steps of the goals part), where
+the outcome is the word FITTED, OUTSIDE or SPENT or the number of a refusal.
+"""
+
+import functools
+
+# “These limits belong to the problem and are named once with it.”
+MIN_COLUMNS = 1
+MAX_COLUMNS = 48
+MAX_ROWS = 48
+MAX_COEFFICIENT = 1000
+MAX_RIGHT = 1000000
+MAX_BOUND = 1000000
+MAX_GOAL = 1000000000
+MAX_LIMIT = 65535
+M = 2147483647
+
+FITTED = "FITTED"
+OUTSIDE = "OUTSIDE"
+SPENT = "SPENT"
+
+# The numbers of the table “Turned back” that a call on buffers can give.
+COUNTS_OUTSIDE = 1
+WRONG_LENGTH = 2
+ROW_NUMBER_OUTSIDE = 3
+BOUND_OUTSIDE = 4
+GOAL_OUTSIDE = 5
+LIMIT_OUTSIDE = 6
+ELIMINATION_BEYOND = 7
+NO_WHOLE_NUMBERS = 8
+SEATING_BEYOND = 9
+LIST_NOT_FIT = 10
+
+
+class Problem:
+    """“n columns, 1 to 48; m rows, 0 to 48”; the coefficients lie flat, n to a row."""
+
+    def __init__(self, n, m, coefficients, rights, lower, upper, goals, limit):
+        self.n = n
+        self.m = m
+        self.coefficients = coefficients
+        self.rights = rights
+        self.lower = lower
+        self.upper = upper
+        self.goals = goals
+        self.limit = limit
+
+
+class Lent:
+    """The lent buffers that a call may write: the tableau lies flat, m + n to a row."""
+
+    def __init__(self, tableau, values, strides):
+        self.tableau = tableau
+        self.values = values
+        self.strides = strides
+
+
+class Beyond(Exception):
+    """Refusal 7: “a subtraction of these steps leaves a number beyond ±M”."""
+
+
+# ---------------------------------------------------------------- causes 1 to 6
+
+def counts_outside(problem):
+    """“n or m outside”."""
+    return (not MIN_COLUMNS <= problem.n <= MAX_COLUMNS
+            or not 0 <= problem.m <= MAX_ROWS)
+
+
+def wrong_length(problem, lent):
+    """“a lent length not exactly what n and m need”."""
+    n, m = problem.n, problem.m
+    return (len(problem.coefficients) != m * n
+            or len(problem.rights) != m
+            or len(problem.lower) != n
+            or len(problem.upper) != n
+            or len(problem.goals) != n
+            or len(lent.tableau) != n * (m + n)
+            or len(lent.values) != n
+            or len(lent.strides) != n)
+
+
+def row_number_outside(problem):
+    """“Coefficients −1,000 to 1,000. Right sides −1,000,000 to 1,000,000.”"""
+    return (any(abs(a) > MAX_COEFFICIENT for a in problem.coefficients)
+            or any(abs(b) > MAX_RIGHT for b in problem.rights))
+
+
+def bound_outside(problem):
+    """“a lower and an upper bound, both within ±1,000,000, lower at most upper”."""
+    return any(abs(low) > MAX_BOUND or abs(high) > MAX_BOUND or low > high
+               for low, high in zip(problem.lower, problem.upper))
+
+
+def goal_outside(problem):
+    """“0 (no goal) to 1,000,000,000. A column with a goal has lower bound 1 or more.”"""
+    return any(not 0 <= goal <= MAX_GOAL or (goal > 0 and low < 1)
+               for goal, low in zip(problem.goals, problem.lower))
+
+
+def limit_outside(problem):
+    """“Step limit 0 to 65,535.”"""
+    return not 0 <= problem.limit <= MAX_LIMIT
+
+
+def first_cause(problem, lent):
+    """“Order: 1 to 6, ...” - the first of causes 1 to 6 that holds, 0 if none does."""
+    if counts_outside(problem):
+        return COUNTS_OUTSIDE
+    if wrong_length(problem, lent):
+        return WRONG_LENGTH
+    if row_number_outside(problem):
+        return ROW_NUMBER_OUTSIDE
+    if bound_outside(problem):
+        return BOUND_OUTSIDE
+    if goal_outside(problem):
+        return GOAL_OUTSIDE
+    if limit_outside(problem):
+        return LIMIT_OUTSIDE
+    return 0
+
+
+# ------------------------------------------------------------------ the tableau
+
+def fill(problem):
+    """“table row j is column j of the matrix (m numbers), then the j-th unit list”."""
+    n, m = problem.n, problem.m
+    table = []
+    for j in range(n):
+        column = [problem.coefficients[i * n + j] for i in range(m)]
+        unit = [1 if k == j else 0 for k in range(n)]
+        table.append(column + unit)
+    return table
+
+
+def subtract(row, quotient, pivot_row):
+    """One subtraction; refusal 7 is judged on each number that it leaves."""
+    left = [a - quotient * b for a, b in zip(row, pivot_row)]
+    if any(abs(number) > M for number in left):
+        raise Beyond
+    return left
+
+
+def choose_pivot(table, k, c):
+    """“choose the smallest magnitude other than 0, ties to the upper row”."""
+    chosen = None
+    for j in range(k, len(table)):
+        entry = abs(table[j][c])
+        if entry != 0 and (chosen is None or entry < abs(table[chosen][c])):
+            chosen = j
+    return chosen
+
+
+def gather(table, k, c):
+    """“Gathering works on the tableau from row k to the last.”
+
+    True if a pivot was gathered into row k, False if “all entries at c there are 0”.
+    """
+    chosen = choose_pivot(table, k, c)
+    if chosen is None:
+        return False
+    while True:
+        # “swap it with row k; negate row k if its entry p is negative”
+        table[k], table[chosen] = table[chosen], table[k]
+        if table[k][c] < 0:
+            table[k] = [-number for number in table[k]]
+        p = table[k][c]
+        # “From each lower row with a nonzero entry subtract the quotient (entry
+        # by p) times row k; the quotient is rounded down” - as // does in Python.
+        for j in range(k + 1, len(table)):
+            if table[j][c] != 0:
+                table[j] = subtract(table[j], table[j][c] // p, table[k])
+        # “Repeat until all lower entries are 0.”
+        if all(table[j][c] == 0 for j in range(k + 1, len(table))):
+            return True
+        chosen = choose_pivot(table, k, c)
+
+
+def reduce_above(table, k, c):
+    """“Then from each row above k, top first, subtract the rounded-down quotient
+    times row k, so that its entry lies in 0 to p − 1.”"""
+    p = table[k][c]
+    for j in range(k):
+        table[j] = subtract(table[j], table[j][c] // p, table[k])
+
+
+def bring_to_form(table):
+    """“Start with k = 1 and take the table's columns c from left to right while
+    k ≤ n.” Returns the lead column of each table row."""
+    leads = []
+    for c in range(len(table[0])):
+        k = len(leads)
+        if k == len(table):
+            break
+        if gather(table, k, c):
+            reduce_above(table, k, c)
+            leads.append(c)
+    return leads
+
+
+def flat(table):
+    """The tableau as it lies in its buffer, row after row."""
+    return [number for row in table for number in row]
+
+
+# --------------------------------------------------- right side, basis, strides
+
+def starting_list(table, leads, rights):
+    """“Take the list (−b, then n zeros).” Returns the starting list, or None if
+    “no whole numbers satisfy the rows”."""
+    n, m = len(table), len(rights)
+    rest = [-b for b in rights] + [0] * n
+    # “With each table row whose lead lies in the first m columns, top first,
+    # subtract the rounded-down quotient times that row.”
+    for row, lead in zip(table, leads):
+        if lead < m:
+            rest = subtract(rest, rest[lead] // row[lead], row)
+    # “If one of the first m numbers is then not 0, no whole numbers satisfy the rows.”
+    if any(number != 0 for number in rest[:m]):
+        return None
+    # “Otherwise go on with the remaining table rows; the last n numbers are the
+    # starting list.”
+    for row, lead in zip(table, leads):
+        if lead >= m:
+            rest = subtract(rest, rest[lead] // row[lead], row)
+    return rest[m:]
+
+
+def basis_of(table, leads, m):
+    """“The remaining table rows, without their m zeros, are the basis.”"""
+    return [row[m:] for row, lead in zip(table, leads) if lead >= m]
+
+
+def divisor(a, b):
+    """“The divisor of a number and 0 is that number; otherwise it is that of the
+    second and the remainder.”"""
+    return a if b == 0 else divisor(b, a % b)
+
+
+def strides_of(basis, n):
+    """“Stride of a column: the greatest common divisor of its entries' magnitudes
+    in the basis, 0 if all are 0.”"""
+    strides = [0] * n
+    for vector in basis:
+        for j in range(n):
+            strides[j] = divisor(strides[j], abs(vector[j]))
+    return strides
+
+
+# --------------------------------------------------------------------- seating
+
+def into_bounds(value, low, high):
+    """“then bring it into the bounds”."""
+    return max(low, min(high, value))
+
+
+def goal_ideal(goal):
+    """“k is floor(g/1000); take 1 if k = 0, k + 1 if k(k + 1) × 1,000,000 < g × g,
+    else k” - before it is brought into the bounds."""
+    k = goal // 1000
+    if k == 0:
+        return 1
+    if k * (k + 1) * 1000000 < goal * goal:
+        return k + 1
+    return k
+
+
+def ideal(problem, j, present):
+    """“The ideal of a column with goal g ... Without a goal it is the present value
+    brought into the bounds.”"""
+    wanted = goal_ideal(problem.goals[j]) if problem.goals[j] > 0 else present
+    return into_bounds(wanted, problem.lower[j], problem.upper[j])
+
+
+def lead_of(vector):
+    """The lead column of a basis vector: its first entry that is not 0."""
+    return next(j for j, entry in enumerate(vector) if entry != 0)
+
+
+def seat(problem, basis, values):
+    """“For N1 to Nr in order, with lead column c and lead p: let d be the ideal of
+    c less the present value there; add floor((2d + p) / 2p) times the vector.”
+
+    Returns the seated list, or None if it met “a value beyond ±M after a seating
+    addition” (refusal 9)."""
+    for vector in basis:
+        c = lead_of(vector)
+        p = vector[c]
+        d = ideal(problem, c, values[c]) - values[c]
+        times = (2 * d + p) // (2 * p)
+        values = [value + times * entry for value, entry in zip(values, vector)]
+        if any(abs(value) > M for value in values):
+            return None
+    return values
+
+
+# ----------------------------------------------------------- moves and settling
+
+def moves_in_order(basis):
+    """“Moves in order: +N1, −N1, +N2 and on; then the pairs s < t in rising (s, t),
+    each as ++, +−, −+, −−.”"""
+    for vector in basis:
+        for sign in (1, -1):
+            yield [sign * entry for entry in vector]
+    for s in range(len(basis)):
+        for t in range(s + 1, len(basis)):
+            for sign_s, sign_t in ((1, 1), (1, -1), (-1, 1), (-1, -1)):
+                yield [sign_s * a + sign_t * b for a, b in zip(basis[s], basis[t])]
+
+
+def moves_by_column(basis, n):
+    """For each column, in order, the moves that change it. A move is kept as its
+    changes: (column, change) for each column it changes."""
+    by_column = [[] for _ in range(n)]
+    for move in moves_in_order(basis):
+        changes = [(j, change) for j, change in enumerate(move) if change != 0]
+        for j, _ in changes:
+            by_column[j].append(changes)
+    return by_column
+
+
+def distance(problem, j, value):
+    """“A column's distance is how far it lies outside its bounds.”"""
+    return max(problem.lower[j] - value, value - problem.upper[j], 0)
+
+
+def ratio(goal, value):
+    """“Its ratio, for goal g and value v of 1 or more, is the larger of 1000v/g and
+    g/1000v” - as a pair, numerator and denominator."""
+    thousandths = 1000 * value
+    return (thousandths, goal) if thousandths >= goal else (goal, thousandths)
+
+
+def compare_ratios(a, b):
+    """“compared exactly by cross products”: below 0, 0 or above 0."""
+    return a[0] * b[1] - b[0] * a[1]
+
+
+def rank_by_distance(problem, values):
+    """“Columns with a distance above 0, largest first, ties to the lower column.”"""
+    distances = [distance(problem, j, value) for j, value in enumerate(values)]
+    far = [j for j in range(problem.n) if distances[j] > 0]
+    return sorted(far, key=lambda j: (-distances[j], j))
+
+
+def rank_by_ratio(problem, values):
+    """“Columns with a goal, largest ratio first, same ties.”"""
+    ratios = [ratio(goal, value) if goal > 0 else None
+              for goal, value in zip(problem.goals, values)]
+    wanted = [j for j in range(problem.n) if problem.goals[j] > 0]
+
+    def order(a, b):
+        return compare_ratios(ratios[b], ratios[a]) or a - b
+
+    return sorted(wanted, key=functools.cmp_to_key(order))
+
+
+def improves_bounds(problem, values, changes, old):
+    """“every column it changes then has a distance below i's old one, and every
+    value lies within ±M”. Columns that are not changed lie within ±M already."""
+    for j, change in changes:
+        value = values[j] + change
+        if distance(problem, j, value) >= old or abs(value) > M:
+            return False
+    return True
+
+
+def improves_goals(problem, values, changes, old):
+    """“all values are then in bounds, and every changed column with a goal has a
+    ratio below i's old one”. Columns that are not changed are in bounds already."""
+    for j, change in changes:
+        value = values[j] + change
+        if not problem.lower[j] <= value <= problem.upper[j]:
+            return False
+        goal = problem.goals[j]
+        if goal > 0 and compare_ratios(ratio(goal, value), old) >= 0:
+            return False
+    return True
+
+
+def bounds_step(problem, by_column, values):
+    """“A step takes the first column with an improving move, and its first such
+    move” - in the bounds part. None if no move improves."""
+    for i in rank_by_distance(problem, values):
+        old = distance(problem, i, values[i])
+        for changes in by_column[i]:
+            if improves_bounds(problem, values, changes, old):
+                return changes
+    return None
+
+
+def goals_step(problem, by_column, values):
+    """The same in the goals part."""
+    for i in rank_by_ratio(problem, values):
+        old = ratio(problem.goals[i], values[i])
+        for changes in by_column[i]:
+            if improves_goals(problem, values, changes, old):
+                return changes
+    return None
+
+
+def settle(problem, basis, values):
+    """“The limit covers both parts together.” Returns the verdict, the step counts
+    of the two parts and the final values."""
+    by_column = moves_by_column(basis, problem.n)
+    values = list(values)
+    bounds_count = goals_count = 0
+    while True:
+        # “Bounds part, while some distance is above 0”; “Goals part, once all
+        # distances are 0”. “Then the ranking is made anew.”
+        outside = any(distance(problem, j, value) > 0
+                      for j, value in enumerate(values))
+        find_step = bounds_step if outside else goals_step
+        changes = find_step(problem, by_column, values)
+        # “FITTED: all in bounds and no move improves. OUTSIDE: some column out of
+        # bounds and no move improves.”
+        if changes is None:
+            verdict = OUTSIDE if outside else FITTED
+            return verdict, bounds_count, goals_count, values
+        # “SPENT: limit reached and some move still improves.”
+        if bounds_count + goals_count == problem.limit:
+            return SPENT, bounds_count, goals_count, values
+        for j, change in changes:
+            values[j] += change
+        if outside:
+            bounds_count += 1
+        else:
+            goals_count += 1
+
+
+# ------------------------------------------------------------------- the calls
+
+def satisfies_rows(problem, values):
+    """“in each row the coefficients times these numbers add up to the right side”."""
+    n = problem.n
+    for i in range(problem.m):
+        row = problem.coefficients[i * n:(i + 1) * n]
+        if sum(a * v for a, v in zip(row, values)) != problem.rights[i]:
+            return False
+    return True
+
+
+def list_not_fit(problem, values):
+    """“Continue: list beyond ±M or failing a row”."""
+    return any(abs(value) > M for value in values) or not satisfies_rows(problem, values)
+
+
+def finish(problem, lent, basis, values):
+    """“A whole assignment or a Continue that isn't refused leaves the form in the
+    tableau, the final values in the interval list and the strides in theirs.”"""
+    verdict, bounds_count, goals_count, final = settle(problem, basis, values)
+    lent.values[:] = final
+    lent.strides[:] = strides_of(basis, problem.n)
+    return verdict, bounds_count, goals_count
+
+
+def assign(problem, lent):
+    """“A whole assignment is the tableau, the right side, seating and settling.”"""
+    cause = first_cause(problem, lent)
+    if cause:
+        return cause, 0, 0
+    table = fill(problem)
+    try:
+        leads = bring_to_form(table)
+        start = starting_list(table, leads, problem.rights)
+    except Beyond:
+        # “tableau all 0, lists as before”
+        lent.tableau[:] = [0] * len(lent.tableau)
+        return ELIMINATION_BEYOND, 0, 0
+    # “tableau the form”, from here on with a refusal as with a verdict
+    lent.tableau[:] = flat(table)
+    if start is None:
+        return NO_WHOLE_NUMBERS, 0, 0
+    basis = basis_of(table, leads, problem.m)
+    seated = seat(problem, basis, start)
+    if seated is None:
+        return SEATING_BEYOND, 0, 0
+    return finish(problem, lent, basis, seated)
+
+
+def cont(problem, lent):
+    """“Continue settles a lent list that satisfies the rows. It forms the tableau
+    but takes neither the right-side step nor seating.”"""
+    cause = first_cause(problem, lent)
+    if cause:
+        return cause, 0, 0
+    if list_not_fit(problem, lent.values):
+        return LIST_NOT_FIT, 0, 0
+    table = fill(problem)
+    try:
+        leads = bring_to_form(table)
+    except Beyond:
+        lent.tableau[:] = [0] * len(lent.tableau)
+        return ELIMINATION_BEYOND, 0, 0
+    lent.tableau[:] = flat(table)
+    basis = basis_of(table, leads, problem.m)
+    return finish(problem, lent, basis, lent.values)

@@ -1,0 +1,749 @@
+"""Random cases for the plain model, the same for the same seed.
+
+    python3 model/generate.py problems COUNT SEED
+        prints COUNT problems on buffers, each with the model's answer
+    python3 model/generate.py texts COUNT SEED DIR
+        writes COUNT deck texts as DIR/00001.txt and on, each with the model's
+        listing beside it as DIR/00001.listing
+
+A problem is printed as lines of fields parted by one space:
+
+    case NUMBER CALL n m limit           CALL is assign or continue
+    coefficients LENGTH numbers...
+    rights LENGTH numbers...
+    lower LENGTH numbers...
+    upper LENGTH numbers...
+    goals LENGTH numbers...
+    tableau LENGTH numbers...            the lent buffers before the call
+    values LENGTH numbers...
+    strides LENGTH numbers...
+    answer OUTCOME BOUNDS GOALS          a verdict or a refusal's number, the counts
+    tableau LENGTH numbers...            the lent buffers after the call
+    values LENGTH numbers...
+    strides LENGTH numbers...
+
+Counts and limits are never negative and no number is beyond 64 signed bits, so a
+caller with unsigned counts can take every case.
+
+To import: problems(count, seed) yields Case objects, texts(count, seed) yields
+bytes; problem_case(rng) and text_case(rng) make one.
+"""
+
+import os
+import random
+import sys
+
+from engine import (M, MAX_BOUND, MAX_COEFFICIENT, MAX_COLUMNS, MAX_GOAL, MAX_LIMIT,
+                    MAX_RIGHT, MAX_ROWS, Lent, Problem, assign, cont)
+from listing import listing
+from text import MAX_TEXT
+
+BIGGEST = 2 ** 63 - 1
+SMALLEST = -2 ** 63
+
+
+def rng_for(seed, number):
+    """The source of chance of one case, so that each case can be made alone."""
+    return random.Random(seed * 1000003 + number)
+
+
+# ------------------------------------------------------------ problems on buffers
+
+class Case:
+    """A call on buffers: call is “assign” or “continue”."""
+
+    def __init__(self, call, problem, lent):
+        self.call = call
+        self.problem = problem
+        self.lent = lent
+
+    def run(self):
+        """Runs the model on the lent buffers and returns its answer."""
+        return (assign if self.call == "assign" else cont)(self.problem, self.lent)
+
+
+def noise(rng, length):
+    """What a lent buffer may hold before a call: anything."""
+    big = rng.random() < 0.2
+    low, high = (SMALLEST, BIGGEST) if big else (-99, 99)
+    return [rng.randint(low, high) for _ in range(length)]
+
+
+def noisy_lent(rng, n, m):
+    return Lent(noise(rng, n * (m + n)), noise(rng, n), noise(rng, n))
+
+
+def products(n, m, coefficients, values):
+    """What each row's coefficients times the values add up to."""
+    return [sum(coefficients[i * n + j] * values[j] for j in range(n))
+            for i in range(m)]
+
+
+def random_matrix(rng, n, m, size, density):
+    return [rng.choice([-1, 1]) * rng.randint(1, size) if rng.random() < density else 0
+            for _ in range(m * n)]
+
+
+def random_columns(rng, n, spread, goals):
+    """Lower bounds, upper bounds and goals; goals is the chance of a goal."""
+    lower, upper, wanted = [], [], []
+    for _ in range(n):
+        goal = 0
+        low = rng.randint(-spread, spread)
+        if rng.random() < goals:
+            goal = rng.randint(1, 2000 * spread)
+            low = rng.randint(1, spread)
+        lower.append(low)
+        upper.append(low + rng.choice([0, 1, 2, spread, 10 * spread]))
+        wanted.append(goal)
+    return lower, upper, wanted
+
+
+def columns_around(rng, values, spread, goals):
+    """The same with bounds that the values lie in."""
+    lower, upper, wanted = [], [], []
+    for value in values:
+        low = value - rng.randint(0, spread)
+        if value >= 1 and rng.random() < goals:
+            low = max(low, 1)
+        lower.append(low)
+        upper.append(value + rng.randint(0, spread))
+        wanted.append(rng.randint(1, 2000 * spread)
+                      if low >= 1 and rng.random() < goals else 0)
+    return lower, upper, wanted
+
+
+def random_limit(rng):
+    return rng.choice([0, 1, 2, 3, 10, 1000, 10000, 10000, MAX_LIMIT])
+
+
+def solvable_problem(rng, n, m, size, density, spread):
+    """Rows that a random list satisfies; returns the problem and that list."""
+    coefficients = random_matrix(rng, n, m, size, density)
+    hidden = [rng.randint(-spread, 2 * spread) for _ in range(n)]
+    rights = products(n, m, coefficients, hidden)
+    if any(abs(b) > MAX_RIGHT for b in rights):
+        hidden = [0] * n
+        rights = [0] * m
+    goals = rng.choice([0, 0.5, 1])
+    if rng.random() < 0.5:
+        columns = columns_around(rng, hidden, spread, goals)
+    else:
+        columns = random_columns(rng, n, spread, goals)
+    problem = Problem(n, m, coefficients, rights, *columns, random_limit(rng))
+    return problem, hidden
+
+
+def small_problem(rng):
+    n = rng.randint(1, 4)
+    m = rng.randint(0, 3)
+    return solvable_problem(rng, n, m, rng.choice([1, 2, 3, 7]), 0.7, rng.choice([3, 10]))
+
+
+def middle_problem(rng):
+    n = rng.randint(4, 10)
+    m = rng.randint(0, n + 1)
+    return solvable_problem(rng, n, m, rng.choice([1, 2, 3]), rng.choice([0.2, 0.5]), 10)
+
+
+def wild_problem(rng):
+    """Rows without a known list: many are “none”."""
+    problem, hidden = small_problem(rng)
+    problem.rights = [rng.randint(-9, 9) for _ in range(problem.m)]
+    return problem, hidden
+
+
+def heavy_problem(rng):
+    """Dense rows of large coefficients: many meet refusal 7."""
+    n = rng.randint(3, 8)
+    m = rng.randint(1, n)
+    size = rng.choice([10, 100, MAX_COEFFICIENT])
+    return solvable_problem(rng, n, m, size, 0.9, 10)
+
+
+def heavy_wild_problem(rng):
+    """Large coefficients and right sides of any size: 7 and “none” in either order."""
+    problem, hidden = heavy_problem(rng)
+    problem.rights = [rng.choice([0, 1, MAX_RIGHT, -MAX_RIGHT,
+                                  rng.randint(-MAX_RIGHT, MAX_RIGHT)])
+                      for _ in range(problem.m)]
+    return problem, hidden
+
+
+def large_problem(rng):
+    """Many columns, sparse rows of 1 and -1, as structures make them."""
+    n = rng.choice([16, 24, 32, MAX_COLUMNS])
+    m = rng.choice([n // 4, n // 2, n, MAX_ROWS])
+    coefficients = [0] * (m * n)
+    for i in range(m):
+        for _ in range(rng.choice([2, 2, 2, 3, 4])):
+            coefficients[i * n + rng.randrange(n)] = rng.choice([-1, 1])
+    hidden = [rng.randint(1, 12) for _ in range(n)]
+    rights = products(n, m, coefficients, hidden)
+    lower, upper, goals = random_columns(rng, n, 8, rng.choice([0.5, 1]))
+    limit = rng.choice([0, 1, 5, 40])
+    return Problem(n, m, coefficients, rights, lower, upper, goals, limit), hidden
+
+
+def extreme_counts(rng):
+    """The least and the greatest n and m."""
+    n, m = rng.choice([(1, 0), (1, MAX_ROWS), (MAX_COLUMNS, 0), (2, MAX_ROWS), (7, 0)])
+    problem, hidden = solvable_problem(rng, n, m, 1, 0.5, 4)
+    problem.limit = min(problem.limit, 40)
+    return problem, hidden
+
+
+def chain_problem(rng):
+    """Chains f × v(k) = v(k + 1), whose numbers grow towards M and past it."""
+    n = rng.randint(2, 6)
+    m = n - 1
+    coefficients = [0] * (m * n)
+    for k in range(m):
+        coefficients[k * n + k] = rng.choice([10, 37, 100, 999, MAX_COEFFICIENT])
+        coefficients[k * n + k + 1] = rng.choice([-1, -1, -1, 1, -2])
+    low = rng.choice([0, 1, 1])
+    goals = [rng.choice([0, 1000, MAX_GOAL]) if low else 0 for _ in range(n)]
+    high = rng.choice([10, MAX_BOUND, MAX_BOUND])
+    problem = Problem(n, m, coefficients, [0] * m, [low] * n, [high] * n, goals,
+                      rng.choice([0, 10, 100]))
+    return problem, [0] * n
+
+
+def near_m_problem(rng):
+    """A chain that builds up M digit by digit, three at a time, give or take 2:
+    M is 2147483647, which is ((2 × 1000 + 147) × 1000 + 483) × 1000 + 647."""
+    digits = [2, 147, 483, 647 + rng.randint(-2, 2)]
+    sign = rng.choice([-1, 1])
+    n, m = 5, 4
+    coefficients = [0] * (m * n)
+    rights = [0] * m
+    for k, digit in enumerate(digits):
+        coefficients[k * n + k + 1] = -1
+        if k > 0:
+            coefficients[k * n + k] = MAX_COEFFICIENT
+        coefficients[k * n] += sign * digit
+    lower = [-MAX_BOUND] * n
+    if rng.random() < 0.5:
+        # the first column is prescribed, so that the right side grows
+        coefficients = [1] + [0] * (n - 1) + coefficients
+        rights = [rng.choice([-1, 1, 2])] + rights
+        m = 5
+    else:
+        # the first column has a lower bound, so that seating grows
+        lower[0] = rng.choice([-MAX_BOUND, 1, 1, 2])
+        rights[-1] = rng.randint(-2, 2)
+    problem = Problem(n, m, coefficients, rights, lower, [MAX_BOUND] * n, [0] * n,
+                      rng.choice([0, 3, 100]))
+    return problem, [0] * n
+
+
+def there_and_back_problem(rng):
+    """w = f × (v1 − v2), x = f × w: seating v1 takes x far out, v2 brings it back."""
+    f = rng.choice([10, 100, MAX_COEFFICIENT])
+    coefficients = [f, -f, -1, 0,
+                    0, 0, f, -1]
+    goal = rng.choice([1000, 2000000, 2148000, 3000000])
+    goals = [goal, goal + rng.choice([0, 1000]), 0, 0]
+    problem = Problem(4, 2, coefficients, [0, 0], [1, 1, -9, -MAX_BOUND],
+                      [MAX_BOUND] * 4, goals, rng.choice([0, 3, 100]))
+    return problem, [0] * 4
+
+
+FAMILIES = [small_problem] * 6 + [middle_problem] * 4 + [wild_problem] * 3 + [
+    heavy_problem, heavy_problem, heavy_wild_problem, large_problem, extreme_counts,
+    chain_problem, near_m_problem, there_and_back_problem]
+
+
+def repeat_rows(rng, problem):
+    """Makes the last row a copy or a multiple of the first, true or false."""
+    n, m = problem.n, problem.m
+    if m < 2:
+        return
+    factor = rng.choice([1, -1, 2])
+    row = [factor * a for a in problem.coefficients[:n]]
+    if any(abs(a) > MAX_COEFFICIENT for a in row):
+        return
+    problem.coefficients[(m - 1) * n:] = row
+    problem.rights[m - 1] = factor * problem.rights[0]
+    if abs(problem.rights[m - 1]) > MAX_RIGHT or rng.random() < 0.3:
+        problem.rights[m - 1] = rng.randint(-3, 3)
+
+
+def put(rng, numbers, value):
+    """Puts the value somewhere among the numbers, if there are any."""
+    if numbers:
+        numbers[rng.randrange(len(numbers))] = value
+
+
+def past(rng, low, high):
+    """A number at a limit or past it."""
+    return rng.choice([low, high, low, high, low - 1, high + 1, low - 1, high + 1,
+                       SMALLEST, BIGGEST])
+
+
+def change_a_number(rng, problem, lent):
+    """Sets one number at or past its limit, or one count, or one length."""
+    what = rng.randrange(9)
+    if what == 0:
+        problem.n = rng.choice([0, MAX_COLUMNS + 1, problem.n + 1, MAX_COLUMNS, 2 ** 32])
+    elif what == 1:
+        problem.m = rng.choice([MAX_ROWS + 1, problem.m + 1, 0, MAX_ROWS, 2 ** 32])
+    elif what == 2:
+        put(rng, problem.coefficients, past(rng, -MAX_COEFFICIENT, MAX_COEFFICIENT))
+    elif what == 3:
+        put(rng, problem.rights, past(rng, -MAX_RIGHT, MAX_RIGHT))
+    elif what == 4:
+        put(rng, rng.choice([problem.lower, problem.upper]),
+            past(rng, -MAX_BOUND, MAX_BOUND))
+    elif what == 5:
+        put(rng, problem.goals, past(rng, 0, MAX_GOAL))
+    elif what == 6:
+        problem.limit = rng.choice([MAX_LIMIT, MAX_LIMIT + 1, 2 ** 31, BIGGEST])
+    elif what == 7:
+        j = rng.randrange(min(len(problem.lower), len(problem.upper)) or 1)
+        low, high = problem.lower[j:j + 1], problem.upper[j:j + 1]
+        problem.lower[j:j + 1], problem.upper[j:j + 1] = high, low
+    else:
+        buffer = rng.choice([problem.coefficients, problem.rights, problem.lower,
+                             problem.upper, problem.goals, lent.tableau, lent.values,
+                             lent.strides])
+        if buffer and rng.random() < 0.5:
+            buffer.pop()
+        else:
+            buffer.append(0)
+
+
+def continue_list(rng, hidden):
+    """A list for Continue: mostly the hidden one, or a spoilt one, or one near ±M."""
+    values = list(hidden)
+    what = rng.randrange(8)
+    if what == 0:
+        put(rng, values, rng.choice([M, -M, M + 1, -M - 1, SMALLEST, BIGGEST]))
+    elif what == 1:
+        put(rng, values, rng.randint(-20, 20))
+    elif what == 2:
+        values = [rng.choice([M, -M, M - 1, 1 - M])] * len(values)
+    return values
+
+
+def tie_columns(rng, problem):
+    """Puts rows a × v(i) = b × v(j) for the rows, so that lists far out satisfy some
+    of them and ±M limits the moves."""
+    n, m = problem.n, problem.m
+    problem.coefficients = [0] * (m * n)
+    problem.rights = [0] * m
+    for i in range(m):
+        a, b = rng.randrange(n), rng.randrange(n)
+        problem.coefficients[i * n + a] += rng.choice([1, 2])
+        problem.coefficients[i * n + b] -= rng.choice([1, 2])
+
+
+def problem_case(rng):
+    """One call on buffers."""
+    problem, hidden = rng.choice(FAMILIES)(rng)
+    if rng.random() < 0.15:
+        repeat_rows(rng, problem)
+    lent = noisy_lent(rng, problem.n, problem.m)
+    call = rng.choice(["assign", "assign", "continue"])
+    if call == "continue":
+        if rng.random() < 0.1:
+            tie_columns(rng, problem)
+            hidden = [rng.choice([0, M, M, -M])] * problem.n
+            problem.limit = min(problem.limit, 40)
+        lent.values = continue_list(rng, hidden)
+    for _ in range(rng.choice([0, 0, 0, 0, 0, 0, 1, 1, 2])):
+        change_a_number(rng, problem, lent)
+    if problem.limit <= MAX_LIMIT and any(abs(bound) > 1000 for bound in
+                                          problem.lower + problem.upper):
+        # far bounds take many steps; keep the run short
+        problem.limit = min(problem.limit, 300)
+    return Case(call, problem, lent)
+
+
+def problems(count, seed):
+    """Yields count calls on buffers."""
+    for number in range(1, count + 1):
+        yield problem_case(rng_for(seed, number))
+
+
+# ---------------------------------------------------------------------- deck texts
+
+class Sketch:
+    """A deck in the making: intervals as (lower, upper, goal), rows as (kind,
+    number, terms) with terms as (index from 1, coefficient)."""
+
+    def __init__(self):
+        self.intervals = []
+        self.rows = []
+
+    def curve(self, goal, lower=1, upper=MAX_BOUND):
+        """Adds an interval and returns its index."""
+        self.intervals.append((lower, upper, goal))
+        return len(self.intervals)
+
+    def row(self, kind, number, terms):
+        """Adds a row; terms of the same index are added up."""
+        added = {}
+        for index, coefficient in terms:
+            added[index] = added.get(index, 0) + coefficient
+        self.rows.append((kind, number,
+                          [(i, c) for i, c in sorted(added.items()) if c != 0]))
+
+    def equal(self, one_side, other_side, number=0):
+        """The curves of two opposite sides add up to the same."""
+        self.row(0, number, [(i, 1) for i in one_side] + [(i, -1) for i in other_side])
+
+    def even(self, loop, half):
+        """The curves of a loop add up to an even number, at least twice the half."""
+        self.row(3, half, [(i, 1) for i in loop])
+
+    def tokens(self):
+        """The numbers of the text, line by line."""
+        lines = [[len(self.intervals)]]
+        lines += [list(interval) for interval in self.intervals]
+        lines.append([len(self.rows)])
+        for kind, number, terms in self.rows:
+            line = [kind, number, len(terms)]
+            for term in terms:
+                line += term
+            lines.append(line)
+        return [[b"%d" % number for number in line] for line in lines]
+
+    def fits(self):
+        ys = sum(1 for kind, _, _ in self.rows if kind != 0)
+        return len(self.intervals) + ys <= MAX_COLUMNS and len(self.rows) <= MAX_ROWS
+
+
+def goal_of(length, size):
+    """A goal in thousandths of an interval, from a curve's length and the wanted
+    mesh size, both in millimetres."""
+    return max(1, min(MAX_GOAL, 1000 * length // size))
+
+
+def random_goal(rng):
+    return goal_of(rng.randint(300, 6000), rng.choice([50, 100, 200, 250, 400]))
+
+
+def panel_grid(rng, sketch, rows, columns):
+    """The curves of a grid of panels: sides[i, j] is (top, right, bottom, left)."""
+    across = {(i, j): sketch.curve(random_goal(rng))
+              for i in range(rows + 1) for j in range(columns)}
+    down = {(i, j): sketch.curve(random_goal(rng))
+            for i in range(rows) for j in range(columns + 1)}
+    return [(across[i, j], down[i, j + 1], across[i + 1, j], down[i, j])
+            for i in range(rows) for j in range(columns)]
+
+
+def mapped_deck(rng):
+    """Mapped panels: the two curves of each pair of opposite sides are equal."""
+    sketch = Sketch()
+    for top, right, bottom, left in panel_grid(rng, sketch, rng.randint(1, 3),
+                                               rng.randint(1, 4)):
+        sketch.equal([top], [bottom])
+        sketch.equal([left], [right])
+    return sketch
+
+
+def paved_deck(rng):
+    """Paved panels and round holes: each loop is even."""
+    sketch = Sketch()
+    for sides in panel_grid(rng, sketch, rng.randint(1, 2), rng.randint(1, 3)):
+        sketch.even(sides, 2)
+    for _ in range(rng.randint(0, 2)):
+        sketch.even([sketch.curve(random_goal(rng))], 3)
+    return sketch
+
+
+def submapped_deck(rng):
+    """Submapped panels: sides of several curves, some with a notch."""
+    sketch = Sketch()
+    for _ in range(rng.randint(1, 4)):
+        top = [sketch.curve(random_goal(rng)) for _ in range(rng.randint(1, 3))]
+        bottom = [sketch.curve(random_goal(rng)) for _ in range(rng.randint(1, 3))]
+        sketch.equal(top, bottom)
+        if len(top) > 1:
+            sketch.row(1, 1, [(top[0], 1), (top[1], -1)])
+        if rng.random() < 0.4:
+            sketch.row(2, rng.randint(5, 40), [(i, 1) for i in bottom])
+    return sketch
+
+
+def radish_deck(rng):
+    """A side of r tied curves opposite a side of s tied curves, or the same folded."""
+    sketch = Sketch()
+    r, s = rng.choice([(3, 2), (7, 5), (4, 3), (9, 4), (79, 74)])
+    goal = random_goal(rng)
+    if r + s > 20:
+        sketch.row(0, 0, [(sketch.curve(goal), r), (sketch.curve(goal), -s)])
+        return sketch
+    sides = []
+    for count in (r, s):
+        side = [sketch.curve(goal) for _ in range(count)]
+        for one, other in zip(side, side[1:]):
+            sketch.equal([one], [other])
+        sides.append(side)
+    sketch.equal(sides[0], sides[1])
+    return sketch
+
+
+def midpoint_deck(rng):
+    """Midpoint triangles: each two sides are together 2 more than the third."""
+    sketch = Sketch()
+    shared = sketch.curve(random_goal(rng))
+    for _ in range(rng.randint(1, 4)):
+        a, b, c = shared, sketch.curve(random_goal(rng)), sketch.curve(random_goal(rng))
+        if rng.random() < 0.2:
+            low = rng.randint(1, 30)
+            b = sketch.curve(0, low, low + rng.randint(0, 3))
+        sketch.row(1, 2, [(a, 1), (b, 1), (c, -1)])
+        sketch.row(1, 2, [(a, 1), (b, -1), (c, 1)])
+        sketch.row(1, 2, [(a, -1), (b, 1), (c, 1)])
+        shared = c
+    return sketch
+
+
+def parity_deck(rng):
+    """A paved loop of tied pairs and a prescribed curve: none if that is odd."""
+    sketch = Sketch()
+    loop = []
+    for _ in range(rng.randint(1, 3)):
+        a, b = sketch.curve(random_goal(rng)), sketch.curve(random_goal(rng))
+        sketch.equal([a], [b])
+        loop += [a, b]
+    prescribed = sketch.curve(0)
+    sketch.row(0, rng.randint(1, 9), [(prescribed, 1)])
+    sketch.even(loop + [prescribed], 2)
+    return sketch
+
+
+def chain_deck(rng):
+    """A chain of ratios, from harmless to beyond M."""
+    sketch = Sketch()
+    factor = rng.choice([1, 2, 10, 100, MAX_COEFFICIENT])
+    curves = [sketch.curve(rng.choice([0, 1000, MAX_GOAL]))
+              for _ in range(rng.randint(2, 6))]
+    for one, other in zip(curves, curves[1:]):
+        sketch.row(0, 0, [(one, factor), (other, -1)])
+    return sketch
+
+
+def any_deck(rng):
+    """Rows of every kind, with any terms and numbers."""
+    sketch = Sketch()
+    for _ in range(rng.randint(1, 6)):
+        lower = rng.choice([-5, 0, 1, 1, 2])
+        goal = rng.choice([0, random_goal(rng)]) if lower >= 1 else 0
+        sketch.curve(goal, lower, rng.choice([lower, lower + 3, 60, MAX_BOUND]))
+    count = len(sketch.intervals)
+    for _ in range(rng.randint(0, 4)):
+        terms = [(i, rng.choice([-2, -1, 1, 1, 3])) for i in range(1, count + 1)
+                 if rng.random() < 0.5]
+        kind = rng.randint(0, 3)
+        sketch.row(kind, rng.randint(0, 6) if kind == 3 else rng.randint(-9, 30), terms)
+    return sketch
+
+
+def edge_deck(rng):
+    """Decks at the limits: 48 columns, 48 rows, a 49th column, greatest numbers."""
+    sketch = Sketch()
+    what = rng.randrange(5)
+    if what == 0:
+        for _ in range(MAX_COLUMNS):
+            sketch.curve(random_goal(rng))
+    elif what == 1:
+        for _ in range(MAX_COLUMNS - 3):
+            sketch.curve(0, 1, 20)
+        for i in range(rng.choice([3, 4])):
+            sketch.row(rng.randint(1, 3), 4, [(i + 1, 1), (i + 2, 1)])
+    elif what == 2:
+        a = sketch.curve(5000)
+        for _ in range(MAX_ROWS):
+            sketch.row(0, 5, [(a, 1)])
+    elif what == 3:
+        a = sketch.curve(MAX_GOAL, MAX_BOUND, MAX_BOUND)
+        b = sketch.curve(0, -MAX_BOUND, MAX_BOUND)
+        sketch.row(0, rng.choice([-MAX_RIGHT, MAX_RIGHT]),
+                   [(a, rng.choice([1, MAX_COEFFICIENT])), (b, -MAX_COEFFICIENT)])
+    else:
+        a = sketch.curve(3000)
+        sketch.row(3, MAX_BOUND, [(a, 1)])
+        sketch.row(0, 0, [])
+    return sketch
+
+
+DECKS = [mapped_deck, paved_deck, submapped_deck, radish_deck, midpoint_deck,
+         parity_deck, chain_deck, any_deck, any_deck, any_deck, edge_deck]
+
+
+def sketch_for(rng):
+    return rng.choice(DECKS)(rng)
+
+
+def join(lines):
+    """The usual lay-out of a text: one line for each interval and row."""
+    return b"".join(b" ".join(line) + b"\n" for line in lines)
+
+
+def scatter(rng, lines):
+    """The same numbers parted by any runs of byte 32 and 10."""
+    def run(least):
+        return bytes(rng.choice(b" \n") for _ in range(rng.randint(least, 3)))
+    return run(0) + b"".join(token + run(1) for line in lines for token in line)
+
+
+# Runs that are no number, and numbers out of any range.
+BAD_RUNS = [b"+5", b"007", b"00", b"-0", b"-", b"--1", b"1-1", b"5-", b"-05", b"1.0",
+            b"1e3", b"0x1", b"1_0", b"5\t6", b"\t", b"5\r", b"\r", b"5\x00", b"\x00",
+            b"\xff", b"5\xa0", b"\xd9\xa3", b"\xe2\x88\x925", b"x", b"1,5",
+            b"12345678901", b"-12345678901", b"00000000001", b"\x0b", b"\x0c", b"1#"]
+NUMBERS = [b"0", b"1", b"-1", b"2", b"3", b"4", b"5", b"48", b"49", b"1000", b"1001",
+           b"-1000", b"-1001", b"1000000", b"1000001", b"-1000000", b"-1000001",
+           b"1000000000", b"1000000001", b"9999999999", b"-9999999999", b"2147483648",
+           b"4294967297"]
+
+
+def place(rng, lines):
+    """Some line and some place in it."""
+    i = rng.randrange(len(lines))
+    return i, rng.randrange(len(lines[i]))
+
+
+def damage_tokens(rng, lines):
+    """Changes the numbers of a text."""
+    i, j = place(rng, lines)
+    what = rng.randrange(9)
+    if what == 0:
+        lines[i][j] = rng.choice(BAD_RUNS)
+    elif what in (1, 2, 3):
+        lines[i][j] = rng.choice(NUMBERS)
+    elif what == 4:
+        del lines[i][j]
+    elif what == 5:
+        lines[i].insert(j, rng.choice(NUMBERS + [lines[i][j]]))
+    elif what == 6:
+        k, l = place(rng, lines)
+        lines[i][j], lines[k][l] = lines[k][l], lines[i][j]
+    elif what == 7:
+        damage_row(rng, lines)
+    else:
+        lines.append([rng.choice(NUMBERS + BAD_RUNS)])
+
+
+def damage_row(rng, lines):
+    """Aims at the last row: its kind, count, index order or coefficient."""
+    row = lines[-1]
+    if len(row) < 5:
+        return
+    terms = (len(row) - 3) // 2
+    at = 3 + 2 * rng.randrange(terms)
+    what = rng.randrange(6)
+    if what == 0:
+        row[0] = rng.choice([b"-1", b"1", b"2", b"3", b"4"])
+    elif what == 1:
+        row[2] = rng.choice([b"-1", b"0", b"%d" % (terms + 1), b"48", b"49"])
+    elif what == 2:
+        row[at + 1] = b"0"
+    elif what == 3:
+        row[at] = rng.choice([b"0", b"-1", b"48", b"49", row[3]])
+    elif what == 4:
+        row[3:5], row[-2:] = row[-2:], row[3:5]
+    else:
+        row[1] = rng.choice([b"-1", b"1000000", b"1000001", b"-1000000", b"-1000001"])
+
+
+def damage_bytes(rng, data):
+    """Changes the bytes of a text."""
+    what = rng.randrange(7)
+    at = rng.randrange(len(data) + 1)
+    if what == 0:
+        return data[:at]
+    if what == 1:
+        return data[:at] + bytes([rng.randrange(256)]) + data[at + 1:]
+    if what == 2:
+        return data[:at] + bytes([rng.randrange(256)]) + data[at:]
+    if what == 3:
+        return data[:at] + data[at + 1:]
+    if what == 4:
+        return data.replace(b"\n", rng.choice([b"\r\n", b"\t", b"\r", b"\x00", b"  "]))
+    if what == 5:
+        size = rng.choice([MAX_TEXT - 1, MAX_TEXT, MAX_TEXT + 1, 2 * MAX_TEXT])
+        return data + bytes([rng.choice(b" \n")]) * (size - len(data))
+    size = rng.choice([MAX_TEXT, MAX_TEXT + 1])
+    return b" " * (size - len(data)) + data
+
+
+def binary_text(rng):
+    """No deck at all."""
+    what = rng.randrange(5)
+    if what == 0:
+        return b""
+    if what == 1:
+        return bytes(rng.choice(b" \n") for _ in range(rng.randint(1, 50)))
+    if what == 2:
+        return bytes(rng.randrange(256) for _ in range(rng.randint(1, 300)))
+    if what == 3:
+        return bytes(rng.choice(b"0123456789- \n") for _ in range(rng.randint(1, 300)))
+    return b"1 " * (MAX_TEXT // 2 + rng.randint(-1, 1))
+
+
+def text_case(rng):
+    """One deck text: as laid out, damaged in its numbers, in its bytes, or no deck."""
+    if rng.random() < 0.03:
+        return binary_text(rng)
+    lines = sketch_for(rng).tokens()
+    kind = rng.random()
+    if kind > 0.4:
+        for _ in range(rng.choice([1, 1, 1, 2])):
+            lines = [line for line in lines if line]
+            damage_tokens(rng, lines)
+    data = scatter(rng, lines) if rng.random() < 0.2 else join(lines)
+    if kind > 0.8:
+        data = damage_bytes(rng, data)
+    return data
+
+
+def texts(count, seed):
+    """Yields count deck texts."""
+    for number in range(1, count + 1):
+        yield text_case(rng_for(seed, number))
+
+
+# -------------------------------------------------------------------- command line
+
+def print_buffers(owner, names):
+    for name in names:
+        buffer = getattr(owner, name)
+        print(" ".join([name, str(len(buffer))] + [str(number) for number in buffer]))
+
+
+def print_problems(count, seed):
+    for number, case in enumerate(problems(count, seed), 1):
+        problem = case.problem
+        print("case", number, case.call, problem.n, problem.m, problem.limit)
+        print_buffers(problem, ["coefficients", "rights", "lower", "upper", "goals"])
+        print_buffers(case.lent, ["tableau", "values", "strides"])
+        print("answer", *case.run())
+        print_buffers(case.lent, ["tableau", "values", "strides"])
+
+
+def write_texts(count, seed, folder):
+    os.makedirs(folder, exist_ok=True)
+    for number, data in enumerate(texts(count, seed), 1):
+        name = os.path.join(folder, "%05d" % number)
+        with open(name + ".txt", "wb") as file:
+            file.write(data)
+        with open(name + ".listing", "wb") as file:
+            file.write(listing(data))
+
+
+def main(arguments):
+    if len(arguments) == 3 and arguments[0] == "problems":
+        print_problems(int(arguments[1]), int(arguments[2]))
+    elif len(arguments) == 4 and arguments[0] == "texts":
+        write_texts(int(arguments[1]), int(arguments[2]), arguments[3])
+    else:
+        sys.exit(__doc__)
+
+
+if __name__ == "__main__":
+    main(sys.argv[1:])

@@ -1,0 +1,210 @@
+"""The reader: a deck text becomes the buffers of a problem, or a refusal.
+
+“The first place that breaks its rule decides the refusal.”
+"""
+
+import re
+
+from engine import (COUNTS_OUTSIDE, WRONG_LENGTH, ROW_NUMBER_OUTSIDE, BOUND_OUTSIDE,
+                    GOAL_OUTSIDE, MIN_COLUMNS, MAX_COLUMNS, MAX_ROWS, MAX_COEFFICIENT,
+                    MAX_RIGHT, MAX_BOUND, MAX_GOAL)
+
+MAX_TEXT = 32768
+MAX_COEFFICIENTS = MAX_COLUMNS * MAX_ROWS
+
+# The numbers of the table “Turned back” that only a text can give.
+NOT_AS_LAID_OUT = 11
+ROW_WRONG = 12
+
+# “In the text these are 0, 1, 2, 3.”
+EQUAL, AT_LEAST, AT_MOST, EVEN = 0, 1, 2, 3
+
+# What stands before y in a row of each kind: “Equal: sum = number. At least:
+# sum − y = number, y from 0. At most: sum + y = number, y from 0. Even: sum − 2y = 0”.
+Y_COEFFICIENT = {AT_LEAST: -1, AT_MOST: 1, EVEN: -2}
+
+# “Each y goes up to 1,000,000”
+MAX_Y = 1000000
+
+# “optional minus, 1 to 10 digits, no needless zero in front, no −0”
+NUMBER = re.compile(rb"0|-?[1-9][0-9]{0,9}")
+
+# “parted by runs of byte 32 or 10, which may also open and close it”
+RUN = re.compile(rb"[^ \n]+")
+
+
+class Deck:
+    """The reader's buffers, of the largest size: “48 numbers each and 2,304
+    coefficients, n to a row without gaps; the rest becomes 0”."""
+
+    def __init__(self):
+        self.n = 0
+        self.m = 0
+        self.coefficients = [0] * MAX_COEFFICIENTS
+        self.rights = [0] * MAX_ROWS
+        self.lower = [0] * MAX_COLUMNS
+        self.upper = [0] * MAX_COLUMNS
+        self.goals = [0] * MAX_COLUMNS
+
+
+class Refused(Exception):
+    """A place in the text breaks its rule; the number is the refusal's."""
+
+    def __init__(self, number):
+        Exception.__init__(self, number)
+        self.number = number
+
+
+class Numbers:
+    """The numbers of a text, one after the other."""
+
+    def __init__(self, data):
+        self.runs = RUN.findall(data)
+        self.taken = 0
+
+    def next(self):
+        """“a run of other bytes that is no such number, a missing number or one too
+        many is 11 there” - the first two of these."""
+        if self.taken == len(self.runs):
+            raise Refused(NOT_AS_LAID_OUT)
+        run = self.runs[self.taken]
+        self.taken += 1
+        if not NUMBER.fullmatch(run):
+            raise Refused(NOT_AS_LAID_OUT)
+        return int(run)
+
+    def next_within(self, low, high, refusal):
+        """The next number; outside low to high it is the refusal given."""
+        number = self.next()
+        if not low <= number <= high:
+            raise Refused(refusal)
+        return number
+
+    def end(self):
+        """“... or one too many is 11 there”."""
+        if self.taken != len(self.runs):
+            raise Refused(NOT_AS_LAID_OUT)
+
+
+class Row:
+    """A row as the text states it, with the column of its y (None if it has none)."""
+
+    def __init__(self, kind, number, terms, y):
+        self.kind = kind
+        self.number = number
+        self.terms = terms
+        self.y = y
+
+
+def read_interval(numbers):
+    """“then for each its lower, upper and goal”."""
+    lower = numbers.next_within(-MAX_BOUND, MAX_BOUND, BOUND_OUTSIDE)
+    # “lower at most upper”, refused at the upper's place
+    upper = numbers.next_within(lower, MAX_BOUND, BOUND_OUTSIDE)
+    # “A column with a goal has lower bound 1 or more”, refused at the goal's place
+    goal = numbers.next_within(0, MAX_GOAL if lower >= 1 else 0, GOAL_OUTSIDE)
+    return lower, upper, goal
+
+
+def read_terms(numbers, intervals):
+    """“its count of terms (0 to the count of intervals), then index and coefficient
+    for each term. Indices name intervals, from 1, and rise strictly within a row. A
+    coefficient isn't 0.”"""
+    count = numbers.next_within(0, intervals, ROW_WRONG)
+    terms = []
+    index = 0
+    for _ in range(count):
+        index = numbers.next_within(index + 1, intervals, ROW_WRONG)
+        coefficient = numbers.next_within(-MAX_COEFFICIENT, MAX_COEFFICIENT,
+                                          ROW_NUMBER_OUTSIDE)
+        if coefficient == 0:
+            raise Refused(ROW_WRONG)
+        terms.append((index - 1, coefficient))
+    return terms
+
+
+def read_row(numbers, intervals, columns):
+    """“then for each its kind, its number, its count of terms ..., then index and
+    coefficient for each term”. columns is the count of columns taken so far."""
+    kind = numbers.next_within(EQUAL, EVEN, ROW_WRONG)
+    # “or the row's kind makes a 49th column”: at the kind's place
+    if kind != EQUAL and columns == MAX_COLUMNS:
+        raise Refused(ROW_WRONG)
+    # “y from the number, which is 0 to 1,000,000” - the least half of an even row
+    least = 0 if kind == EVEN else -MAX_RIGHT
+    number = numbers.next_within(least, MAX_RIGHT, ROW_NUMBER_OUTSIDE)
+    terms = read_terms(numbers, intervals)
+    # y “takes the next column after the intervals, in row order”
+    y = None if kind == EQUAL else columns
+    return Row(kind, number, terms, y)
+
+
+def read_sections(data):
+    """“Sections: the count of intervals, then for each its lower, upper and goal; the
+    count of rows, then for each its kind ...”. Returns the columns and the rows."""
+    numbers = Numbers(data)
+    intervals = numbers.next_within(MIN_COLUMNS, MAX_COLUMNS, COUNTS_OUTSIDE)
+    columns = [read_interval(numbers) for _ in range(intervals)]
+    m = numbers.next_within(0, MAX_ROWS, COUNTS_OUTSIDE)
+    rows = []
+    for _ in range(m):
+        row = read_row(numbers, intervals, len(columns))
+        rows.append(row)
+        if row.y is not None:
+            # “Each y goes up to 1,000,000, has no goal”
+            least = row.number if row.kind == EVEN else 0
+            columns.append((least, MAX_Y, 0))
+    numbers.end()
+    return columns, rows
+
+
+def fill_deck(deck, columns, rows):
+    """“The reader fills buffers of the largest size ..., n to a row without gaps; the
+    rest becomes 0.”"""
+    n, m = len(columns), len(rows)
+    blank = Deck()
+    for j, (lower, upper, goal) in enumerate(columns):
+        blank.lower[j] = lower
+        blank.upper[j] = upper
+        blank.goals[j] = goal
+    for i, row in enumerate(rows):
+        # the number of an even row is the least y; its right side is 0
+        blank.rights[i] = 0 if row.kind == EVEN else row.number
+        for j, coefficient in row.terms:
+            blank.coefficients[i * n + j] = coefficient
+        if row.y is not None:
+            blank.coefficients[i * n + row.y] = Y_COEFFICIENT[row.kind]
+    deck.n = n
+    deck.m = m
+    deck.coefficients[:] = blank.coefficients
+    deck.rights[:] = blank.rights
+    deck.lower[:] = blank.lower
+    deck.upper[:] = blank.upper
+    deck.goals[:] = blank.goals
+
+
+def wrong_length(deck):
+    """“A wrong length is refusal 2, before the text is looked at”."""
+    return (len(deck.coefficients) != MAX_COEFFICIENTS
+            or len(deck.rights) != MAX_ROWS
+            or len(deck.lower) != MAX_COLUMNS
+            or len(deck.upper) != MAX_COLUMNS
+            or len(deck.goals) != MAX_COLUMNS)
+
+
+def read(data, deck=None):
+    """Reads a text (bytes) into a lent deck, or into a new one. Returns the filled
+    deck, or a refusal's number; a refused text leaves the deck as before."""
+    if deck is None:
+        deck = Deck()
+    if wrong_length(deck):
+        return WRONG_LENGTH
+    # “then a text over 32,768 bytes is 11”
+    if len(data) > MAX_TEXT:
+        return NOT_AS_LAID_OUT
+    try:
+        columns, rows = read_sections(data)
+    except Refused as refused:
+        return refused.number
+    fill_deck(deck, columns, rows)
+    return deck
