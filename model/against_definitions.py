@@ -76,7 +76,6 @@ def problem_equation(rng):
     if problem.n * (problem.m + problem.n) > MOST_NUMBERS:
         return None
     problem.limit = min(problem.limit, MOST_STEPS) if problem.limit <= 65535 else problem.limit
-    case.lent.strides = [abs(stride) for stride in case.lent.strides]
     before = "(record { %s })" % buffers(case.lent)
     outcome, bounds, goals = case.run()
     return ("%s %s %s ≡ record { answer = %s; %s }"

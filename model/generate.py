@@ -22,8 +22,8 @@ A problem is printed as lines of fields parted by one space:
     values LENGTH numbers...
     strides LENGTH numbers...
 
-Counts and limits are never negative and no number is beyond 64 signed bits, so a
-caller with unsigned counts can take every case.
+Counts, limits and strides are never negative and fit 64 bits, and no other number
+is beyond 64 signed bits, so a caller with unsigned counts can take every case.
 
 To import: problems(count, seed) yields Case objects, texts(count, seed) yields
 bytes; problem_case(rng) and text_case(rng) make one.
@@ -62,15 +62,16 @@ class Case:
         return (assign if self.call == "assign" else cont)(self.problem, self.lent)
 
 
-def noise(rng, length):
+def noise(rng, length, smallest=SMALLEST, biggest=BIGGEST):
     """What a lent buffer may hold before a call: anything."""
     big = rng.random() < 0.2
-    low, high = (SMALLEST, BIGGEST) if big else (-99, 99)
+    low, high = (smallest, biggest) if big else (max(smallest, -99), 99)
     return [rng.randint(low, high) for _ in range(length)]
 
 
 def noisy_lent(rng, n, m):
-    return Lent(noise(rng, n * (m + n)), noise(rng, n), noise(rng, n))
+    """Strides are magnitudes, so their buffer holds unsigned numbers."""
+    return Lent(noise(rng, n * (m + n)), noise(rng, n), noise(rng, n, 0, 2 ** 64 - 1))
 
 
 def products(n, m, coefficients, values):
