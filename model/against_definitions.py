@@ -24,7 +24,7 @@ SCRATCH = os.path.join(ROOT, "target", "against")
 MOST_NUMBERS = 60
 MOST_STEPS = 12
 MOST_BYTES = 240
-MOST_DIGITS = 8
+MOST_DIGITS = 5
 
 REFUSALS = ["Size", "Length", "Coefficient", "Bound", "Goal", "Limit", "Elimination",
             "NoWholeNumbers", "Seating", "Standing", "Layout", "Term"]
