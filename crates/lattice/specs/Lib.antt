@@ -2,3 +2,4 @@
 pub mod Rows
 pub mod Sums
 pub mod RowLaws
+pub mod Span
