@@ -3,3 +3,4 @@ pub mod Rows
 pub mod Sums
 pub mod RowLaws
 pub mod Span
+pub mod Hermite
