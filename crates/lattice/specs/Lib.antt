@@ -4,3 +4,4 @@ pub mod Sums
 pub mod RowLaws
 pub mod Span
 pub mod Hermite
+pub mod Coset
