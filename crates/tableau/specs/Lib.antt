@@ -3,4 +3,5 @@ pub mod Table
 pub mod Elimination
 pub mod RightSide
 pub mod Generators
+pub mod GatherLaws
 pub mod TableLaws

@@ -161,6 +161,10 @@ isZero-true (negsuc n) t = absurd (omega (arith, eqb-true (suc n) 0 t))
 pub data Positive : ℤ → Type 0 where
   positive : (k : ℕ) → Positive (pos (suc k))
 
+pub above-zero : (n : ℕ) → 0 < n → Positive (pos n)
+above-zero zero h = absurd (omega arith)
+above-zero (suc k) h = positive k
+
 pub positive-nonzero : {p : ℤ} → Positive p → p ≡ pos 0 → ⊥
 positive-nonzero (positive k) = simp diff-rel (omega arith)
 
