@@ -167,14 +167,20 @@ module _ (n c : ℕ) (b : List ℤ) (B : List (List ℤ)) (j p : ℕ) (h : c < n
       each-below n c p (round c b B .pivot) (exchange (choose c (b ∷ B)) b B .1) h (chosen .0) round-lead
       (steps-length n (exchange-steps (choose c (b ∷ B)) b B) a .1)
 
-  -- the next round's choice is smaller, and is that of all rows
-  round-next : (i k : ℕ) → choose c (round c b B .below) ≡ at i k → (k < p) × (choose c (round c b B .pivot ∷ round c b B .below) ≡ at (suc i) k)
+  -- what holds of the choice in the lower rows: there is none, or a smaller one, which is that of all rows too
+  round-next : (P : Choice → Type 0) → (Stands c (round c b B .below) none → P none)
+      → ((i k : ℕ) → k < p → choose c (round c b B .pivot ∷ round c b B .below) ≡ at (suc i) k → P (at i k)) → P (choose c (round c b B .below))
   unfolding Below choose
-  round-next i k e1 =
-      let C : List (List ℤ) = round c b B .below in
-      let s : Stands c C (at i k) = subst (Stands c C) e1 (choose-stands c C) in
-      let l : k < p = omega (arith, s .2 [], all-at (Below c p) C i [] (s .1) round-below) in
-      (l, ap₂ (λ (z : ℤ) (y : Choice). prefer (natAbs z) y) round-lead e1 ∙ prefer-below p i k l)
+  round-next P end more = go (choose c C) refl (choose-stands c C)
+    where
+      C : List (List ℤ)
+      C = round c b B .below
+
+      go : (z : Choice) → choose c C ≡ z → Stands c C z → P z
+      go none e s = end s
+      go (at i k) e s =
+          let l : k < p = omega (arith, s .2 [], all-at (Below c p) C i [] (s .1) round-below) in
+          more i k l (ap₂ (λ (x : ℤ) (y : Choice). prefer (natAbs x) y) round-lead e ∙ prefer-below p i k l)
 
 -- ---- the rounds end
 gather-none : (f c : ℕ) (b : List ℤ) (B : List (List ℤ)) → gather f c none b B ≡ record { pivot = b; below = B; over = false }
@@ -191,25 +197,14 @@ pub gather-alone : (n c f : ℕ) (b : List ℤ) (B : List (List ℤ)) (i k j p :
 unfolding gather
 gather-alone n c zero b B i k j p h a e l = absurd (omega (arith, chosen n c b B j p h a e .0))
 gather-alone n c (suc f) b B i k j p h a e l =
-    go (choose c C) refl (λ i′ k′ j′ p′. gather-alone n c f r C i′ k′ j′ p′ h (round-length n c b B j p h a e))
-  where
-    r : List ℤ
-    r = round c b B .pivot
-
-    C : List (List ℤ)
-    C = round c b B .below
-
-    go : (z : Choice) → choose c C ≡ z
-        → ((i k j p : ℕ) → choose c (r ∷ C) ≡ at j p → p ≤ f → Alone c (gather f c (at i k) r C .pivot) (gather f c (at i k) r C .below))
-        → Alone c (gather f c z r C .pivot) (gather f c z r C .below)
-    go none e1 ih =
-        subst (λ (g : Gathered). Alone c (g .pivot) (g .below)) (sym (gather-none f c r C)) (record {
-          lead = rw (round-lead n c b B j p h a e) (above-zero p (chosen n c b B j p h a e .0));
-          lower = subst (Stands c C) e1 (choose-stands c C);
-        })
-    go (at i k) e1 ih =
-        let t : (k < p) × (choose c (r ∷ C) ≡ at (suc i) k) = round-next n c b B j p h a e i k e1 in
-        ih i k (suc i) k (t .1) (omega (arith, t .0))
+    let r : List ℤ = round c b B .pivot in
+    let C : List (List ℤ) = round c b B .below in
+    round-next n c b B j p h a e (λ (z : Choice). Alone c (gather f c z r C .pivot) (gather f c z r C .below))
+    (λ s. subst (λ (g : Gathered). Alone c (g .pivot) (g .below)) (sym (gather-none f c r C)) (record {
+      lead = rw (round-lead n c b B j p h a e) (above-zero p (chosen n c b B j p h a e .0));
+      lower = s;
+    }))
+    (λ i′ k′ l′ e′. gather-alone n c f r C i′ k′ (suc i′) k′ h (round-length n c b B j p h a e) e′ (omega arith))
 
 -- ---- the count of rounds does not matter
 pub gather-fuel : (n c f g : ℕ) (b : List ℤ) (B : List (List ℤ)) (i k i′ k′ j p : ℕ) → c < n → All (Len n) (b ∷ B) → choose c (b ∷ B) ≡ at j p → p ≤ f
@@ -218,22 +213,12 @@ unfolding gather
 gather-fuel n c zero g b B i k i′ k′ j p h a e l l′ = absurd (omega (arith, chosen n c b B j p h a e .0))
 gather-fuel n c (suc f) zero b B i k i′ k′ j p h a e l l′ = absurd (omega (arith, chosen n c b B j p h a e .0))
 gather-fuel n c (suc f) (suc g) b B i k i′ k′ j p h a e l l′ =
+    let r : List ℤ = round c b B .pivot in
+    let C : List (List ℤ) = round c b B .below in
     ap (onward (round c b B .over))
-    (go (choose c C) refl (λ i″ k″ j″ p″. gather-fuel n c f g r C i″ k″ i″ k″ j″ p″ h (round-length n c b B j p h a e)))
-  where
-    r : List ℤ
-    r = round c b B .pivot
-
-    C : List (List ℤ)
-    C = round c b B .below
-
-    go : (z : Choice) → choose c C ≡ z
-        → ((i k j p : ℕ) → choose c (r ∷ C) ≡ at j p → p ≤ f → p ≤ g → gather f c (at i k) r C ≡ gather g c (at i k) r C)
-        → gather f c z r C ≡ gather g c z r C
-    go none e1 ih = gather-none f c r C ∙ sym (gather-none g c r C)
-    go (at i k) e1 ih =
-        let t : (k < p) × (choose c (r ∷ C) ≡ at (suc i) k) = round-next n c b B j p h a e i k e1 in
-        ih i k (suc i) k (t .1) (omega (arith, t .0)) (omega (arith, t .0))
+    (round-next n c b B j p h a e (λ (z : Choice). gather f c z r C ≡ gather g c z r C)
+    (λ s. gather-none f c r C ∙ sym (gather-none g c r C))
+    (λ i″ k″ l″ e″. gather-fuel n c f g r C i″ k″ i″ k″ (suc i″) k″ h (round-length n c b B j p h a e) e″ (omega arith) (omega arith)))
 
 abbrev magnitude : Choice → ℕ
 magnitude none = 0
@@ -242,6 +227,10 @@ magnitude (at j p) = p
 unfoldable pub gathering : ℕ → List ℤ → List (List ℤ) → Gathered
 gathering c b B = gather (magnitude (choose c (b ∷ B))) c (choose c (b ∷ B)) b B
 
+pub gathering-first : (c : ℕ) (b : List ℤ) (B : List (List ℤ)) (j p : ℕ) → choose c (b ∷ B) ≡ at j p → gathering c b B ≡ gather p c (at j p) b B
+unfolding gathering
+gathering-first c b B j p e = ap (λ (z : Choice). gather (magnitude z) c z b B) e
+
 -- what follows on the round x, where z is the choice in its lower rows
 abbrev pub following : ℕ → Choice → Gathered → Gathered
 following c none x = x
@@ -249,23 +238,20 @@ following c (at j p) x = onward (x .over) (gathering c (x .pivot) (x .below))
 
 pub gathering-round : (n c : ℕ) (b : List ℤ) (B : List (List ℤ)) (j p : ℕ) → c < n → All (Len n) (b ∷ B) → choose c (b ∷ B) ≡ at j p
     → gathering c b B ≡ following c (choose c (round c b B .below)) (round c b B)
-unfolding gathering gather
-gathering-round n c b B j p h a e = ap (λ (z : Choice). gather (magnitude z) c z b B) e ∙ go p refl (choose c C) refl
+unfolding gather
+gathering-round n c b B j p h a e = gathering-first c b B j p e ∙ go p refl
   where
-    r : List ℤ
-    r = round c b B .pivot
+    x : Gathered
+    x = round c b B
 
-    C : List (List ℤ)
-    C = round c b B .below
-
-    go : (f : ℕ) → p ≡ f → (z : Choice) → choose c C ≡ z → gather f c (at j p) b B ≡ following c z (round c b B)
-    go zero q z e1 = absurd (omega (arith, chosen n c b B j p h a e .0))
-    go (suc f) q none e1 =
-        ap (onward (round c b B .over)) (ap (λ (z : Choice). gather f c z r C) e1 ∙ gather-none f c r C)
-        ∙ ap (λ (o : Bool). record { pivot = r; below = C; over = o }) (or-false (round c b B .over))
-    go (suc f) q (at i k) e1 =
-        let t : (k < p) × (choose c (r ∷ C) ≡ at (suc i) k) = round-next n c b B j p h a e i k e1 in
-        ap (onward (round c b B .over))
-        (ap (λ (z : Choice). gather f c z r C) e1
-        ∙ gather-fuel n c f k r C i k (suc i) k (suc i) k h (round-length n c b B j p h a e) (t .1) (omega (arith, t .0)) (omega arith)
-        ∙ sym (ap (λ (z : Choice). gather (magnitude z) c z r C) (t .1)))
+    go : (f : ℕ) → p ≡ f → gather f c (at j p) b B ≡ following c (choose c (x .below)) x
+    go zero q = absurd (omega (arith, chosen n c b B j p h a e .0))
+    go (suc f) q =
+        round-next n c b B j p h a e (λ (z : Choice). onward (x .over) (gather f c z (x .pivot) (x .below)) ≡ following c z x)
+        (λ s.
+            ap (onward (x .over)) (gather-none f c (x .pivot) (x .below))
+            ∙ ap (λ (o : Bool). record { pivot = x .pivot; below = x .below; over = o }) (or-false (x .over)))
+        (λ i k l e′.
+            ap (onward (x .over))
+            (gather-fuel n c f k (x .pivot) (x .below) i k (suc i) k (suc i) k h (round-length n c b B j p h a e) e′ (omega arith) (omega arith)
+            ∙ sym (gathering-first c (x .pivot) (x .below) (suc i) k e′)))
