@@ -1,5 +1,4 @@
 -- Laws of gathering: it is made of elementary row steps, it ends, and what it leaves.
---   each-rows         the rows of `each f B`: f's row of each row of B
 --   each-steps        where f takes multiples of r away, `each f` is row steps
 --   ..-steps          an exchange, a sign, clearing, a round and gathering are row steps
 --   Stands c B z      z tells of the rows B: there is nothing but 0 at c, or row j has the magnitude p there, above 0
@@ -31,11 +30,6 @@ use Rattle.lattice.specs.Span.{All, Len, all-at, _~_, same, _then_, under, swap
 use Rattle.tableau.specs.Elimination.{Left, subtract, kept, lowered, reduced, Run, each, Choice, none, at, shifted, prefer, choose, Gathered, exchange, signed, clear, round, onward, gather}
 
 -- ---- row steps
-pub each-rows : (f : List ℤ → Left) (B : List (List ℤ)) → each f B .table ≡ map (λ s. f s .row) B
-unfolding each
-each-rows f [] = refl
-each-rows f (s ∷ B) = ap (λ (T : List (List ℤ)). f s .row ∷ T) (each-rows f B)
-
 pub each-steps : (r : List ℤ) (f : List ℤ → Left) → ((s : List ℤ) (B : List (List ℤ)) → (r ∷ s ∷ B) ~ (r ∷ f s .row ∷ B)) → (A B : List (List ℤ))
     → (r ∷ (A ++ B)) ~ (r ∷ (each f A .table ++ B))
 unfolding each

@@ -4,4 +4,5 @@ pub mod Elimination
 pub mod RightSide
 pub mod Generators
 pub mod GatherLaws
+pub mod FormLaws
 pub mod TableLaws
