@@ -1,13 +1,13 @@
 -- Laws of rows: of plus, minus and neg, of zeros, and of entries.
 --   Zero v                  every number of v is 0; `allZero` is its test
+--   ZeroTo c v              the first c numbers are 0
 --   length-plus, -neg       the lengths
 --   plus-zero .. -append    v + c r: no multiple; multiples of one row add up; those of two rows may change places; a multiple of a sum; of a
 --                           negated row; of zeros; once a row and zeros; of rows end to end. Lengths are asked for only where a sum is
 --                           itself taken times a number
 --   minus-..                u − v by way of w; turned round; of two sums; of a sum and one of its parts
---   Zero-..                 what zeros are, and what keeps them
+--   Zero-.., ZeroTo-..      what zeros are, and what keeps them
 --   entry-..                the number at a place of a sum, a negated row, zeros, a unit list
--- `Zero (take c r)` says that the first c numbers of r are 0.
 -- Assumes nothing.
 use mathlib.Core.Path.{_≡_, refl, sym, _∙_, ap, ap₂, subst}
 use mathlib.Core.Logic.{_↔_}
@@ -16,6 +16,7 @@ use mathlib.Core.List.{List, [], _∷_, _++_}
 use Prim.Native.Nat.{ℕ, zero, suc, _+_, _<_, _≤_}
 use native.Mathlib.Omega.{arith}
 use lib.ListN.{length, take, drop, length-replicate}
+use lib.Seq.{take-all}
 use lib.IntN.{ℤ, pos, negsuc, negℤ, _+ℤ_, _*ℤ_, +ℤ-invr}
 use Rattle.whole.specs.Lists.{entry, zeros}
 use Rattle.whole.specs.Tests.{isZero}
@@ -25,6 +26,9 @@ use Rattle.lattice.specs.Rows.{plus, minus, neg, unit, allZero}
 abbrev pub Zero : List ℤ → Type 0
 Zero [] = Unit {0}
 Zero (x ∷ v) = (x ≡ pos 0) × Zero v
+
+abbrev pub ZeroTo : ℕ → List ℤ → Type 0
+ZeroTo c v = Zero (take c v)
 
 -- ---- lengths
 pub length-plus : (c : ℤ) (r v : List ℤ) → length (plus c r v) ≡ length v
@@ -127,11 +131,6 @@ Zero-minus (x ∷ r) = (rw (rep x) (simp diff-rel (omega arith)), Zero-minus r)
 pub Zero-plus : (c : ℤ) (r v : List ℤ) → Zero r → Zero v → Zero (plus c r v)
 Zero-plus c r v zr zv = rw (plus-Zero c r v zr) zv
 
-pub Zero-neg : (r : List ℤ) → Zero r → Zero (neg r)
-unfolding neg
-Zero-neg [] z = tt
-Zero-neg (x ∷ r) z = (ap negℤ (z .0), Zero-neg r (z .1))
-
 pub Zero-zeros : (n : ℕ) → Zero (zeros n)
 Zero-zeros zero = tt
 Zero-zeros (suc n) = (refl, Zero-zeros n)
@@ -142,12 +141,6 @@ zeros-Zero zero (x ∷ v) l z = absurd (omega arith)
 zeros-Zero (suc n) [] l z = absurd (omega arith)
 zeros-Zero (suc n) (x ∷ v) l z = ap₂ _∷_ (z .0) (zeros-Zero n v (omega arith) (z .1))
 
-pub Zero-unit : (n j : ℕ) → Zero (take j (unit n j))
-Zero-unit zero zero = tt
-Zero-unit zero (suc j) = tt
-Zero-unit (suc n) zero = tt
-Zero-unit (suc n) (suc j) = (refl, Zero-unit n j)
-
 pub Zero-append : (u v : List ℤ) → Zero (u ++ v) ↔ (Zero u × Zero v)
 Zero-append [] v = ((λ z. (tt, z)), (λ z. z .1))
 Zero-append (x ∷ u) v = (
@@ -155,19 +148,28 @@ Zero-append (x ∷ u) v = (
   (λ z. (z .0 .0, Zero-append u v .1 (z .0 .1, z .1))),
 )
 
-pub Zero-next : (c : ℕ) (r : List ℤ) → Zero (take c r) → entry c r ≡ pos 0 → Zero (take (suc c) r)
-Zero-next c [] z e = tt
-Zero-next zero (x ∷ r) z e = (e, tt)
-Zero-next (suc c) (x ∷ r) z e = (z .0, Zero-next c r (z .1) e)
+pub ZeroTo-next : (c : ℕ) (r : List ℤ) → ZeroTo c r → entry c r ≡ pos 0 → ZeroTo (suc c) r
+ZeroTo-next c [] z e = tt
+ZeroTo-next zero (x ∷ r) z e = (e, tt)
+ZeroTo-next (suc c) (x ∷ r) z e = (z .0, ZeroTo-next c r (z .1) e)
 
-pub Zero-take-plus : (c : ℕ) (q : ℤ) (r s : List ℤ) → Zero (take c r) → Zero (take c s) → Zero (take c (plus q r s))
-Zero-take-plus c q r s y z = rw (plus-take c q r s) (Zero-plus q (take c r) (take c s) y z)
+pub ZeroTo-all : (c : ℕ) (r : List ℤ) → length r ≤ c → ZeroTo c r → Zero r
+ZeroTo-all c r l z = subst Zero (take-all c r l) z
 
-pub Zero-take-neg : (c : ℕ) (r : List ℤ) → Zero (take c r) → Zero (take c (neg r))
+pub ZeroTo-plus : (c : ℕ) (q : ℤ) (r s : List ℤ) → ZeroTo c r → ZeroTo c s → ZeroTo c (plus q r s)
+ZeroTo-plus c q r s y z = rw (plus-take c q r s) (Zero-plus q (take c r) (take c s) y z)
+
+pub ZeroTo-neg : (c : ℕ) (r : List ℤ) → ZeroTo c r → ZeroTo c (neg r)
 unfolding neg
-Zero-take-neg zero r z = tt
-Zero-take-neg (suc c) [] z = tt
-Zero-take-neg (suc c) (x ∷ r) z = (ap negℤ (z .0), Zero-take-neg c r (z .1))
+ZeroTo-neg zero r z = tt
+ZeroTo-neg (suc c) [] z = tt
+ZeroTo-neg (suc c) (x ∷ r) z = (ap negℤ (z .0), ZeroTo-neg c r (z .1))
+
+pub ZeroTo-unit : (n j : ℕ) → ZeroTo j (unit n j)
+ZeroTo-unit zero zero = tt
+ZeroTo-unit zero (suc j) = tt
+ZeroTo-unit (suc n) zero = tt
+ZeroTo-unit (suc n) (suc j) = (refl, ZeroTo-unit n j)
 
 -- ---- differences, from the laws of plus
 -- u − v = (u − w) + (w − v)

@@ -12,14 +12,13 @@ use mathlib.Core.List.{List, [], _∷_, _++_, map, append-assoc}
 use Prim.Native.Nat.{ℕ, zero, suc, _+_}
 use native.Mathlib.Omega.{arith}
 use native.Mathlib.Nat.{add-zero, zero-add}
-use lib.ListN.{length, take}
-use lib.Seq.{take-all}
+use lib.ListN.{length}
 use lib.IntN.{ℤ, pos, negℤ, _+ℤ_, _*ℤ_}
 use Rattle.whole.specs.Lists.{entry, zeros}
 use Rattle.whole.specs.Quotient.{floorQuotient}
 use Rattle.whole.specs.Integers.{Positive}
 use Rattle.lattice.specs.Rows.{plus}
-use Rattle.lattice.specs.RowLaws.{Zero, add-none, length-plus, Zero-next, Zero-take-plus, Zero-take-neg}
+use Rattle.lattice.specs.RowLaws.{Zero, ZeroTo, length-plus, add-none, ZeroTo-next, ZeroTo-all, ZeroTo-plus, ZeroTo-neg}
 use Rattle.lattice.specs.Span.{All, Len, Same, all-map, all-both, all-append, Independent, _~_, same, _then_, add, front, back, unders, steps-all, steps-length, steps-span, steps-independent, independent-nonzero}
 use Rattle.lattice.specs.Hermite.{Echelon, done, skip, step, width, indent, rows, Hermite}
 use Rattle.lattice.specs.Coset.{residue, residue-length, residue-reduced, residue-coset, residue-equal, coset-turn, coset-sums}
@@ -78,7 +77,7 @@ residue-row zero p t H = refl
 residue-row (suc c) p t H = ap (λ (r : List ℤ). pos 0 ∷ r) (residue-row c p t H)
 
 -- a row that has zeros in the first c columns
-shape : (c d : ℕ) (r : List ℤ) → length r ≡ c + suc d → Zero (take c r) → (t : List ℤ) × (length t ≡ d) × (r ≡ zeros c ++ (entry c r ∷ t))
+shape : (c d : ℕ) (r : List ℤ) → length r ≡ c + suc d → ZeroTo c r → (t : List ℤ) × (length t ≡ d) × (r ≡ zeros c ++ (entry c r ∷ t))
 shape zero d [] l z = absurd (omega arith)
 shape zero d (x ∷ r) l z = (r, omega arith, refl)
 shape (suc c) d [] l z = absurd (omega arith)
@@ -110,14 +109,14 @@ pub record Formed (d c : ℕ) (A B : List (List ℤ)) : Type 0 where
   pub none-left : All Zero rest
   pub is : passColumns d c A B .table ≡ map (residue (skips c form)) A ++ (rows (skips c form) ++ rest)
 
-formed-zero : (c : ℕ) (A B : List (List ℤ)) → All (Len (c + 0)) B → All (λ (r : List ℤ). Zero (take c r)) B → Formed 0 c A B
+formed-zero : (c : ℕ) (A B : List (List ℤ)) → All (Len (c + 0)) B → All (ZeroTo c) B → Formed 0 c A B
 unfolding passColumns
 formed-zero c A B l z = record {
   form = done;
   wide = refl;
   hermite = tt;
   rest = B;
-  none-left = all-both (Len (c + 0)) (λ (r : List ℤ). Zero (take c r)) Zero (λ r e y. subst Zero (take-all c r (omega arith)) y) B l z;
+  none-left = all-both (Len (c + 0)) (ZeroTo c) Zero (λ r e y. ZeroTo-all c r (omega arith) y) B l z;
   is = sym (ap₂ (λ (X Y : List (List ℤ)). X ++ (Y ++ B)) (kept A) (skips-done c));
 }
   where
@@ -145,35 +144,111 @@ unfolding each
 stack f k h r X [] a = refl
 stack f k h r X (s ∷ A) a = ap₂ _∷_ (a .0) (stack f k h r X A (a .1))
 
-formed-step : (d c : ℕ) (A : List (List ℤ)) (b : List ℤ) (B : List (List ℤ)) (j p : ℕ) → choose c (b ∷ B) ≡ at j p
-    → All (Len (c + suc d)) A → All (Len (c + suc d)) (b ∷ B) → All (λ (r : List ℤ). Zero (take c r)) (b ∷ B)
-    → Formed d (suc c) (passColumn c A (b ∷ B) (at j p) .above) (passColumn c A (b ∷ B) (at j p) .below) → Formed (suc d) c A (b ∷ B)
-unfolding passColumns passColumn
-formed-step d c A b B j p e la lb z i =
-    let g : Gathered = gather p c (at j p) b B in
-    let s : (b ∷ B) ~ (g .pivot ∷ g .below) = gather-steps p c (at j p) b B in
-    let gl : All (Len (c + suc d)) (g .pivot ∷ g .below) = steps-length (c + suc d) s lb in
-    let gz : All (λ (r : List ℤ). Zero (take c r)) (g .pivot ∷ g .below) =
-    steps-all (λ (r : List ℤ). Zero (take c r)) (Zero-take-neg c) (Zero-take-plus c) s z in
-    let q : ℤ = entry c (g .pivot) in
-    let lone : Alone c (g .pivot) (g .below) = gather-alone (c + suc d) c p b B j p j p (omega arith) lb e (omega arith) in
-    let sh : (t : List ℤ) × (length t ≡ d) × (g .pivot ≡ zeros c ++ (q ∷ t)) = shape c d (g .pivot) (gl .0) (gz .0) in
-    let t : List ℤ = sh .0 in
-    let K : Echelon = i .form in
-    let tl : length t ≡ width K = sh .1 ∙ sym (i .wide) in
-    let H : Echelon = step q (residue K t) K in
-    record {
+module _ (d c : ℕ) (A : List (List ℤ)) (b : List ℤ) (B : List (List ℤ)) (j p : ℕ) (e : choose c (b ∷ B) ≡ at j p)
+    (la : All (Len (c + suc d)) A) (lb : All (Len (c + suc d)) (b ∷ B)) (z : All (ZeroTo c) (b ∷ B)) where
+  abbrev g : Gathered
+  g = gather p c (at j p) b B
+
+  g-length : All (Len (c + suc d)) (g .pivot ∷ g .below)
+  g-length = steps-length (c + suc d) (gather-steps p c (at j p) b B) lb
+
+  g-zero : All (ZeroTo c) (g .pivot ∷ g .below)
+  g-zero = steps-all (ZeroTo c) (ZeroTo-neg c) (ZeroTo-plus c) (gather-steps p c (at j p) b B) z
+
+  g-alone : Alone c (g .pivot) (g .below)
+  g-alone = gather-alone (c + suc d) c p b B j p j p (omega arith) lb e (omega arith)
+
+  next-zero : All (ZeroTo (suc c)) (g .below)
+  next-zero = all-both (ZeroTo c) (λ (s : List ℤ). entry c s ≡ pos 0) (ZeroTo (suc c)) (ZeroTo-next c) (g .below) (g-zero .1) (g-alone .lower)
+
+  module _ (i : Formed d (suc c) (passColumn c A (b ∷ B) (at j p) .above) (passColumn c A (b ∷ B) (at j p) .below)) where
+    abbrev q : ℤ
+    q = entry c (g .pivot)
+
+    abbrev K : Echelon
+    K = i .form
+
+    shaped : (t : List ℤ) × (length t ≡ d) × (g .pivot ≡ zeros c ++ (q ∷ t))
+    shaped = shape c d (g .pivot) (g-length .0) (g-zero .0)
+
+    abbrev t : List ℤ
+    t = shaped .0
+
+    t-length : length t ≡ width K
+    t-length = shaped .1 ∙ sym (i .wide)
+
+    abbrev H : Echelon
+    H = step q (residue K t) K
+
+    -- the pivot's row, reduced by the later rows
+    pivot-is : residue (skips (suc c) K) (g .pivot) ≡ zeros c ++ (q ∷ residue K t)
+    pivot-is = ap (residue (skips (suc c) K)) (shaped .2) ∙ residue-row c q t K
+
+    -- the rows above it
+    above-is : All (λ (a : List ℤ). residue (skips (suc c) K) (reduced c (g .pivot) a .row) ≡ residue (skips c H) a) A
+    above-is =
+        all-map (Len (c + suc d)) _
+        (λ a l.
+            ap (λ (x : List ℤ). residue (skips (suc c) K) (reduced c x a .row)) (shaped .2)
+            ∙ reduced-residue c q t K a (omega (arith, l, i .wide)) t-length (i .hermite)) A la
+
+    formed-step : Formed (suc d) c A (b ∷ B)
+    unfolding passColumns passColumn
+    formed-step = record {
       form = H;
       wide = ap suc (i .wide);
-      hermite = (lone .lead, residue-length K t ∙ tl, residue-reduced K t (i .hermite), i .hermite);
+      hermite = (g-alone .lead, residue-length K t ∙ t-length, residue-reduced K t (i .hermite), i .hermite);
       rest = i .rest;
       none-left = i .none-left;
       is =
           ap (λ (y : Choice). passColumns d (suc c) (passColumn c A (b ∷ B) y .above) (passColumn c A (b ∷ B) y .below) .table) e
           ∙ i .is
-          ∙ stack (residue (skips (suc c) K)) (residue (skips c H)) (reduced c (g .pivot)) (g .pivot) (rows (skips (suc c) K) ++ i .rest) A
-          (all-map (Len (c + suc d)) (λ (a : List ℤ). residue (skips (suc c) K) (reduced c (g .pivot) a .row) ≡ residue (skips c H) a)
-          (λ a l. ap (λ (x : List ℤ). residue (skips (suc c) K) (reduced c x a .row)) (sh .2) ∙ reduced-residue c q t K a (omega (arith, l, i .wide)) tl (i .hermite)) A la)
+          ∙ stack (residue (skips (suc c) K)) (residue (skips c H)) (reduced c (g .pivot)) (g .pivot) (rows (skips (suc c) K) ++ i .rest) A above-is
           ∙ ap (λ (X : List (List ℤ)). map (residue (skips c H)) A ++ (X ++ i .rest))
-          (ap (λ (r : List ℤ). r ∷ rows (skips (suc c) K)) (ap (residue (skips (suc c) K)) (sh .2) ∙ residue-row c q t K) ∙ sym (skips-step c q (residue K t) K));
+          (ap (λ (r : List ℤ). r ∷ rows (skips (suc c) K)) pivot-is ∙ sym (skips-step c q (residue K t) K));
+    }
+
+pub passColumns-formed : (d c : ℕ) (A B : List (List ℤ)) → All (Len (c + d)) (A ++ B) → All (ZeroTo c) B → Formed d c A B
+unfolding passColumn
+passColumns-formed zero c A B l z = formed-zero c A B (all-append (Len (c + 0)) A B .0 l .1) z
+passColumns-formed (suc d) c A B l z = go B (choose c B) refl (choose-stands c B) l z (passColumns-formed d (suc c))
+  where
+    on : (T : List (List ℤ)) → All (Len (c + suc d)) T → All (Len (suc c + d)) T
+    on T a = subst (λ (k : ℕ). All (Len k) T) (omega arith) a
+
+    go : (B : List (List ℤ)) (y : Choice) → choose c B ≡ y → Stands c B y → All (Len (c + suc d)) (A ++ B) → All (ZeroTo c) B
+        → ((A B : List (List ℤ)) → All (Len (suc c + d)) (A ++ B) → All (ZeroTo (suc c)) B → Formed d (suc c) A B)
+        → Formed (suc d) c A B
+    go B none e s l z ih =
+        formed-skip d c A B e
+        (ih A B (on (A ++ B) l) (all-both (ZeroTo c) (λ (r : List ℤ). entry c r ≡ pos 0) (ZeroTo (suc c)) (ZeroTo-next c) B z s))
+    go [] (at j p) e s l z ih = absurd (omega (arith, s .1))
+    go (b ∷ B) (at j p) e s l z ih =
+        let x : Passed = passColumn c A (b ∷ B) (at j p) in
+        let w : All (Len (c + suc d)) A × All (Len (c + suc d)) (b ∷ B) = all-append (Len (c + suc d)) A (b ∷ B) .0 l in
+        formed-step d c A b B j p e (w .0) (w .1) z
+        (ih (x .above) (x .below) (on (x .above ++ x .below) (steps-length (c + suc d) (passColumn-steps c A (b ∷ B) (at j p)) l))
+        (next-zero d c A b B j p e (w .0) (w .1) z))
+
+-- ---- the whole elimination
+pub record Eliminated (n : ℕ) (T : List (List ℤ)) : Type 0 where
+  pub form : Echelon
+  pub wide : width form ≡ n
+  pub hermite : Hermite form
+  pub is : eliminate n T .table ≡ rows form
+  pub keeps : Same n T (eliminate n T .table)
+
+pub eliminated : (n : ℕ) (T : List (List ℤ)) → All (Len n) T → Independent n T → Eliminated n T
+unfolding eliminate
+eliminated n T l i =
+    let f : Formed n 0 [] T = passColumns-formed n 0 [] T (rw (zero-add n) l) (all-map (Len n) (ZeroTo 0) (λ r e. tt) T l) in
+    let s : T ~ eliminate n T .table = passColumns-steps n 0 [] T in
+    let e : eliminate n T .table ≡ rows (f .form) ++ f .rest = f .is in
+    let s′ : T ~ (rows (f .form) ++ f .rest) = rw e at s in
+    record {
+      form = f .form;
+      wide = f .wide;
+      hermite = f .hermite;
+      is = e ∙ independent-nonzero n (rows (f .form)) (f .rest) (steps-length n s′ l) (steps-independent n s′ l i) (f .none-left);
+      keeps = record { both = steps-span n s l };
     }
