@@ -101,13 +101,13 @@ reduced-residue (suc c) p t H (y ∷ a) l e h =
     ap₂ _∷_ (add-none (negℤ (floorQuotient (entry c a) (entry c (zeros c ++ (p ∷ t))))) y (pos 0) refl) (reduced-residue c p t H a (omega arith) e h)
 
 -- ---- what the columns leave
-pub record Formed (d c : ℕ) (A B : List (List ℤ)) : Type 0 where
-  pub form : Echelon
-  pub wide : width form ≡ d
-  pub hermite : Hermite form
-  pub rest : List (List ℤ)
-  pub none-left : All Zero rest
-  pub is : passColumns d c A B .table ≡ map (residue (skips c form)) A ++ (rows (skips c form) ++ rest)
+record Formed (d c : ℕ) (A B : List (List ℤ)) : Type 0 where
+  form : Echelon
+  wide : width form ≡ d
+  hermite : Hermite form
+  rest : List (List ℤ)
+  none-left : All Zero rest
+  is : passColumns d c A B .table ≡ map (residue (skips c form)) A ++ (rows (skips c form) ++ rest)
 
 formed-zero : (c : ℕ) (A B : List (List ℤ)) → All (Len (c + 0)) B → All (ZeroTo c) B → Formed 0 c A B
 unfolding passColumns
@@ -208,7 +208,7 @@ module _ (d c : ℕ) (A : List (List ℤ)) (b : List ℤ) (B : List (List ℤ)) 
           (ap (λ (r : List ℤ). r ∷ rows (skips (suc c) K)) pivot-is ∙ sym (skips-step c q (residue K t) K));
     }
 
-pub passColumns-formed : (d c : ℕ) (A B : List (List ℤ)) → All (Len (c + d)) (A ++ B) → All (ZeroTo c) B → Formed d c A B
+passColumns-formed : (d c : ℕ) (A B : List (List ℤ)) → All (Len (c + d)) (A ++ B) → All (ZeroTo c) B → Formed d c A B
 unfolding passColumn
 passColumns-formed zero c A B l z = formed-zero c A B (all-append (Len (c + 0)) A B .0 l .1) z
 passColumns-formed (suc d) c A B l z = go B (choose c B) refl (choose-stands c B) l z (passColumns-formed d (suc c))

@@ -165,6 +165,9 @@ pub above-zero : (n : ℕ) → 0 < n → Positive (pos n)
 above-zero zero h = absurd (omega arith)
 above-zero (suc k) h = positive k
 
+pub positive-above : {p : ℤ} → Positive p → pos 0 <ℤ p
+positive-above (positive k) = simp diff-rel (omega arith)
+
 pub positive-nonzero : {p : ℤ} → Positive p → p ≡ pos 0 → ⊥
 positive-nonzero (positive k) = simp diff-rel (omega arith)
 
