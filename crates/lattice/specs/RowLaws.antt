@@ -5,7 +5,7 @@
 --   plus-zero .. -append    v + c r: no multiple; multiples of one row add up; those of two rows may change places; a multiple of a sum; of a
 --                           negated row; of zeros; once a row and zeros; of rows end to end. Lengths are asked for only where a sum is
 --                           itself taken times a number
---   minus-..                u − v by way of w; turned round; of two sums; of a sum and one of its parts
+--   minus-..                u − v by way of w; turned round; of two sums; of a sum and one of its parts; behind m zeros
 --   Zero-.., ZeroTo-..      what zeros are, and what keeps them
 --   entry-..                the number at a place of a sum, a negated row, zeros, a unit list
 -- Assumes nothing.
@@ -198,6 +198,11 @@ minus-sums c u w v l =
 -- (v + u) − v = u
 pub minus-part : (u v : List ℤ) → length u ≡ length v → minus (plus (pos 1) u v) v ≡ u
 minus-part u v l = plus-comm (negsuc 0) (pos 1) v u v ∙ plus-one u (minus v v) (l ∙ sym (length-plus (negsuc 0) v v)) (Zero-minus v)
+
+-- (0, u) − (0, v) = (0, u − v)
+pub minus-zeros : (m : ℕ) (u v : List ℤ) → minus (zeros m ++ u) (zeros m ++ v) ≡ zeros m ++ minus u v
+minus-zeros m u v =
+    plus-append (negsuc 0) (zeros m) (zeros m) v u refl ∙ ap (λ (t : List ℤ). t ++ minus u v) (plus-Zero (negsuc 0) (zeros m) (zeros m) (Zero-zeros m))
 
 -- ---- entries
 pub entry-plus : (i : ℕ) (c : ℤ) (r v : List ℤ) → i < length v → entry i (plus c r v) ≡ entry i v +ℤ c *ℤ entry i r

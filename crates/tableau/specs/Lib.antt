@@ -6,3 +6,4 @@ pub mod Generators
 pub mod GatherLaws
 pub mod FormLaws
 pub mod TableLaws
+pub mod RightLaws
