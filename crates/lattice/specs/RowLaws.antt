@@ -1,7 +1,7 @@
 -- Laws of rows: of plus, minus and neg, of zeros, and of entries.
 --   Zero v                  every number of v is 0; `allZero` is its test
 --   ZeroTo c v              the first c numbers are 0
---   length-plus, -neg       the lengths
+--   length-..               the lengths
 --   plus-zero .. -append    v + c r: no multiple; multiples of one row add up; those of two rows may change places; a multiple of a sum; of a
 --                           negated row; of zeros; once a row and zeros; of rows end to end. Lengths are asked for only where a sum is
 --                           itself taken times a number
@@ -15,7 +15,7 @@ use mathlib.Core.Bool.{Bool, true, false, _&&_, false≢true}
 use mathlib.Core.List.{List, [], _∷_, _++_}
 use Prim.Native.Nat.{ℕ, zero, suc, _+_, _<_, _≤_}
 use native.Mathlib.Omega.{arith}
-use lib.ListN.{length, take, drop, length-replicate}
+use lib.ListN.{length, take, length-append, length-replicate}
 use lib.Seq.{take-all}
 use lib.IntN.{ℤ, pos, negsuc, negℤ, _+ℤ_, _*ℤ_, +ℤ-invr}
 use Rattle.whole.specs.Lists.{entry, zeros}
@@ -46,6 +46,9 @@ pub length-unit : (n j : ℕ) → length (unit n j) ≡ n
 length-unit zero j = refl
 length-unit (suc n) zero = ap suc (length-replicate n (pos 0))
 length-unit (suc n) (suc j) = ap suc (length-unit n j)
+
+pub length-zeros : (m : ℕ) (v : List ℤ) → length (zeros m ++ v) ≡ m + length v
+length-zeros m v = length-append (zeros m) v ∙ ap (λ (k : ℕ). k + length v) (length-replicate m (pos 0))
 
 -- ---- multiples of a row
 pub plus-zero : (r v : List ℤ) → plus (pos 0) r v ≡ v
