@@ -14,13 +14,13 @@ use mathlib.Core.Path.{_≡_, refl, sym, _∙_, ap, ap₂, subst}
 use mathlib.Core.Logic.{_↔_, Iff·symm, Iff·trans}
 use mathlib.Core.Bool.{Bool, true, false, cond, false≢true}
 use mathlib.Core.List.{List, [], _∷_, _++_, map, map-append, map-map, map-id}
-use Prim.Native.Nat.{ℕ, zero, suc, _+_, _<_, _≤_}
+use Prim.Native.Nat.{ℕ, zero, suc, _+_, _≤_}
 use native.Mathlib.Omega.{arith}
 use borrow.Author.Tests.{lt-ltb, le-ltb}
 use lib.Dec.{ltb, leb·suc-suc}
 use lib.ListN.{length, take, drop, length-drop, take-append-drop}
 use lib.Seq.{length-take-le}
-use lib.IntN.{ℤ, pos, negsuc, negℤ, _+ℤ_, _*ℤ_}
+use lib.IntN.{ℤ, pos, negℤ, _+ℤ_, _*ℤ_}
 use Rattle.whole.specs.Lists.{entry, zeros}
 use Rattle.whole.specs.Quotient.{floorQuotient}
 use Rattle.whole.specs.Integers.{Positive, positive}
@@ -29,8 +29,8 @@ use Rattle.lattice.specs.RowLaws.{length-plus, length-zeros, add-none, zeros-Ze
 use Rattle.lattice.specs.Span.{Span}
 use Rattle.lattice.specs.Hermite.{Echelon, done, skip, step, width, indent, rows, past, Reduced, Hermite, past-width, past-hermite, past-reduced, past-span, reduced-head}
 use Rattle.lattice.specs.Coset.{residue, Describes, coset-self, residue-length, residue-reduced, residue-for, describes-unique}
-use Rattle.tableau.specs.Elimination.{Left, reduced}
-use Rattle.tableau.specs.RightSide.{sweep, leading, remaining, basis, Found, none, some, Solved, afterLeading, rightSide}
+use Rattle.tableau.specs.Elimination.{reduced}
+use Rattle.tableau.specs.RightSide.{sweep, leading, remaining, basis, Found, none, some, Solved, rightSide}
 use Rattle.tableau.specs.Generators.{Answers}
 
 -- ---- sweeping

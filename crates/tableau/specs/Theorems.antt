@@ -13,10 +13,10 @@
 -- The terms: Span, Same, Independent (lattice, Span); Echelon, Hermite, Reduced (lattice, Hermite); Describes (lattice, Coset); Satisfies (lattice,
 -- Sums); Generators, Reaches, Answers, Sized (Generators); Alone (GatherLaws); Eliminated (FormLaws).
 -- Assumes nothing.
-use mathlib.Core.Path.{_≡_, refl, sym, _∙_, ap, subst}
+use mathlib.Core.Path.{_≡_, sym, _∙_, ap, subst}
 use mathlib.Core.Logic.{_↔_, Iff·rfl, Iff·symm, Iff·trans}
 use mathlib.Core.Bool.{Bool}
-use mathlib.Core.List.{List, [], _∷_, _++_}
+use mathlib.Core.List.{List, _∷_, _++_}
 use Prim.Native.Nat.{ℕ, _+_, _<_, _≤_}
 use native.Mathlib.Omega.{arith}
 use lib.IntN.{ℤ, negsuc}
@@ -31,7 +31,7 @@ use Rattle.lattice.specs.Hermite.{Echelon, width, rows, Reduced, Hermite}
 use Rattle.lattice.specs.Coset.{Describes}
 use Rattle.tableau.specs.Table.{tableau}
 use Rattle.tableau.specs.Elimination.{at, choose, gather, eliminate}
-use Rattle.tableau.specs.RightSide.{Found, none, some, rightSide, form, solve}
+use Rattle.tableau.specs.RightSide.{none, some, rightSide, form, solve}
 use Rattle.tableau.specs.Generators.{Generators, Reaches, Answers, Sized}
 use Rattle.tableau.specs.GatherLaws.{Alone, gather-alone, gather-fuel}
 use Rattle.tableau.specs.FormLaws.{Eliminated, eliminated}
@@ -87,8 +87,8 @@ reached-answers n m T over v g =
     let F : List (List ℤ) = eliminate (m + n) T .table in
     answers-same n (λ (x : List ℤ). Span F (minus (zeros m ++ x) v)) (Reaches n m T v) (rightSide m F over v .found)
     (λ x l.
-        let k : length (minus (zeros m ++ x) v) ≡ m + n = length-plus (negsuc 0) v (zeros m ++ x) ∙ length-zeros m x ∙ ap (λ (i : ℕ). m + i) l in
-        ((λ s. record { long = l; spans = t .keeps .both _ k .1 s }), (λ r. t .keeps .both _ k .0 (r .spans))))
+    let k : length (minus (zeros m ++ x) v) ≡ m + n = length-plus (negsuc 0) v (zeros m ++ x) ∙ length-zeros m x ∙ ap (λ (i : ℕ). m + i) l in
+    ((λ s. record { long = l; spans = t .keeps .both _ k .1 s }), (λ r. t .keeps .both _ k .0 (r .spans))))
     (rw (t .is) (right-answers n m (t .form) over v (t .wide) (t .hermite) (g .long)))
 
 -- two generator tables with right sides, the heads of m and of m′ columns, find the same exactly when they reach the same lists of n numbers
