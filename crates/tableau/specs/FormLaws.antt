@@ -16,8 +16,9 @@ use lib.ListN.{length}
 use lib.IntN.{ℤ, pos, negℤ, _+ℤ_, _*ℤ_}
 use Rattle.whole.specs.Lists.{entry, zeros}
 use Rattle.whole.specs.Quotient.{floorQuotient}
-use Rattle.lattice.specs.Rows.{plus}
-use Rattle.lattice.specs.RowLaws.{Zero, ZeroTo, length-plus, add-none, ZeroTo-next, ZeroTo-all, ZeroTo-plus, ZeroTo-neg}
+use Rattle.whole.specs.Integers.{add-none}
+use Rattle.lattice.specs.Rows.{plus, Zero, ZeroTo}
+use Rattle.lattice.specs.RowLaws.{length-plus, ZeroTo-next, ZeroTo-all, ZeroTo-plus, ZeroTo-neg}
 use Rattle.lattice.specs.Span.{All, Len, Same, all-map, all-both, all-append, Independent, _~_, same, _then_, add, front, back, unders, steps-all, steps-length, steps-span, steps-independent, independent-nonzero}
 use Rattle.lattice.specs.Hermite.{Echelon, done, skip, step, width, indent, rows, Hermite}
 use Rattle.lattice.specs.Coset.{residue, residue-length, residue-reduced, residue-coset, residue-equal, coset-turn, coset-sums}

@@ -23,7 +23,7 @@ use lib.ListN.{length, getD, set}
 use Rattle.whole.specs.Lists.{entry}
 use Rattle.whole.specs.Tests.{isZero}
 use Rattle.whole.specs.Quotient.{gatheringQuotient}
-use Rattle.whole.specs.Integers.{isZero-true, Positive, above-zero, gatheringQuotient-left}
+use Rattle.whole.specs.Integers.{isZero-true, Positive, positive-of, gatheringQuotient-left}
 use Rattle.lattice.specs.RowLaws.{entry-plus, entry-neg}
 use Rattle.lattice.specs.Span.{All, Len, all-at, _~_, same, _then_, under, swap, sign, add, steps-length}
 use Rattle.tableau.specs.Elimination.{Left, subtract, kept, lowered, each, Choice, none, at, prefer, choose, Gathered, exchange, signed, clear, round, onward, gather}
@@ -134,7 +134,7 @@ lowered-below c p r s l e h = go (isZero (entry c s)) (isZero-true (entry c s))
 
     go : (t : Bool) → (t ≡ true → entry c s ≡ pos 0) → natAbs (entry c (cond t (kept s) (subtract q r s) .row)) < p
     go true f = rw (f refl) l
-    go false f = rw (entry-plus c (negℤ q) r s h, e) (gatheringQuotient-left (entry c s) (above-zero p l))
+    go false f = rw (entry-plus c (negℤ q) r s h, e) (gatheringQuotient-left (entry c s) (positive-of p l))
 
 each-below : (n c p : ℕ) (r : List ℤ) (B : List (List ℤ)) → c < n → 0 < p → entry c r ≡ pos p → All (Len n) B → All (Below c p) (each (lowered c r) B .table)
 unfolding each
@@ -194,7 +194,7 @@ gather-alone n c (suc f) b B i k j p h a e l =
     let C : List (List ℤ) = round c b B .below in
     round-next n c b B j p h a e (λ (z : Choice). Alone c (gather f c z r C .pivot) (gather f c z r C .below))
     (λ s. subst (λ (g : Gathered). Alone c (g .pivot) (g .below)) (sym (gather-none f c r C)) (record {
-      lead = rw (round-lead n c b B j p h a e) (above-zero p (chosen n c b B j p h a e .0));
+      lead = rw (round-lead n c b B j p h a e) (positive-of p (chosen n c b B j p h a e .0));
       lower = s;
     }))
     (λ i′ k′ l′ e′. gather-alone n c f r C i′ k′ (suc i′) k′ h (round-length n c b B j p h a e) e′ (omega arith))

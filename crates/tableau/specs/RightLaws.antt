@@ -23,9 +23,9 @@ use lib.Seq.{length-take-le}
 use lib.IntN.{ℤ, pos, negℤ, _+ℤ_, _*ℤ_}
 use Rattle.whole.specs.Lists.{entry, zeros}
 use Rattle.whole.specs.Quotient.{floorQuotient}
-use Rattle.whole.specs.Integers.{Positive, positive}
+use Rattle.whole.specs.Integers.{Positive, positive, add-none}
 use Rattle.lattice.specs.Rows.{plus, minus, allZero, lead}
-use Rattle.lattice.specs.RowLaws.{length-plus, length-zeros, add-none, zeros-Zero, minus-zeros, allZero-Zero}
+use Rattle.lattice.specs.RowLaws.{length-plus, length-zeros, zeros-Zero, minus-zeros, allZero-Zero}
 use Rattle.lattice.specs.Span.{Span}
 use Rattle.lattice.specs.Hermite.{Echelon, done, skip, step, width, indent, rows, past, Reduced, Hermite, past-width, past-hermite, past-reduced, past-span, reduced-head}
 use Rattle.lattice.specs.Coset.{residue, Describes, coset-self, residue-length, residue-reduced, residue-for, describes-unique}
