@@ -156,7 +156,7 @@ module _ (d c : ℕ) (A : List (List ℤ)) (b : List ℤ) (B : List (List ℤ)) 
   g-zero = steps-all (ZeroTo c) (ZeroTo-neg c) (ZeroTo-plus c) (gather-steps p c (at j p) b B) z
 
   g-alone : Alone c (g .pivot) (g .below)
-  g-alone = gather-alone (c + suc d) c p b B j p j p (omega arith) lb e (omega arith)
+  g-alone = gather-alone (record { within = omega arith; wide = lb; choice = e }) p j p (omega arith)
 
   next-zero : All (ZeroTo (suc c)) (g .below)
   next-zero = all-both (ZeroTo c) (λ (s : List ℤ). entry c s ≡ pos 0) (ZeroTo (suc c)) (ZeroTo-next c) (g .below) (g-zero .1) (g-alone .lower)

@@ -33,19 +33,16 @@ use Rattle.tableau.specs.Table.{tableau}
 use Rattle.tableau.specs.Elimination.{at, choose, gather, eliminate}
 use Rattle.tableau.specs.RightSide.{none, some, rightSide, form, solve}
 use Rattle.tableau.specs.Generators.{Generators, Reaches, Answers, Sized}
-use Rattle.tableau.specs.GatherLaws.{Alone, gather-alone, gather-fuel}
+use Rattle.tableau.specs.GatherLaws.{Chosen, Alone, gather-alone, gather-fuel}
 use Rattle.tableau.specs.FormLaws.{Eliminated, eliminated}
 use Rattle.tableau.specs.TableLaws.{tableau-generators, tableau-reaches}
 use Rattle.tableau.specs.RightLaws.{right-answers, answers-same, answers-none, answers-unique}
 
 -- ---- a
 -- p rounds, where p is the first magnitude chosen, leave the pivot's entry above 0 and every lower entry 0, and f rounds, no fewer, leave the same
-pub gathering-ends : (n c f : ℕ) (b : List ℤ) (B : List (List ℤ)) (j p : ℕ) → c < n → All (Len n) (b ∷ B) → choose c (b ∷ B) ≡ at j p → p ≤ f
+pub gathering-ends : {n c : ℕ} {b : List ℤ} {B : List (List ℤ)} {j p : ℕ} → Chosen n c b B j p → (f : ℕ) → p ≤ f
     → Alone c (gather p c (at j p) b B .pivot) (gather p c (at j p) b B .below) × (gather f c (at j p) b B ≡ gather p c (at j p) b B)
-gathering-ends n c f b B j p h a e l = (
-  gather-alone n c p b B j p j p h a e (omega arith),
-  gather-fuel n c f p b B j p j p j p h a e l (omega arith),
-)
+gathering-ends {j = j} {p = p} h f l = (gather-alone h p j p (omega arith), gather-fuel h f p j p j p l (omega arith))
 
 -- of independent rows of n numbers, elimination leaves the rows of a Hermite form of n columns, which span the same lists
 pub elimination-form : (n : ℕ) (T : List (List ℤ)) → All (Len n) T → Independent n T → Eliminated n T
