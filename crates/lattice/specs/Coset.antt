@@ -97,7 +97,8 @@ residue-coset (step p r H) (x ∷ v) e =
     twice : (q : ℤ) → negsuc 0 *ℤ negℤ q ≡ q
     twice q = rw (rep q) (simp diff-rel (omega arith))
 
-pub residue-for : (H : Echelon) (u v : List ℤ) → length u ≡ width H → length v ≡ width H → Span (rows H) (minus u v) ↔ Span (rows H) (minus u (residue H v))
+pub residue-for : (H : Echelon) (u v : List ℤ) → length u ≡ width H → length v ≡ width H
+    → Span (rows H) (minus u v) ↔ Span (rows H) (minus u (residue H v))
 residue-for H u v a b =
     let l : length (residue H v) ≡ length v = residue-length H v in (
       (λ s. coset-via (rows H) u v (residue H v) (omega arith) s (coset-turn (rows H) (residue H v) v (omega arith) (residue-coset H v b))),

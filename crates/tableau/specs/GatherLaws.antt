@@ -139,7 +139,8 @@ lowered-below c p r s l e h = go (isZero (entry c s)) (isZero-true (entry c s))
     go true f = rw (f refl) l
     go false f = rw (entry-plus c (negℤ q) r s h, e) (gatheringQuotient-left (entry c s) (positive-of p l))
 
-each-below : (n c p : ℕ) (r : List ℤ) (B : List (List ℤ)) → c < n → 0 < p → entry c r ≡ pos p → All (Len n) B → All (Below c p) (each (lowered c r) B .table)
+each-below : (n c p : ℕ) (r : List ℤ) (B : List (List ℤ)) → c < n → 0 < p → entry c r ≡ pos p → All (Len n) B
+    → All (Below c p) (each (lowered c r) B .table)
 unfolding each
 each-below n c p r [] h l e a = tt
 each-below n c p r (s ∷ B) h l e a = (lowered-below c p r s l e (omega (arith, a .0)), each-below n c p r B h l e (a .1))

@@ -88,7 +88,8 @@ leading-indent m (r ∷ T) = rw (leb·suc-suc (suc (lead r)) m, leading-indent m
 remaining-indent : (m : ℕ) (T : List (List ℤ)) → remaining (suc m) (indent T) ≡ indent (remaining m T)
 unfolding remaining lead
 remaining-indent m [] = refl
-remaining-indent m (r ∷ T) = rw (leb·suc-suc (suc (lead r)) m, remaining-indent m T) (indent-cond (ltb (lead r) m) (remaining m T) (r ∷ remaining m T))
+remaining-indent m (r ∷ T) =
+    rw (leb·suc-suc (suc (lead r)) m, remaining-indent m T) (indent-cond (ltb (lead r) m) (remaining m T) (r ∷ remaining m T))
 
 leading-pivot : (m : ℕ) (p : ℤ) (r : List ℤ) (T : List (List ℤ)) → Positive p → leading (suc m) ((p ∷ r) ∷ T) ≡ (p ∷ r) ∷ leading (suc m) T
 unfolding leading lead
