@@ -1,53 +1,48 @@
+-- `lattice::copy` meets its contract: from the left, each number of the one row is stored in the other. Assumes nothing.
+use Prim.Native.Nat.{_-_}
+use native.Mathlib.Omega.{arith}
+use lib.ListN.{length}
+use borrow.Author.Needs.{needs}
+use Rattle.whole.proofs.Signed.{back}
+use Rattle.lattice.proofs.Writing.{Written, starts, goes-on, ends}
 use Rattle.lattice.proofs.copy.Statement.{statement}
 use Rattle.lattice.proofs.copy.Tie as tie
-use Rattle.lattice.proofs.copy.Reads as reads
-use Rattle.lattice.proofs.copy.Lts as lts
 
 abbrev Inv-loop : tie.InvT-loop
-Inv-loop to₀ from i₀ to i = ?
+Inv-loop to₀ from i₀ to i = Written to₀ from to i
 
 abbrev μ-loop : tie.MeasureT-loop
-μ-loop to₀ from i₀ to i = ?
+μ-loop to₀ from i₀ to i = length from - i
 
--- src/lib.rt:12:5
 loop-holds : tie.Need-loop-holds Inv-loop μ-loop
-loop-holds c = ?
+loop-holds c = starts (c .pre)
 
--- src/lib.rt:13:17
 mul-x : tie.Need-mul-x Inv-loop μ-loop
-mul-x c = ?
+mul-x c = search needs
 
--- src/lib.rt:13:17
 shared-slice-copy-out-x : tie.Need-shared-slice-copy-out-x Inv-loop μ-loop
-shared-slice-copy-out-x c = ?
+shared-slice-copy-out-x c = omega arith
 
--- src/lib.rt:14:9
 mul-x-2 : tie.Need-mul-x-2 Inv-loop μ-loop
-mul-x-2 c = ?
+mul-x-2 c = search needs
 
--- src/lib.rt:14:9
 slice-set-from-x : tie.Need-slice-set-from-x Inv-loop μ-loop
-slice-set-from-x c = ?
+slice-set-from-x c = omega arith
 
--- src/lib.rt:15:9
 add-i : tie.Need-add-i Inv-loop μ-loop
-add-i c = ?
+add-i c = omega arith
 
--- src/lib.rt:12:5
 loop-less : tie.Need-loop-less Inv-loop μ-loop
-loop-less c = ?
+loop-less c = omega arith
 
--- src/lib.rt:12:5
 loop-again : tie.Need-loop-again Inv-loop μ-loop
-loop-again c = ?
+loop-again c = goes-on (c .before .before .loop .inv) (c .before .loop-test .taken) (search needs)
 
--- src/lib.rt:7:1
 same-length : tie.Need-same-length Inv-loop μ-loop
-same-length c = ?
+same-length c = c .before .loop .inv .same
 
--- src/lib.rt:7:1
 returns : tie.Need-returns Inv-loop μ-loop
-returns c = ?
+returns c = ends (c .before .loop .inv) (c .loop-test .left)
 
 pub copy-spec : {M : Type 1} → statement M
 copy-spec =
