@@ -3,3 +3,6 @@ pub mod Rows
 pub mod Sums
 pub mod RowLaws
 pub mod Span
+pub mod SumLaws
+pub mod Hermite
+pub mod Coset

@@ -16,7 +16,7 @@ use mathlib.Core.List.{List, [], _∷_, _++_}
 use Prim.Native.Nat.{ℕ, zero, suc, _+_, _<_, _≤_}
 use native.Mathlib.Omega.{arith}
 use lib.ListN.{length, take, drop, length-replicate}
-use lib.IntN.{ℤ, pos, negsuc, negℤ, _+ℤ_, _*ℤ_}
+use lib.IntN.{ℤ, pos, negsuc, negℤ, _+ℤ_, _*ℤ_, +ℤ-invr}
 use Rattle.whole.specs.Lists.{entry, zeros}
 use Rattle.whole.specs.Tests.{isZero}
 use Rattle.whole.specs.Integers.{rep, diff-rel, isZero-true}
@@ -55,6 +55,12 @@ unfolding plus
 plus-plus c d [] v = refl
 plus-plus c d (y ∷ r) [] = refl
 plus-plus c d (y ∷ r) (x ∷ v) = ap₂ _∷_ (rw (rep c, rep d, rep x, rep y) (simp diff-rel (omega arith))) (plus-plus c d r v)
+
+pub plus-cancel : (c : ℤ) (r u v : List ℤ) → plus c r u ≡ plus c r v → u ≡ v
+plus-cancel c r u v e = sym (undo u) ∙ ap (plus (negℤ c) r) e ∙ undo v
+  where
+    undo : (v : List ℤ) → plus (negℤ c) r (plus c r v) ≡ v
+    undo v = plus-plus (negℤ c) c r v ∙ ap (λ (k : ℤ). plus k r v) (+ℤ-invr c) ∙ plus-zero r v
 
 pub plus-comm : (c d : ℤ) (r s v : List ℤ) → plus c r (plus d s v) ≡ plus d s (plus c r v)
 unfolding plus
@@ -135,6 +141,12 @@ zeros-Zero zero [] l z = refl
 zeros-Zero zero (x ∷ v) l z = absurd (omega arith)
 zeros-Zero (suc n) [] l z = absurd (omega arith)
 zeros-Zero (suc n) (x ∷ v) l z = ap₂ _∷_ (z .0) (zeros-Zero n v (omega arith) (z .1))
+
+pub Zero-unit : (n j : ℕ) → Zero (take j (unit n j))
+Zero-unit zero zero = tt
+Zero-unit zero (suc j) = tt
+Zero-unit (suc n) zero = tt
+Zero-unit (suc n) (suc j) = (refl, Zero-unit n j)
 
 pub Zero-append : (u v : List ℤ) → Zero (u ++ v) ↔ (Zero u × Zero v)
 Zero-append [] v = ((λ z. (tt, z)), (λ z. z .1))

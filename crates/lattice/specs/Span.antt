@@ -2,6 +2,7 @@
 --   All Q T             every row of T has the property Q
 --   Len n r             r has n numbers
 --   Span T v            some whole multiples of T's rows, added to v, give zeros: v lies in the row span of T
+--   Same n T U          T and U span the same lists of n numbers
 --   Independent n T     only zero times a row of n numbers lies in the span of the rows below it
 --   T ~ U               U comes from T by elementary row steps: exchange of neighbours, negation, adding a multiple of a row to the next one
 --   all-..              properties of all rows
@@ -32,6 +33,9 @@ Len n r = length r ≡ n
 abbrev pub Span : List (List ℤ) → List ℤ → Type 0
 Span [] v = Zero v
 Span (r ∷ T) v = (c : ℤ) × Span T (plus c r v)
+
+pub record Same (n : ℕ) (T U : List (List ℤ)) : Type 0 where
+  pub both : (v : List ℤ) → length v ≡ n → Span T v ↔ Span U v
 
 abbrev pub Independent : ℕ → List (List ℤ) → Type 0
 Independent n [] = Unit {0}

@@ -161,6 +161,10 @@ isZero-true (negsuc n) t = absurd (omega (arith, eqb-true (suc n) 0 t))
 pub data Positive : ℤ → Type 0 where
   positive : (k : ℕ) → Positive (pos (suc k))
 
+pub above-zero : (n : ℕ) → 0 < n → Positive (pos n)
+above-zero zero h = absurd (omega arith)
+above-zero (suc k) h = positive k
+
 pub positive-nonzero : {p : ℤ} → Positive p → p ≡ pos 0 → ⊥
 positive-nonzero (positive k) = simp diff-rel (omega arith)
 
@@ -170,8 +174,9 @@ multiple-zero (pos n) (positive k) = simp diff-rel (omega arith)
 multiple-zero (negsuc n) (positive k) = simp diff-rel (omega arith)
 
 -- two numbers in 0 to p − 1 that differ by a multiple of p
-pub multiple-small : {p : ℤ} (x y c : ℤ) → Positive p → pos 0 ≤ℤ x → x <ℤ p → pos 0 ≤ℤ y → y <ℤ p → x +ℤ negsuc 0 *ℤ y +ℤ c *ℤ p ≡ pos 0 → c ≡ pos 0
-multiple-small x y (pos zero) (positive k) = λ _ _ _ _ _. refl
+pub multiple-small : {p : ℤ} (x y c : ℤ) → Positive p → pos 0 ≤ℤ x → x <ℤ p → pos 0 ≤ℤ y → y <ℤ p → x +ℤ negsuc 0 *ℤ y +ℤ c *ℤ p ≡ pos 0
+    → (c ≡ pos 0) × (x ≡ y)
+multiple-small x y (pos zero) (positive k) = rw (rep x, rep y) (simp diff-rel (omega arith))
 multiple-small x y (pos (suc n)) (positive k) = rw (rep x, rep y) (simp diff-rel (omega arith))
 multiple-small x y (negsuc n) (positive k) = rw (rep x, rep y) (simp diff-rel (omega arith))
 
