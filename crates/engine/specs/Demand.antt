@@ -15,29 +15,38 @@
 -- Assumes nothing.
 use mathlib.Core.Path.{_≡_, refl, sym, _∙_, ap, subst}
 use mathlib.Core.Logic.{_↔_}
-use mathlib.Core.Bool.{Bool, true, false, cond, _&&_}
+use mathlib.Core.Bool.{Bool, true, false, cond, _&&_, true≢false}
 use mathlib.Core.List.{List, [], _∷_}
 use Prim.Native.Nat.{ℕ, zero, suc, _+_, _*_, _≤_}
 use native.Mathlib.Omega.{arith}
 use borrow.Author.Tests.{eqb-true}
 use lib.Dec.{eqb}
 use lib.IntN.{ℤ}
-use lib.ListN.{length, take, drop, length-take, length-drop}
-use Rattle.lattice.specs.Rows.{chop, flat}
+use lib.ListN.{length}
 use Rattle.lattice.specs.Sums.{Satisfies}
-use Rattle.lattice.specs.Span.{All, Len}
-use Rattle.problem.specs.Answers.{isVerdict}
-use Rattle.problem.specs.Checks.{Posed, rowLengthsFit, orNext, firstCause}
+use Rattle.lattice.specs.FlatLaws.{chop-rows, length-chop}
+use Rattle.problem.specs.Answers.{noSteps, isVerdict}
+use Rattle.problem.specs.Checks.{Posed, firstCause}
+use Rattle.problem.specs.CheckLaws.{passes}
 use Rattle.problem.specs.declared.Refusal.{Refusal}
 use Rattle.problem.specs.declared.Refusal.the-variants.{Elimination, NoWholeNumbers, Seating}
 use Rattle.problem.specs.declared.Check.{Check}
 use Rattle.problem.specs.declared.Check.the-variants.{Passed, Failed}
-use Rattle.problem.specs.declared.Answer.the-variants.{Refused}
+use Rattle.problem.specs.declared.Counts.{Counts}
+use Rattle.problem.specs.declared.Answer.the-variants.{Spent, Refused}
 use Rattle.tableau.specs.RightSide.{Found, none, some, solve}
 use Rattle.tableau.specs.Generators.{Sized}
-use Rattle.tableau.specs.Theorems.{solve-same}
 use Rattle.settling.specs.Columns.{Columns}
 use Rattle.settling.specs.Seating.{Seated, seated, far, goalWishes, seat}
+use Rattle.settling.specs.Moves.{moved}
+use Rattle.settling.specs.Steps.{partOf, nextStep}
+use Rattle.settling.specs.Settle.{ended, atRest, counted, onStep, settleFrom, settle}
+use Rattle.settling.specs.Strides.{strides}
+use Rattle.settling.specs.declared.Part.{Part}
+use Rattle.settling.specs.declared.Part.the-variants.{Bounds, Goals}
+use Rattle.settling.specs.declared.Move.{Move}
+use Rattle.settling.specs.declared.Step.{Step}
+use Rattle.settling.specs.declared.Step.the-variants.{Rest, Take}
 use Rattle.engine.specs.Assign.{Buffers, Done, n, m, matrix, columns, lentOf, refused, overLimit, settleOn, onCheck, onSeated, onFound, solved, assign}
 
 -- ---- the words
@@ -75,14 +84,68 @@ pub record Demand3 (P Q : Posed) (B C : Buffers) : Type 0 where
   pub outcomes : SameRows P Q → SameColumns P Q → SameOutcome (assign P B) (assign Q C)
 
 -- ---- what it means to be within the limits
-never-passed : {why : Refusal} → Failed why ≡ Passed → ⊥
-never-passed e = let z : _≡_ {A = ℕ} 0 1 = cc in omega arith
-
-second-passed : (a b : Bool) (why reason : Refusal) (next : Check) → orNext a why (orNext b reason next) ≡ Passed → b ≡ true
-second-passed true true why reason next e = refl
-second-passed true false why reason next e = absurd (never-passed e)
-second-passed false b why reason next e = absurd (never-passed e)
-
 both-true : (a b : Bool) → a && b ≡ true → (a ≡ true) × (b ≡ true)
 both-true true b e = (refl, e)
 both-true false b e = absurd (let z : _≡_ {A = ℕ} 0 1 = cc in omega arith)
+
+module _ (P : Posed) (B : Buffers) (w : Within P B) where
+  pub within-sized : Sized (n P) (matrix P) (P .rights)
+  within-sized =
+      let e : (eqb (length (P .coefficients)) (m P * n P) ≡ true) × (eqb (length (P .rights)) (m P) ≡ true) = both-true _ _ (passes P (lentOf B) (w .passed) .row-lengths) in
+      record {
+        wide = chop-rows (m P) (n P) (P .coefficients) (eqb-true _ _ (e .0));
+        long = eqb-true _ _ (e .1) ∙ sym (length-chop (m P) (n P) (P .coefficients));
+      }
+
+  -- past the checks, the mark decides
+  assign-is : assign P B ≡ cond (solved P .over) (overLimit B) (onFound P (solved P .form) B (solved P .found))
+  unfolding assign
+  assign-is = rw (w .passed) refl
+
+-- ---- settling ends in a verdict
+settle-verdict : (g : ℕ) (C : Columns) (N : List (List ℤ)) (k : Counts) (v : List ℤ) → isVerdict (settleFrom g C N k v .answer) ≡ true
+unfolding settleFrom
+settle-verdict zero C N k v = go (nextStep C N v)
+  where
+    at-rest : (p : Part) → isVerdict (atRest p k) ≡ true
+    at-rest Bounds = refl
+    at-rest Goals = refl
+
+    go : (z : Step) → isVerdict (onStep z (ended (atRest (partOf C v) k) v) (λ o. ended (Spent k) v) .answer) ≡ true
+    go Rest = at-rest (partOf C v)
+    go (Take i o) = refl
+settle-verdict (suc g) C N k v = go (nextStep C N v) (λ o. settle-verdict g C N (counted (partOf C v) k) (moved N o v))
+  where
+    at-rest : (p : Part) → isVerdict (atRest p k) ≡ true
+    at-rest Bounds = refl
+    at-rest Goals = refl
+
+    go : (z : Step) → ((o : Move) → isVerdict (settleFrom g C N (counted (partOf C v) k) (moved N o v) .answer) ≡ true)
+        → isVerdict (onStep z (ended (atRest (partOf C v) k) v) (λ o. settleFrom g C N (counted (partOf C v) k) (moved N o v)) .answer) ≡ true
+    go Rest ih = at-rest (partOf C v)
+    go (Take i o) ih = ih o
+
+-- ---- refusals 7 and 8
+module _ (P : Posed) (T : List (List ℤ)) (B : Buffers) where
+  found-below : (f : Found) → onFound P T B f .answer ≡ Refused Elimination → ⊥
+  unfolding settleOn settle
+  found-below none e = let z : _≡_ {A = ℕ} 8 7 = cc in omega arith
+  found-below (some v N) e = go (seat (goalWishes (columns P)) (columns P) N v) e
+    where
+      go : (z : Seated) → onSeated P T N B z .answer ≡ Refused Elimination → ⊥
+      go far e = let z : _≡_ {A = ℕ} 9 7 = cc in omega arith
+      go (seated u) e = let z : true ≡ false = sym (settle-verdict (P .problem .limit) (columns P) N noSteps u) ∙ ap isVerdict e in true≢false z
+
+pub past-is-over : (P : Posed) (B : Buffers) → Within P B → PastLimit P B ↔ (solved P .over ≡ true)
+past-is-over P B w = ((λ e. go (solved P .over) refl (sym (ap (λ (d : Done). d .answer) (assign-is P B w)) ∙ e)), (λ e. rw (assign-is P B w, e) refl))
+  where
+    go : (t : Bool) → solved P .over ≡ t → cond (solved P .over) (overLimit B) (onFound P (solved P .form) B (solved P .found)) .answer ≡ Refused Elimination → solved P .over ≡ true
+    go true e f = e
+    go false e f = absurd (found-below P (solved P .form) B (solved P .found) (rw e at f))
+
+not-over : (P : Posed) (B : Buffers) → Within P B → (PastLimit P B → ⊥) → solved P .over ≡ false
+not-over P B w f = go (solved P .over) refl
+  where
+    go : (t : Bool) → solved P .over ≡ t → solved P .over ≡ false
+    go true e = absurd (f (past-is-over P B w .1 e))
+    go false e = e

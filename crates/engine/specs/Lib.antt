@@ -1,2 +1,3 @@
 -- The root of the definitions.
 pub mod Assign
+pub mod Demand
