@@ -21,9 +21,9 @@ use lib.ListN.{length}
 use lib.IntN.{ℤ, pos, negsuc, _+ℤ_, _*ℤ_}
 use lib.Signed.{_≤ℤ_, _<ℤ_, ≤ℤ-refl}
 use Rattle.whole.specs.Lists.{zeros}
-use Rattle.whole.specs.Integers.{rep, diff-rel, Positive, positive-above, positive-nonzero, multiple-zero, multiple-small, multiple-both, multiple-self}
-use Rattle.lattice.specs.Rows.{plus, minus}
-use Rattle.lattice.specs.RowLaws.{ZeroTo, plus-zero, add-none}
+use Rattle.whole.specs.Integers.{rep, diff-rel, Positive, positive-above, positive-nonzero, multiple-zero, multiple-small, multiple-both, multiple-self, add-none}
+use Rattle.lattice.specs.Rows.{plus, minus, ZeroTo}
+use Rattle.lattice.specs.RowLaws.{plus-none}
 use Rattle.lattice.specs.Span.{Span, Same, span-row, span-under}
 
 pub data Echelon : Type 0 where
@@ -79,7 +79,7 @@ span-pivot {p} r T v h = (
   (λ s.
       let i : (pos 0 +ℤ s .0 *ℤ p ≡ pos 0) × Span T (plus (s .0) r v) = span-indent T _ _ .0 (s .1) in
       let z : s .0 ≡ pos 0 = multiple-zero (s .0) h (i .0) in
-      subst (Span T) (ap (λ (c : ℤ). plus c r v) z ∙ plus-zero r v) (i .1)),
+      subst (Span T) (ap (λ (c : ℤ). plus c r v) z ∙ plus-none r v) (i .1)),
   (λ s. span-under (p ∷ r) (indent T) (pos 0 ∷ v) (span-indent T (pos 0) v .1 (refl, s))),
 )
 
@@ -131,7 +131,7 @@ reduced-unique (step p r H) (x ∷ u) (y ∷ v) a b h ru rv s =
     let z : (s .0 ≡ pos 0) × (x ≡ y) = multiple-small x y (s .0) (h .0) (ru .0) (ru .1) (rv .0) (rv .1) (i .0) in
     ap₂ _∷_ (z .1)
     (reduced-unique H u v (omega arith) (omega arith) (h .3) (ru .2) (rv .2)
-    (subst (Span (rows H)) (ap (λ (c : ℤ). plus c r (minus u v)) (z .0) ∙ plus-zero r (minus u v)) (i .1)))
+    (subst (Span (rows H)) (ap (λ (c : ℤ). plus c r (minus u v)) (z .0) ∙ plus-none r (minus u v)) (i .1)))
 
 -- a reduced list that differs by a list of the span from one with m zeros in front has them too
 pub reduced-head : (m : ℕ) (H : Echelon) (u v : List ℤ) → length (zeros m ++ u) ≡ width H → Hermite H → Reduced H v
@@ -147,7 +147,7 @@ reduced-head (suc m) (step p t H) u (y ∷ v) l h r s =
     let w : List ℤ = minus (zeros m ++ u) v in
     let i : (pos 0 +ℤ negsuc 0 *ℤ y +ℤ s .0 *ℤ p ≡ pos 0) × Span (rows H) (plus (s .0) t w) = span-indent (rows H) _ _ .0 (s .1) in
     let z : (s .0 ≡ pos 0) × (pos 0 ≡ y) = multiple-small (pos 0) y (s .0) (h .0) (≤ℤ-refl (pos 0)) (positive-above (h .0)) (r .0) (r .1) (i .0) in
-    (sym (z .1), reduced-head m H u v (omega arith) (h .3) (r .2) (subst (Span (rows H)) (ap (λ (c : ℤ). plus c t w) (z .0) ∙ plus-zero t w) (i .1)))
+    (sym (z .1), reduced-head m H u v (omega arith) (h .3) (r .2) (subst (Span (rows H)) (ap (λ (c : ℤ). plus c t w) (z .0) ∙ plus-none t w) (i .1)))
 
 -- ---- the form of a span
 -- a pivot in one form has a pivot in the other
@@ -158,18 +158,18 @@ no-skip p r H K h f = positive-nonzero (h .0) (span-indent (rows K) p r .0 (f (s
 inner-skip : (H K : Echelon) → Same (width (skip H)) (rows (skip H)) (rows (skip K)) → Same (width H) (rows H) (rows K)
 inner-skip H K f = record {
   both = λ v e. (
-      (λ x. span-indent (rows K) (pos 0) v .0 (f .both (pos 0 ∷ v) (ap suc e) .0 (span-indent (rows H) (pos 0) v .1 (refl, x))) .1),
-      (λ x. span-indent (rows H) (pos 0) v .0 (f .both (pos 0 ∷ v) (ap suc e) .1 (span-indent (rows K) (pos 0) v .1 (refl, x))) .1),
-    );
+    (λ x. span-indent (rows K) (pos 0) v .0 (f .both (pos 0 ∷ v) (ap suc e) .0 (span-indent (rows H) (pos 0) v .1 (refl, x))) .1),
+    (λ x. span-indent (rows H) (pos 0) v .0 (f .both (pos 0 ∷ v) (ap suc e) .1 (span-indent (rows K) (pos 0) v .1 (refl, x))) .1),
+  );
 }
 
 inner-step : {p q : ℤ} (r s : List ℤ) (H K : Echelon) → Positive p → Positive q
     → Same (width (step p r H)) (rows (step p r H)) (rows (step q s K)) → Same (width H) (rows H) (rows K)
 inner-step r s H K pp pq f = record {
   both = λ v e. (
-      (λ x. span-pivot s (rows K) v pq .0 (f .both (pos 0 ∷ v) (ap suc e) .0 (span-pivot r (rows H) v pp .1 x))),
-      (λ x. span-pivot r (rows H) v pp .0 (f .both (pos 0 ∷ v) (ap suc e) .1 (span-pivot s (rows K) v pq .1 x))),
-    );
+    (λ x. span-pivot s (rows K) v pq .0 (f .both (pos 0 ∷ v) (ap suc e) .0 (span-pivot r (rows H) v pp .1 x))),
+    (λ x. span-pivot r (rows H) v pp .0 (f .both (pos 0 ∷ v) (ap suc e) .1 (span-pivot s (rows K) v pq .1 x))),
+  );
 }
 
 -- two first rows over one form

@@ -1,8 +1,6 @@
 -- Laws of rows: of plus, minus and neg, of zeros, and of entries.
---   Zero v                  every number of v is 0; `allZero` is its test
---   ZeroTo c v              the first c numbers are 0
---   length-plus, -neg       the lengths
---   plus-zero .. -append    v + c r: no multiple; multiples of one row add up; those of two rows may change places; a multiple of a sum; of a
+--   length-..               the lengths
+--   plus-none .. -take      v + c r: no multiple; multiples of one row add up; those of two rows may change places; a multiple of a sum; of a
 --                           negated row; of zeros; once a row and zeros; of rows end to end. Lengths are asked for only where a sum is
 --                           itself taken times a number
 --   minus-..                u − v by way of w; turned round; of two sums; of a sum and one of its parts; behind m zeros
@@ -15,20 +13,13 @@ use mathlib.Core.Bool.{Bool, true, false, _&&_, false≢true}
 use mathlib.Core.List.{List, [], _∷_, _++_}
 use Prim.Native.Nat.{ℕ, zero, suc, _+_, _<_, _≤_}
 use native.Mathlib.Omega.{arith}
-use lib.ListN.{length, take, drop, length-replicate}
+use lib.ListN.{length, take, length-append, length-replicate}
 use lib.Seq.{take-all}
 use lib.IntN.{ℤ, pos, negsuc, negℤ, _+ℤ_, _*ℤ_, +ℤ-invr}
 use Rattle.whole.specs.Lists.{entry, zeros}
 use Rattle.whole.specs.Tests.{isZero}
-use Rattle.whole.specs.Integers.{rep, diff-rel, isZero-true}
-use Rattle.lattice.specs.Rows.{plus, minus, neg, unit, allZero}
-
-abbrev pub Zero : List ℤ → Type 0
-Zero [] = Unit {0}
-Zero (x ∷ v) = (x ≡ pos 0) × Zero v
-
-abbrev pub ZeroTo : ℕ → List ℤ → Type 0
-ZeroTo c v = Zero (take c v)
+use Rattle.whole.specs.Integers.{rep, diff-rel, add-none, isZero-true}
+use Rattle.lattice.specs.Rows.{plus, minus, neg, unit, Zero, ZeroTo, allZero}
 
 -- ---- lengths
 pub length-plus : (c : ℤ) (r v : List ℤ) → length (plus c r v) ≡ length v
@@ -47,12 +38,15 @@ length-unit zero j = refl
 length-unit (suc n) zero = ap suc (length-replicate n (pos 0))
 length-unit (suc n) (suc j) = ap suc (length-unit n j)
 
+pub length-zeros : (m : ℕ) (v : List ℤ) → length (zeros m ++ v) ≡ m + length v
+length-zeros m v = length-append (zeros m) v ∙ ap (λ (k : ℕ). k + length v) (length-replicate m (pos 0))
+
 -- ---- multiples of a row
-pub plus-zero : (r v : List ℤ) → plus (pos 0) r v ≡ v
+pub plus-none : (r v : List ℤ) → plus (pos 0) r v ≡ v
 unfolding plus
-plus-zero [] v = refl
-plus-zero (y ∷ r) [] = refl
-plus-zero (y ∷ r) (x ∷ v) = ap₂ _∷_ (rw (rep x, rep y) (simp diff-rel (omega arith))) (plus-zero r v)
+plus-none [] v = refl
+plus-none (y ∷ r) [] = refl
+plus-none (y ∷ r) (x ∷ v) = ap₂ _∷_ (rw (rep x, rep y) (simp diff-rel (omega arith))) (plus-none r v)
 
 pub plus-plus : (c d : ℤ) (r v : List ℤ) → plus c r (plus d r v) ≡ plus (d +ℤ c) r v
 unfolding plus
@@ -64,7 +58,7 @@ pub plus-cancel : (c : ℤ) (r u v : List ℤ) → plus c r u ≡ plus c r v →
 plus-cancel c r u v e = sym (undo u) ∙ ap (plus (negℤ c) r) e ∙ undo v
   where
     undo : (v : List ℤ) → plus (negℤ c) r (plus c r v) ≡ v
-    undo v = plus-plus (negℤ c) c r v ∙ ap (λ (k : ℤ). plus k r v) (+ℤ-invr c) ∙ plus-zero r v
+    undo v = plus-plus (negℤ c) c r v ∙ ap (λ (k : ℤ). plus k r v) (+ℤ-invr c) ∙ plus-none r v
 
 pub plus-comm : (c d : ℤ) (r s v : List ℤ) → plus c r (plus d s v) ≡ plus d s (plus c r v)
 unfolding plus
@@ -90,15 +84,11 @@ plus-neg c [] v = refl
 plus-neg c (y ∷ r) [] = refl
 plus-neg c (y ∷ r) (x ∷ v) = ap₂ _∷_ (rw (rep c, rep x, rep y) (simp diff-rel (omega arith))) (plus-neg c r v)
 
--- x + c 0 = x
-pub add-none : (c x y : ℤ) → y ≡ pos 0 → x +ℤ c *ℤ y ≡ x
-add-none c x y e = ap (λ (t : ℤ). x +ℤ c *ℤ t) e ∙ rw (rep c, rep x) (simp diff-rel (omega arith))
-
-pub plus-Zero : (c : ℤ) (r v : List ℤ) → Zero r → plus c r v ≡ v
+pub plus-zeros : (c : ℤ) (r v : List ℤ) → Zero r → plus c r v ≡ v
 unfolding plus
-plus-Zero c [] v z = refl
-plus-Zero c (y ∷ r) [] z = refl
-plus-Zero c (y ∷ r) (x ∷ v) z = ap₂ _∷_ (add-none c x y (z .0)) (plus-Zero c r v (z .1))
+plus-zeros c [] v z = refl
+plus-zeros c (y ∷ r) [] z = refl
+plus-zeros c (y ∷ r) (x ∷ v) z = ap₂ _∷_ (add-none c x y (z .0)) (plus-zeros c r v (z .1))
 
 pub plus-one : (r v : List ℤ) → length r ≡ length v → Zero v → plus (pos 1) r v ≡ r
 unfolding plus
@@ -129,7 +119,7 @@ Zero-minus [] = tt
 Zero-minus (x ∷ r) = (rw (rep x) (simp diff-rel (omega arith)), Zero-minus r)
 
 pub Zero-plus : (c : ℤ) (r v : List ℤ) → Zero r → Zero v → Zero (plus c r v)
-Zero-plus c r v zr zv = rw (plus-Zero c r v zr) zv
+Zero-plus c r v zr zv = rw (plus-zeros c r v zr) zv
 
 pub Zero-zeros : (n : ℕ) → Zero (zeros n)
 Zero-zeros zero = tt
@@ -176,14 +166,14 @@ ZeroTo-unit (suc n) (suc j) = (refl, ZeroTo-unit n j)
 pub minus-via : (u w v : List ℤ) → length u ≤ length w → plus (pos 1) (minus w v) (minus u w) ≡ minus u v
 minus-via u w v l =
     plus-nest (pos 1) (negsuc 0) v w (minus u w) (omega (arith, length-plus (negsuc 0) w u))
-    ∙ ap (plus (negsuc 0) v) (plus-plus (pos 1) (negsuc 0) w u ∙ plus-zero w u)
+    ∙ ap (plus (negsuc 0) v) (plus-plus (pos 1) (negsuc 0) w u ∙ plus-none w u)
 
 -- v − u = (v − v) − (u − v)
 pub minus-turn : (u v : List ℤ) → length v ≤ length u → minus (minus v v) (minus u v) ≡ minus v u
 minus-turn u v l =
     plus-nest (negsuc 0) (negsuc 0) v u (minus v v) (omega (arith, length-plus (negsuc 0) v v))
     ∙ plus-comm (pos 1) (negsuc 0) v u (minus v v)
-    ∙ ap (plus (negsuc 0) u) (plus-plus (pos 1) (negsuc 0) v v ∙ plus-zero v v)
+    ∙ ap (plus (negsuc 0) u) (plus-plus (pos 1) (negsuc 0) v v ∙ plus-none v v)
 
 -- (v − v) + c (u − w) = (v + c u) − (v + c w)
 pub minus-sums : (c : ℤ) (u w v : List ℤ) → length v ≤ length u → plus c (minus u w) (minus v v) ≡ minus (plus c u v) (plus c w v)
@@ -202,7 +192,7 @@ minus-part u v l = plus-comm (negsuc 0) (pos 1) v u v ∙ plus-one u (minus v v)
 -- (0, u) − (0, v) = (0, u − v)
 pub minus-zeros : (m : ℕ) (u v : List ℤ) → minus (zeros m ++ u) (zeros m ++ v) ≡ zeros m ++ minus u v
 minus-zeros m u v =
-    plus-append (negsuc 0) (zeros m) (zeros m) v u refl ∙ ap (λ (t : List ℤ). t ++ minus u v) (plus-Zero (negsuc 0) (zeros m) (zeros m) (Zero-zeros m))
+    plus-append (negsuc 0) (zeros m) (zeros m) v u refl ∙ ap (λ (t : List ℤ). t ++ minus u v) (plus-zeros (negsuc 0) (zeros m) (zeros m) (Zero-zeros m))
 
 -- ---- entries
 pub entry-plus : (i : ℕ) (c : ℤ) (r v : List ℤ) → i < length v → entry i (plus c r v) ≡ entry i v +ℤ c *ℤ entry i r

@@ -11,18 +11,18 @@ use mathlib.Core.Path.{_≡_, refl, sym, _∙_, ap, ap₂, subst}
 use mathlib.Core.List.{List, [], _∷_, _++_, map, append-assoc}
 use Prim.Native.Nat.{ℕ, zero, suc, _+_}
 use native.Mathlib.Omega.{arith}
-use native.Mathlib.Nat.{add-zero, zero-add}
+use native.Mathlib.Nat.{zero-add}
 use lib.ListN.{length}
 use lib.IntN.{ℤ, pos, negℤ, _+ℤ_, _*ℤ_}
 use Rattle.whole.specs.Lists.{entry, zeros}
 use Rattle.whole.specs.Quotient.{floorQuotient}
-use Rattle.whole.specs.Integers.{Positive}
-use Rattle.lattice.specs.Rows.{plus}
-use Rattle.lattice.specs.RowLaws.{Zero, ZeroTo, length-plus, add-none, ZeroTo-next, ZeroTo-all, ZeroTo-plus, ZeroTo-neg}
+use Rattle.whole.specs.Integers.{add-none}
+use Rattle.lattice.specs.Rows.{plus, Zero, ZeroTo}
+use Rattle.lattice.specs.RowLaws.{length-plus, ZeroTo-next, ZeroTo-all, ZeroTo-plus, ZeroTo-neg}
 use Rattle.lattice.specs.Span.{All, Len, Same, all-map, all-both, all-append, Independent, _~_, same, _then_, add, front, back, unders, steps-all, steps-length, steps-span, steps-independent, independent-nonzero}
 use Rattle.lattice.specs.Hermite.{Echelon, done, skip, step, width, indent, rows, Hermite}
 use Rattle.lattice.specs.Coset.{residue, residue-length, residue-reduced, residue-coset, residue-equal, coset-turn, coset-sums}
-use Rattle.tableau.specs.Elimination.{Left, reduced, Run, each, Choice, none, at, choose, Gathered, gather, Passed, passColumn, passColumns, eliminate}
+use Rattle.tableau.specs.Elimination.{Left, reduced, each, Choice, none, at, choose, Gathered, gather, Passed, passColumn, passColumns, eliminate}
 use Rattle.tableau.specs.GatherLaws.{each-steps, gather-steps, choose-stands, Stands, Alone, gather-alone}
 
 -- ---- row steps
@@ -189,8 +189,8 @@ module _ (d c : ℕ) (A : List (List ℤ)) (b : List ℤ) (B : List (List ℤ)) 
     above-is =
         all-map (Len (c + suc d)) _
         (λ a l.
-            ap (λ (x : List ℤ). residue (skips (suc c) K) (reduced c x a .row)) (shaped .2)
-            ∙ reduced-residue c q t K a (omega (arith, l, i .wide)) t-length (i .hermite)) A la
+        ap (λ (x : List ℤ). residue (skips (suc c) K) (reduced c x a .row)) (shaped .2)
+        ∙ reduced-residue c q t K a (omega (arith, l, i .wide)) t-length (i .hermite)) A la
 
     formed-step : Formed (suc d) c A (b ∷ B)
     unfolding passColumns passColumn

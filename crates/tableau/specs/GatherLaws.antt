@@ -13,7 +13,7 @@
 -- Assumes nothing.
 use mathlib.Core.Path.{_≡_, refl, sym, _∙_, ap, ap₂, subst}
 use mathlib.Core.Bool.{Bool, true, false, cond, or-false}
-use mathlib.Core.List.{List, [], _∷_, _++_, map, append-nil}
+use mathlib.Core.List.{List, [], _∷_, _++_, append-nil}
 use Prim.Native.Nat.{ℕ, zero, suc, _<_, _≤_}
 use native.Mathlib.Omega.{arith}
 use borrow.Author.Tests.{lt-leb}
@@ -23,11 +23,10 @@ use lib.ListN.{length, getD, set}
 use Rattle.whole.specs.Lists.{entry}
 use Rattle.whole.specs.Tests.{isZero}
 use Rattle.whole.specs.Quotient.{gatheringQuotient}
-use Rattle.whole.specs.Integers.{isZero-true, Positive, above-zero, gatheringQuotient-left}
-use Rattle.lattice.specs.Rows.{neg}
+use Rattle.whole.specs.Integers.{isZero-true, Positive, positive-of, gatheringQuotient-left}
 use Rattle.lattice.specs.RowLaws.{entry-plus, entry-neg}
 use Rattle.lattice.specs.Span.{All, Len, all-at, _~_, same, _then_, under, swap, sign, add, steps-length}
-use Rattle.tableau.specs.Elimination.{Left, subtract, kept, lowered, reduced, Run, each, Choice, none, at, shifted, prefer, choose, Gathered, exchange, signed, clear, round, onward, gather}
+use Rattle.tableau.specs.Elimination.{Left, subtract, kept, lowered, each, Choice, none, at, prefer, choose, Gathered, exchange, signed, clear, round, onward, gather}
 
 -- ---- row steps
 pub each-steps : (r : List ℤ) (f : List ℤ → Left) → ((s : List ℤ) (B : List (List ℤ)) → (r ∷ s ∷ B) ~ (r ∷ f s .row ∷ B)) → (A B : List (List ℤ))
@@ -135,7 +134,7 @@ lowered-below c p r s l e h = go (isZero (entry c s)) (isZero-true (entry c s))
 
     go : (t : Bool) → (t ≡ true → entry c s ≡ pos 0) → natAbs (entry c (cond t (kept s) (subtract q r s) .row)) < p
     go true f = rw (f refl) l
-    go false f = rw (entry-plus c (negℤ q) r s h, e) (gatheringQuotient-left (entry c s) (above-zero p l))
+    go false f = rw (entry-plus c (negℤ q) r s h, e) (gatheringQuotient-left (entry c s) (positive-of p l))
 
 each-below : (n c p : ℕ) (r : List ℤ) (B : List (List ℤ)) → c < n → 0 < p → entry c r ≡ pos p → All (Len n) B → All (Below c p) (each (lowered c r) B .table)
 unfolding each
@@ -195,7 +194,7 @@ gather-alone n c (suc f) b B i k j p h a e l =
     let C : List (List ℤ) = round c b B .below in
     round-next n c b B j p h a e (λ (z : Choice). Alone c (gather f c z r C .pivot) (gather f c z r C .below))
     (λ s. subst (λ (g : Gathered). Alone c (g .pivot) (g .below)) (sym (gather-none f c r C)) (record {
-      lead = rw (round-lead n c b B j p h a e) (above-zero p (chosen n c b B j p h a e .0));
+      lead = rw (round-lead n c b B j p h a e) (positive-of p (chosen n c b B j p h a e .0));
       lower = s;
     }))
     (λ i′ k′ l′ e′. gather-alone n c f r C i′ k′ (suc i′) k′ h (round-length n c b B j p h a e) e′ (omega arith))
@@ -243,9 +242,9 @@ gathering-round n c b B j p h a e = gathering-first c b B j p e ∙ go p refl
     go (suc f) q =
         round-next n c b B j p h a e (λ (z : Choice). onward (x .over) (gather f c z (x .pivot) (x .below)) ≡ following c z x)
         (λ s.
-            ap (onward (x .over)) (gather-none f c (x .pivot) (x .below))
-            ∙ ap (λ (o : Bool). record { pivot = x .pivot; below = x .below; over = o }) (or-false (x .over)))
+        ap (onward (x .over)) (gather-none f c (x .pivot) (x .below))
+        ∙ ap (λ (o : Bool). record { pivot = x .pivot; below = x .below; over = o }) (or-false (x .over)))
         (λ i k l e′.
-            ap (onward (x .over))
-            (gather-fuel n c f k (x .pivot) (x .below) i k (suc i) k (suc i) k h (round-length n c b B j p h a e) e′ (omega arith) (omega arith)
-            ∙ sym (gathering-first c (x .pivot) (x .below) (suc i) k e′)))
+        ap (onward (x .over))
+        (gather-fuel n c f k (x .pivot) (x .below) i k (suc i) k (suc i) k h (round-length n c b B j p h a e) e′ (omega arith) (omega arith)
+        ∙ sym (gathering-first c (x .pivot) (x .below) (suc i) k e′)))

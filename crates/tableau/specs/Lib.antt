@@ -7,3 +7,4 @@ pub mod GatherLaws
 pub mod FormLaws
 pub mod TableLaws
 pub mod RightLaws
+pub mod Theorems

@@ -5,6 +5,8 @@
 --   remaining-past        the remaining ones are the form past m columns, behind m zeros
 --   right-found           what is found: the residue's tail and the form past m columns, if the residue begins with m zeros
 --   right-answers         that is the answer to the lists x where (m zeros, x) − v lies in the form's span
+--   answers-same          the same sets have the same answers
+--   answers-none          the answer is "none" exactly when the set is empty
 --   answers-unique        two sets are the same exactly when their answers are
 -- The mark `over` changes nothing in the rows.
 -- Assumes nothing.
@@ -12,23 +14,23 @@ use mathlib.Core.Path.{_≡_, refl, sym, _∙_, ap, ap₂, subst}
 use mathlib.Core.Logic.{_↔_, Iff·symm, Iff·trans}
 use mathlib.Core.Bool.{Bool, true, false, cond, false≢true}
 use mathlib.Core.List.{List, [], _∷_, _++_, map, map-append, map-map, map-id}
-use Prim.Native.Nat.{ℕ, zero, suc, _+_, _<_, _≤_}
+use Prim.Native.Nat.{ℕ, zero, suc, _+_, _≤_}
 use native.Mathlib.Omega.{arith}
 use borrow.Author.Tests.{lt-ltb, le-ltb}
 use lib.Dec.{ltb, leb·suc-suc}
-use lib.ListN.{length, take, drop, length-append, length-drop, length-replicate, take-append-drop}
+use lib.ListN.{length, take, drop, length-drop, take-append-drop}
 use lib.Seq.{length-take-le}
-use lib.IntN.{ℤ, pos, negsuc, negℤ, _+ℤ_, _*ℤ_}
+use lib.IntN.{ℤ, pos, negℤ, _+ℤ_, _*ℤ_}
 use Rattle.whole.specs.Lists.{entry, zeros}
 use Rattle.whole.specs.Quotient.{floorQuotient}
-use Rattle.whole.specs.Integers.{Positive, positive}
+use Rattle.whole.specs.Integers.{Positive, positive, add-none}
 use Rattle.lattice.specs.Rows.{plus, minus, allZero, lead}
-use Rattle.lattice.specs.RowLaws.{ZeroTo, length-plus, add-none, zeros-Zero, minus-zeros, allZero-Zero}
+use Rattle.lattice.specs.RowLaws.{length-plus, length-zeros, zeros-Zero, minus-zeros, allZero-Zero}
 use Rattle.lattice.specs.Span.{Span}
 use Rattle.lattice.specs.Hermite.{Echelon, done, skip, step, width, indent, rows, past, Reduced, Hermite, past-width, past-hermite, past-reduced, past-span, reduced-head}
 use Rattle.lattice.specs.Coset.{residue, Describes, coset-self, residue-length, residue-reduced, residue-for, describes-unique}
-use Rattle.tableau.specs.Elimination.{Left, reduced}
-use Rattle.tableau.specs.RightSide.{sweep, leading, remaining, basis, Found, none, some, Solved, afterLeading, rightSide}
+use Rattle.tableau.specs.Elimination.{reduced}
+use Rattle.tableau.specs.RightSide.{sweep, leading, remaining, basis, Found, none, some, Solved, rightSide}
 use Rattle.tableau.specs.Generators.{Answers}
 
 -- ---- sweeping
@@ -196,7 +198,7 @@ right-answers n m H over v e h l =
     lw = residue-length H v ∙ l
 
     lx : (x : List ℤ) → length x ≡ n → length (zeros m ++ x) ≡ width H
-    lx x k = length-append (zeros m) x ∙ ap₂ _+_ (length-replicate m (pos 0)) k ∙ sym e
+    lx x k = length-zeros m x ∙ ap (λ (i : ℕ). m + i) k ∙ sym e
 
     go : (b : Bool) → allZero (take m w) ≡ b → Answers n Q (cond b (some s (rows (past m H))) none)
     go true t =
@@ -237,18 +239,25 @@ answers-same n Q R (some s N) f p = record {
 start-in : (n : ℕ) (Q : List ℤ → Type 0) (s : List ℤ) (N : List (List ℤ)) → Describes n Q s N → Q s
 start-in n Q s N p = p .set s (p .long) .1 (coset-self N s)
 
-pub answers-unique : (n : ℕ) (Q R : List ℤ → Type 0) (a b : Found) → Answers n Q a → Answers n R b
-    → ((x : List ℤ) → length x ≡ n → Q x ↔ R x) ↔ (a ≡ b)
-answers-unique n Q R a b p q = (to a b p q, λ e. from a p (subst (Answers n R) (sym e) q))
+pub answers-none : (n : ℕ) (Q : List ℤ → Type 0) (a : Found) → ((x : List ℤ) → Q x → length x ≡ n) → Answers n Q a → (a ≡ none) ↔ ((x : List ℤ) → Q x → ⊥)
+answers-none n Q a ql p = ((λ e x q. subst (Answers n Q) e p x (ql x q) q), to a p)
   where
-    to : (a b : Found) → Answers n Q a → Answers n R b → ((x : List ℤ) → length x ≡ n → Q x ↔ R x) → a ≡ b
+    to : (a : Found) → Answers n Q a → ((x : List ℤ) → Q x → ⊥) → a ≡ none
+    to none p f = refl
+    to (some s N) p f = absurd (f s (start-in n Q s N p))
+
+pub answers-unique : (n : ℕ) (Q R : List ℤ → Type 0) (a b : Found) → ((x : List ℤ) → Q x → length x ≡ n) → ((x : List ℤ) → R x → length x ≡ n)
+    → Answers n Q a → Answers n R b → ((x : List ℤ) → Q x ↔ R x) ↔ (a ≡ b)
+answers-unique n Q R a b ql rl p q = (to a b p q, λ e. from a p (subst (Answers n R) (sym e) q))
+  where
+    to : (a b : Found) → Answers n Q a → Answers n R b → ((x : List ℤ) → Q x ↔ R x) → a ≡ b
     to none none p q f = refl
-    to none (some s N) p q f = absurd (p s (q .long) (f s (q .long) .1 (start-in n R s N q)))
-    to (some s N) none p q f = absurd (q s (p .long) (f s (p .long) .0 (start-in n Q s N p)))
+    to none (some s N) p q f = absurd (p s (q .long) (f s .1 (start-in n R s N q)))
+    to (some s N) none p q f = absurd (q s (p .long) (f s .0 (start-in n Q s N p)))
     to (some s N) (some t M) p q f =
-        let u : (s ≡ t) × (N ≡ M) = describes-unique n Q R s t N M p q f in
+        let u : (s ≡ t) × (N ≡ M) = describes-unique n Q R s t N M p q (λ x l. f x) in
         ap₂ some (u .0) (u .1)
 
-    from : (a : Found) → Answers n Q a → Answers n R a → (x : List ℤ) → length x ≡ n → Q x ↔ R x
-    from none p q x l = ((λ y. absurd (p x l y)), (λ y. absurd (q x l y)))
-    from (some s N) p q x l = Iff·trans (p .set x l) (Iff·symm (q .set x l))
+    from : (a : Found) → Answers n Q a → Answers n R a → (x : List ℤ) → Q x ↔ R x
+    from none p q x = ((λ y. absurd (p x (ql x y) y)), (λ y. absurd (q x (rl x y) y)))
+    from (some s N) p q x = ((λ y. q .set x (ql x y) .1 (p .set x (ql x y) .0 y)), (λ y. p .set x (rl x y) .1 (q .set x (rl x y) .0 y)))

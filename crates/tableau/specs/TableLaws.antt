@@ -5,9 +5,9 @@
 --   tableau-generators    with the list (−b, then n zeros) they are generator rows with a right side
 --   tableau-reaches       and reach exactly the lists that satisfy the rows
 -- Assumes nothing.
-use mathlib.Core.Path.{_≡_, refl, sym, _∙_, ap, ap₂, subst}
+use mathlib.Core.Path.{_≡_, sym, _∙_, ap, ap₂, subst}
 use mathlib.Core.Logic.{_↔_}
-use mathlib.Core.List.{List, [], _∷_, _++_}
+use mathlib.Core.List.{List, _++_}
 use Prim.Native.Nat.{ℕ, zero, suc, _+_, _<_}
 use native.Mathlib.Omega.{arith}
 use lib.ListN.{length, length-append, length-map, length-replicate}
@@ -15,8 +15,8 @@ use lib.Seq.{getD-append-add}
 use lib.IntN.{ℤ, pos, negsuc, negℤ, _+ℤ_, _*ℤ_}
 use Rattle.whole.specs.Lists.{entry, zeros}
 use Rattle.whole.specs.Integers.{rep, diff-rel, positive, multiple-zero}
-use Rattle.lattice.specs.Rows.{plus, minus, neg, unit}
-use Rattle.lattice.specs.RowLaws.{Zero, ZeroTo, length-plus, length-neg, length-unit, plus-cancel, plus-neg, plus-Zero, plus-one, plus-append, Zero-zeros, zeros-Zero, Zero-append, ZeroTo-unit, ZeroTo-next, ZeroTo-all, ZeroTo-plus, entry-plus, entry-zeros, entry-unit-at, entry-unit-before}
+use Rattle.lattice.specs.Rows.{plus, minus, neg, unit, Zero, ZeroTo}
+use Rattle.lattice.specs.RowLaws.{length-plus, length-neg, length-unit, plus-cancel, plus-neg, plus-zeros, plus-one, plus-append, Zero-zeros, zeros-Zero, Zero-append, ZeroTo-unit, ZeroTo-next, ZeroTo-all, ZeroTo-plus, entry-plus, entry-zeros, entry-unit-at, entry-unit-before}
 use Rattle.lattice.specs.Span.{All, Len, Span, Independent, span-entry}
 use Rattle.lattice.specs.Sums.{sums, Satisfies}
 use Rattle.lattice.specs.SumLaws.{length-sums, sums-plus, sums-unit, sums-Zero}
@@ -122,7 +122,7 @@ less-right : (m n : ℕ) (b x : List ℤ) → length b ≡ m → minus (zeros m 
 less-right m n b x l =
     let e : length b ≡ length (zeros m) = l ∙ sym (length-replicate m (pos 0)) in
     plus-append (negsuc 0) (neg b) (zeros m) (zeros n) x (length-neg b ∙ e)
-    ∙ ap₂ _++_ (plus-neg (negsuc 0) b (zeros m) ∙ plus-one b (zeros m) e (Zero-zeros m)) (plus-Zero (negsuc 0) (zeros n) x (Zero-zeros n))
+    ∙ ap₂ _++_ (plus-neg (negsuc 0) b (zeros m) ∙ plus-one b (zeros m) e (Zero-zeros m)) (plus-zeros (negsuc 0) (zeros n) x (Zero-zeros n))
 
 pub tableau-reaches : (n : ℕ) (A : List (List ℤ)) (b : List ℤ) → Sized n A b → (x : List ℤ)
     → Reaches n (length A) (tableau n A) (neg b ++ zeros n) x ↔ Satisfies n A b x
