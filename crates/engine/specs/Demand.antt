@@ -36,6 +36,7 @@ use Rattle.problem.specs.declared.Counts.{Counts}
 use Rattle.problem.specs.declared.Answer.the-variants.{Spent, Refused}
 use Rattle.tableau.specs.RightSide.{Found, none, some, solve}
 use Rattle.tableau.specs.Generators.{Sized}
+use Rattle.tableau.specs.Theorems.{solve-same}
 use Rattle.settling.specs.Columns.{Columns}
 use Rattle.settling.specs.Seating.{Seated, seated, far, goalWishes, seat}
 use Rattle.settling.specs.Moves.{moved}
@@ -149,3 +150,60 @@ not-over P B w f = go (solved P .over) refl
     go : (t : Bool) → solved P .over ≡ t → solved P .over ≡ false
     go true e = absurd (f (past-is-over P B w .1 e))
     go false e = e
+
+module _ (P : Posed) (T : List (List ℤ)) (B : Buffers) where
+  found-none : (f : Found) → onFound P T B f .answer ≡ Refused NoWholeNumbers → f ≡ none
+  unfolding settleOn settle
+  found-none none e = refl
+  found-none (some v N) e = absurd (go (seat (goalWishes (columns P)) (columns P) N v) e)
+    where
+      go : (z : Seated) → onSeated P T N B z .answer ≡ Refused NoWholeNumbers → ⊥
+      go far e = let z : _≡_ {A = ℕ} 9 8 = cc in omega arith
+      go (seated u) e = true≢false (sym (settle-verdict (P .problem .limit) (columns P) N noSteps u) ∙ ap isVerdict e)
+
+pub none-is-none : (P : Posed) (B : Buffers) → Within P B → (PastLimit P B → ⊥) → IsNone P B ↔ (solved P .found ≡ none)
+none-is-none P B w f =
+    let e : assign P B ≡ onFound P (solved P .form) B (solved P .found) = assign-is P B w ∙ rw (not-over P B w f) refl in (
+      (λ g. found-none P (solved P .form) B (solved P .found) (sym (ap (λ (d : Done). d .answer) e) ∙ g)),
+      (λ g. ap (λ (d : Done). d .answer) e ∙ rw g refl),
+    )
+
+-- ---- equal starts and columns have equal outcomes
+module _ (P Q : Posed) (T U : List (List ℤ)) (B C : Buffers) (e : n P ≡ n Q) (s : SameColumns P Q) where
+  columns-same : columns P ≡ columns Q
+  columns-same = λ i. record { count = e i; lower = s .lower i; upper = s .upper i; goals = s .goals i }
+
+  seated-same : (N : List (List ℤ)) (z : Seated) → SameOutcome (onSeated P T N B z) (onSeated Q U N C z)
+  unfolding settleOn
+  seated-same N far = record { answer = refl; intervals = λ h. absurd (true≢false (sym h)); strides = λ h. absurd (true≢false (sym h)) }
+  seated-same N (seated v) = record {
+    answer = λ i. settle (s .limit i) (columns-same i) N v .answer;
+    intervals = λ h i. settle (s .limit i) (columns-same i) N v .values;
+    strides = λ h i. strides (e i) N;
+  }
+
+  found-same : (f : Found) → SameOutcome (onFound P T B f) (onFound Q U C f)
+  found-same none = record { answer = refl; intervals = λ h. absurd (true≢false (sym h)); strides = λ h. absurd (true≢false (sym h)) }
+  found-same (some v N) =
+      let z : seat (goalWishes (columns P)) (columns P) N v ≡ seat (goalWishes (columns Q)) (columns Q) N v = λ i. seat (goalWishes (columns-same i)) (columns-same i) N v in
+      subst (λ (x : Seated). SameOutcome (onSeated P T N B (seat (goalWishes (columns P)) (columns P) N v)) (onSeated Q U N C x)) z
+      (seated-same N (seat (goalWishes (columns P)) (columns P) N v))
+
+-- ---- the demand
+-- at another's number of columns
+same-at : (k l : ℕ) → k ≡ l → (A A′ : List (List ℤ)) (b b′ : List ℤ) → Sized k A b → Sized l A′ b′
+    → ((x : List ℤ) → Satisfies k A b x ↔ Satisfies l A′ b′ x) ↔ (solve k A b .found ≡ solve l A′ b′ .found)
+same-at k l e A A′ b b′ z =
+    subst (λ (l : ℕ). Sized l A′ b′ → ((x : List ℤ) → Satisfies k A b x ↔ Satisfies l A′ b′ x) ↔ (solve k A b .found ≡ solve l A′ b′ .found)) e
+    (λ z′. solve-same k A A′ b b′ z z′)
+
+pub demand-3 : (P Q : Posed) (B C : Buffers) → n P ≡ n Q → Within P B → Within Q C → (PastLimit P B → ⊥) → (PastLimit Q C → ⊥) → Demand3 P Q B C
+demand-3 P Q B C e wp wq fp fq =
+    let starts : SameRows P Q ↔ SameStart P Q =
+    same-at (n P) (n Q) e (matrix P) (matrix Q) (P .rights) (Q .rights) (within-sized P B wp) (within-sized Q C wq) in
+    record {
+      starts = starts;
+      outcomes = λ r s.
+          rw (assign-is P B wp, assign-is Q C wq, not-over P B wp fp, not-over Q C wq fq, starts .0 r)
+          (found-same P Q (solved P .form) (solved Q .form) B C e s (solved Q .found));
+    }
