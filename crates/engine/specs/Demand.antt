@@ -27,7 +27,7 @@ use Rattle.lattice.specs.Sums.{Satisfies}
 use Rattle.lattice.specs.FlatLaws.{chop-rows, length-chop}
 use Rattle.problem.specs.Answers.{noSteps, isVerdict}
 use Rattle.problem.specs.Checks.{Posed, firstCause}
-use Rattle.problem.specs.CheckLaws.{passes}
+use Rattle.problem.specs.CheckLaws.{both-true, passes}
 use Rattle.problem.specs.declared.Refusal.{Refusal}
 use Rattle.problem.specs.declared.Refusal.the-variants.{Elimination, NoWholeNumbers, Seating}
 use Rattle.problem.specs.declared.Check.{Check}
@@ -85,10 +85,6 @@ pub record Demand3 (P Q : Posed) (B C : Buffers) : Type 0 where
   pub outcomes : SameRows P Q → SameColumns P Q → SameOutcome (assign P B) (assign Q C)
 
 -- ---- what it means to be within the limits
-both-true : (a b : Bool) → a && b ≡ true → (a ≡ true) × (b ≡ true)
-both-true true b e = (refl, e)
-both-true false b e = absurd (let z : _≡_ {A = ℕ} 0 1 = cc in omega arith)
-
 module _ (P : Posed) (B : Buffers) (w : Within P B) where
   pub within-sized : Sized (n P) (matrix P) (P .rights)
   within-sized =
@@ -99,7 +95,7 @@ module _ (P : Posed) (B : Buffers) (w : Within P B) where
       }
 
   -- past the checks, the mark decides
-  assign-is : assign P B ≡ cond (solved P .over) (overLimit B) (onFound P (solved P .form) B (solved P .found))
+  pub assign-is : assign P B ≡ cond (solved P .over) (overLimit B) (onFound P (solved P .form) B (solved P .found))
   unfolding assign
   assign-is = rw (w .passed) refl
 

@@ -1,9 +1,10 @@
 -- What a problem that passes the checks has.
 --   Passes P L   each of the tests of causes 1 to 6 holds
 --   passes       so it is where no cause is named
+--   both-true    both of two tests hold
 -- Assumes nothing.
 use mathlib.Core.Path.{_≡_, refl}
-use mathlib.Core.Bool.{Bool, true, false}
+use mathlib.Core.Bool.{Bool, true, false, _&&_}
 use Prim.Native.Nat.{ℕ}
 use native.Mathlib.Omega.{arith}
 use Rattle.problem.specs.Limits.{maxColumns, maxRows}
@@ -49,3 +50,7 @@ passes P L e =
       goals = h .0;
       limit = i .0;
     }
+
+pub both-true : (a b : Bool) → a && b ≡ true → (a ≡ true) × (b ≡ true)
+both-true true b e = (refl, e)
+both-true false b e = absurd (let z : _≡_ {A = ℕ} 0 1 = cc in omega arith)
