@@ -6,5 +6,6 @@ pub mod Generators
 pub mod GatherLaws
 pub mod FormLaws
 pub mod TableLaws
+pub mod FoundLaws
 pub mod RightLaws
 pub mod Theorems
