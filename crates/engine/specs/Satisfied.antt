@@ -10,13 +10,15 @@ use mathlib.Core.Path.{_≡_, refl, sym, _∙_, ap, subst}
 use mathlib.Core.Logic.{_↔_}
 use mathlib.Core.Bool.{Bool, true, false, not, cond, _&&_, _||_, true≢false}
 use mathlib.Core.List.{List, [], _∷_, _++_}
-use Prim.Native.Nat.{ℕ, zero, suc, _≤_}
+use Prim.Native.Nat.{ℕ, zero, suc, _+_, _*_, _≤_}
+use lib.Dec.{eqb}
 use native.Mathlib.Omega.{arith}
 use borrow.Author.Tests.{eqb-true}
 use lib.IntN.{ℤ, pos, negsuc, _-ℤ_}
 use lib.ListN.{length, getD, take, drop}
 use lib.Seq.{ext-getD}
-use Rattle.whole.specs.Lists.{zeros}
+use Rattle.whole.specs.Lists.{entry, zeros}
+use Rattle.whole.specs.Tests.{isZero, every}
 use Rattle.whole.specs.Counted.{every-at}
 use Rattle.whole.specs.Integers.{rep, diff-rel, isZero-true}
 use Rattle.lattice.specs.Rows.{plus, minus, neg, allZero}
@@ -29,15 +31,17 @@ use Rattle.lattice.specs.Hermite.{rows-length}
 use Rattle.lattice.specs.Coset.{Describes, coset-self}
 use Rattle.problem.specs.Limits.{anyBeyond}
 use Rattle.problem.specs.Answers.{noSteps, isVerdict}
-use Rattle.problem.specs.Checks.{Posed}
+use Rattle.problem.specs.Checks.{Posed, firstCause}
 use Rattle.problem.specs.CheckLaws.{both-true, passes}
 use Rattle.problem.specs.declared.Counts.{Counts}
 use Rattle.problem.specs.declared.Refusal.the-variants.{Standing}
+use Rattle.problem.specs.declared.Check.{Check}
+use Rattle.problem.specs.declared.Check.the-variants.{Passed, Failed}
 use Rattle.problem.specs.declared.Answer.the-variants.{Fitted, Outside, Spent, Refused}
 use Rattle.tableau.specs.Elimination.{Left}
 use Rattle.tableau.specs.RightSide.{sweep, leading, remaining, basis, Found, none, some, Solved, rightSide, form, solve}
-use Rattle.tableau.specs.Generators.{Answers, Sized}
-use Rattle.tableau.specs.Theorems.{solve-answers, solve-none}
+use Rattle.tableau.specs.Generators.{Tells, Sized}
+use Rattle.tableau.specs.Theorems.{solve-tells, solve-none}
 use Rattle.settling.specs.Columns.{Columns}
 use Rattle.settling.specs.Seating.{Seated, seated, far, goalWishes, seatOne, seat}
 use Rattle.settling.specs.Moves.{vector, moved}
@@ -49,8 +53,12 @@ use Rattle.settling.specs.declared.Part.the-variants.{Bounds, Goals}
 use Rattle.settling.specs.declared.Move.{Move}
 use Rattle.settling.specs.declared.Step.{Step}
 use Rattle.settling.specs.declared.Step.the-variants.{Rest, Take}
-use Rattle.engine.specs.Assign.{Buffers, Done, n, m, matrix, columns, lentOf, refused, overLimit, settleOn, onSeated, onFound, solved, assign, stands, formed, continue}
+use Rattle.engine.specs.Assign.{Buffers, Done, n, m, matrix, columns, lentOf, refused, overLimit, settleOn, onCheck, onSeated, onFound, solved, assign, stands, formed, continue}
 use Rattle.engine.specs.Demand.{Within, SatisfiesRows, within-sized, assign-is}
+
+-- two constructors are never equal: `cc` then has 0 equal to 1
+never : {A : Type 0} → _≡_ {A = ℕ} 0 1 → A
+never e = absurd (omega arith)
 
 -- ---- what sums of vectors keep
 pub record Keeps (Q : List ℤ → Type 0) (N : List (List ℤ)) : Type 0 where
@@ -67,7 +75,7 @@ module _ (Q : List ℤ → Type 0) where
     seat-keeps (r ∷ N) v u k q e = go (anyBeyond (seatOne w C r v)) e (seat-keeps N (seatOne w C r v) u (keeps-rest r N k) (k .adds _ v q .0))
       where
         go : (t : Bool) → cond t far (seat w C N (seatOne w C r v)) ≡ seated u → (seat w C N (seatOne w C r v) ≡ seated u → Q u) → Q u
-        go true e f = absurd (let z : _≡_ {A = ℕ} 0 1 = cc in omega arith)
+        go true e f = never (cc)
         go false e f = f e
 
   -- a vector of N, or none
@@ -104,7 +112,7 @@ rest-fitted C v x y e = go (inBounds C v) refl e
   where
     go : (t : Bool) → inBounds C v ≡ t → atRest (partIf t) x ≡ Fitted y → inBounds C v ≡ true
     go true f e = f
-    go false f e = absurd (let z : _≡_ {A = ℕ} 0 1 = cc in omega arith)
+    go false f e = never (cc)
 
 pub settle-fitted : (g : ℕ) (C : Columns) (N : List (List ℤ)) (x y : Counts) (v : List ℤ) → settleFrom g C N x v .answer ≡ Fitted y
     → inBounds C (settleFrom g C N x v .values) ≡ true
@@ -114,7 +122,7 @@ settle-fitted zero C N x y v = go (nextStep C N v)
     go : (z : Step) → onStep z (ended (atRest (partOf C v) x) v) (λ o. ended (Spent x) v) .answer ≡ Fitted y
         → inBounds C (onStep z (ended (atRest (partOf C v) x) v) (λ o. ended (Spent x) v) .values) ≡ true
     go Rest e = rest-fitted C v x y e
-    go (Take i o) e = absurd (let z : _≡_ {A = ℕ} 0 1 = cc in omega arith)
+    go (Take i o) e = never (cc)
 settle-fitted (suc g) C N x y v = go (nextStep C N v) (λ o. settle-fitted g C N (counted (partOf C v) x) y (moved N o v))
   where
     go : (z : Step) → ((o : Move) → settleFrom g C N (counted (partOf C v) x) (moved N o v) .answer ≡ Fitted y → inBounds C (settleFrom g C N (counted (partOf C v) x) (moved N o v) .values) ≡ true)
@@ -134,15 +142,15 @@ describes-keeps n Q s N long d = record {
   adds = λ c v q.
       all-both (Span N) (Len n) (λ (r : List ℤ). Q (plus c r v))
       (λ r t l.
-          d .set (plus c r v) (length-plus c r v ∙ long v q) .1
-          (subst (Span N) (plus-comm c (negsuc 0) r s v)
-          (span-plus N c r (minus v s) (omega (arith, length-plus (negsuc 0) s v, long v q, l)) t (d .set v (long v q) .0 q))))
+      d .set (plus c r v) (length-plus c r v ∙ long v q) .1
+      (subst (Span N) (plus-comm c (negsuc 0) r s v)
+      (span-plus N c r (minus v s) (omega (arith, length-plus (negsuc 0) s v, long v q, l)) t (d .set v (long v q) .0 q))))
       N (span-rows N) (rw (← (d .wide), d .is) (rows-length (d .form) (d .hermite)));
 }
 
 -- ---- whole assignments
 module _ (P : Posed) (T : List (List ℤ)) (B : Buffers) where
-  found-satisfies : (f : Found) → Answers (n P) (SatisfiesRows P) f → isVerdict (onFound P T B f .answer) ≡ true → SatisfiesRows P (onFound P T B f .values)
+  found-satisfies : (f : Found) → Tells (n P) (SatisfiesRows P) f → isVerdict (onFound P T B f .answer) ≡ true → SatisfiesRows P (onFound P T B f .values)
   unfolding settleOn settle
   found-satisfies none a e = absurd (true≢false (sym e))
   found-satisfies (some v N) d e = go (seat (goalWishes (columns P)) (columns P) N v) refl e
@@ -162,7 +170,7 @@ assign-satisfies P B w e = rw (assign-is P B w) (go (solved P .over) (rw (assign
     go : (t : Bool) → isVerdict (cond t (overLimit B) (onFound P (solved P .form) B (solved P .found)) .answer) ≡ true
         → SatisfiesRows P (cond t (overLimit B) (onFound P (solved P .form) B (solved P .found)) .values)
     go true e = absurd (true≢false (sym e))
-    go false e = found-satisfies P (solved P .form) B (solved P .found) (solve-answers (n P) (matrix P) (P .rights) (within-sized P B w)) e
+    go false e = found-satisfies P (solved P .form) B (solved P .found) (solve-tells (n P) (matrix P) (P .rights) (within-sized P B w)) e
 
 -- ---- Continue
 -- a basis is that of the form, whatever is found
@@ -181,7 +189,7 @@ found-basis k A b s N e = go (allZero (take (length A) (w .row))) e
 
     go : (t : Bool) → cond {A = Solved} t (record { form = T; found = some (drop (length A) (z .row)) (basis (length A) T); over = form k A .over || (w .over || z .over) }) (record { form = T; found = none; over = form k A .over || w .over }) .found ≡ some s N → N ≡ basis (length A) T
     go true e = cc
-    go false e = absurd (let y : _≡_ {A = ℕ} 0 1 = cc in omega arith)
+    go false e = never (cc)
 
 -- a list that stands satisfies the rows
 equal-if : (x y : ℤ) → x -ℤ y ≡ pos 0 → x ≡ y
@@ -191,11 +199,14 @@ stands-satisfies : (P : Posed) (B : Buffers) → Within P B → stands P (B .val
 stands-satisfies P B w e =
     let z : Sized (n P) (matrix P) (P .rights) = within-sized P B w in
     let c : length (matrix P) ≡ m P = length-chop (m P) (n P) (P .coefficients) in
-    let l = both-true _ _ (both-true _ _ (passes P (lentOf B) (w .passed) .lent) .1) in
+    let l : (eqb (length (B .values)) (n P) ≡ true) × (eqb (length (B .strides)) (n P) ≡ true) =
+    both-true _ _ (both-true (eqb (length (B .tableau)) (n P * (m P + n P))) _ (passes P (lentOf B) (w .passed) .lent) .1) in
+    let f : ℕ → Bool = λ i. isZero (entry i (sums (matrix P) (B .values)) -ℤ entry i (P .rights)) in
+    let h : every (m P) f ≡ true = both-true (not (anyBeyond (B .values))) _ e .1 in
     record {
       wide = eqb-true _ _ (l .0);
       keeps = ext-getD (pos 0) (sums (matrix P) (B .values)) (P .rights) (length-sums (matrix P) (B .values) ∙ sym (z .long))
-          (λ i h. equal-if _ _ (isZero-true _ (every-at (m P) _ i (both-true _ _ e .1) (omega (arith, h, length-sums (matrix P) (B .values))))));
+          (λ i k. equal-if _ _ (isZero-true _ (every-at (m P) f i h (omega (arith, k, c, length-sums (matrix P) (B .values))))));
     }
 
 continue-is : (P : Posed) (B : Buffers) → Within P B → continue P B ≡ cond (stands P (B .values)) (cond (formed P .over) (overLimit B) (settleOn P (formed P .table) (basis (m P) (formed P .table)) (B .values))) (refused Standing (B .tableau) B)
@@ -210,7 +221,16 @@ continue-satisfies P B w e = rw (continue-is P B w) (go (stands P (B .values)) r
     N = basis (m P) (formed P .table)
 
     keeps : SatisfiesRows P (B .values) → Keeps (SatisfiesRows P) N
-    keeps q = ?
+    keeps q = go (solved P .found) refl
+      where
+        k : length (matrix P) ≡ m P
+        k = length-chop (m P) (n P) (P .coefficients)
+
+        go : (f : Found) → solved P .found ≡ f → Keeps (SatisfiesRows P) N
+        go none h = absurd (solve-none (n P) (matrix P) (P .rights) (within-sized P B w) .0 h (B .values) q)
+        go (some s M) h =
+            subst (Keeps (SatisfiesRows P)) (found-basis (n P) (matrix P) (P .rights) s M h ∙ ap (λ (j : ℕ). basis j (formed P .table)) k)
+            (describes-keeps (n P) (SatisfiesRows P) s M (λ x z. z .wide) (rw h at (solve-tells (n P) (matrix P) (P .rights) (within-sized P B w))))
 
     go : (t : Bool) → stands P (B .values) ≡ t → (u : Bool)
         → isVerdict (cond t (cond u (overLimit B) (settleOn P (formed P .table) N (B .values))) (refused Standing (B .tableau) B) .answer) ≡ true
@@ -220,3 +240,51 @@ continue-satisfies P B w e = rw (continue-is P B w) (go (stands P (B .values)) r
         let q : SatisfiesRows P (B .values) = stands-satisfies P B w f in
         settle-keeps (SatisfiesRows P) (columns P) N (keeps q) (P .problem .limit) noSteps (B .values) q
     go false f u e = absurd (true≢false (sym e))
+
+-- ---- FITTED
+fitted-on : (P : Posed) (T N : List (List ℤ)) (v : List ℤ) (k : Counts) → settleOn P T N v .answer ≡ Fitted k → inBounds (columns P) (settleOn P T N v .values) ≡ true
+unfolding settleOn settle
+fitted-on P T N v k e = settle-fitted (P .problem .limit) (columns P) N noSteps k v e
+
+pub assign-fitted : (P : Posed) (B : Buffers) (k : Counts) → assign P B .answer ≡ Fitted k → inBounds (columns P) (assign P B .values) ≡ true
+unfolding assign
+assign-fitted P B k = checked (firstCause P (lentOf B))
+  where
+    T : List (List ℤ)
+    T = solved P .form
+
+    on-seated : (N : List (List ℤ)) (z : Seated) → onSeated P T N B z .answer ≡ Fitted k → inBounds (columns P) (onSeated P T N B z .values) ≡ true
+    on-seated N far e = never (cc)
+    on-seated N (seated v) e = fitted-on P T N v k e
+
+    on-found : (f : Found) → onFound P T B f .answer ≡ Fitted k → inBounds (columns P) (onFound P T B f .values) ≡ true
+    on-found none e = never (cc)
+    on-found (some v N) e = on-seated N (seat (goalWishes (columns P)) (columns P) N v) e
+
+    marked : (t : Bool) → cond t (overLimit B) (onFound P T B (solved P .found)) .answer ≡ Fitted k
+        → inBounds (columns P) (cond t (overLimit B) (onFound P T B (solved P .found)) .values) ≡ true
+    marked true e = never (cc)
+    marked false e = on-found (solved P .found) e
+
+    checked : (c : Check) → onCheck c B (cond (solved P .over) (overLimit B) (onFound P T B (solved P .found))) .answer ≡ Fitted k
+        → inBounds (columns P) (onCheck c B (cond (solved P .over) (overLimit B) (onFound P T B (solved P .found))) .values) ≡ true
+    checked Passed e = marked (solved P .over) e
+    checked (Failed why) e = never (cc)
+
+pub continue-fitted : (P : Posed) (B : Buffers) (k : Counts) → continue P B .answer ≡ Fitted k → inBounds (columns P) (continue P B .values) ≡ true
+unfolding continue
+continue-fitted P B k = checked (firstCause P (lentOf B))
+  where
+    settles : Done
+    settles = settleOn P (formed P .table) (basis (m P) (formed P .table)) (B .values)
+
+    marked : (s t : Bool) → cond s (cond t (overLimit B) settles) (refused Standing (B .tableau) B) .answer ≡ Fitted k
+        → inBounds (columns P) (cond s (cond t (overLimit B) settles) (refused Standing (B .tableau) B) .values) ≡ true
+    marked true true e = never (cc)
+    marked true false e = fitted-on P (formed P .table) (basis (m P) (formed P .table)) (B .values) k e
+    marked false t e = never (cc)
+
+    checked : (c : Check) → onCheck c B (cond (stands P (B .values)) (cond (formed P .over) (overLimit B) settles) (refused Standing (B .tableau) B)) .answer ≡ Fitted k
+        → inBounds (columns P) (onCheck c B (cond (stands P (B .values)) (cond (formed P .over) (overLimit B) settles) (refused Standing (B .tableau) B)) .values) ≡ true
+    checked Passed e = marked (stands P (B .values)) (formed P .over) e
+    checked (Failed why) e = never (cc)
