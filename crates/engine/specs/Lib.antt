@@ -1,2 +1,4 @@
 -- The root of the definitions.
 pub mod Assign
+pub mod Demand
+pub mod Satisfied

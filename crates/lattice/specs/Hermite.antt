@@ -24,7 +24,7 @@ use Rattle.whole.specs.Lists.{zeros}
 use Rattle.whole.specs.Integers.{rep, diff-rel, Positive, positive-above, positive-nonzero, multiple-zero, multiple-small, multiple-both, multiple-self, add-none}
 use Rattle.lattice.specs.Rows.{plus, minus, ZeroTo}
 use Rattle.lattice.specs.RowLaws.{plus-none}
-use Rattle.lattice.specs.Span.{Span, Same, span-row, span-under}
+use Rattle.lattice.specs.Span.{All, Len, Span, Same, span-row, span-under}
 
 pub data Echelon : Type 0 where
   done : Echelon
@@ -61,6 +61,16 @@ abbrev pub Hermite : Echelon → Type 0
 Hermite done = Unit {0}
 Hermite (skip H) = Hermite H
 Hermite (step p r H) = Positive p × (length r ≡ width H) × Reduced H r × Hermite H
+
+-- ---- the rows' lengths
+indent-length : (n : ℕ) (T : List (List ℤ)) → All (Len n) T → All (Len (suc n)) (indent T)
+indent-length n [] a = tt
+indent-length n (r ∷ T) a = (ap suc (a .0), indent-length n T (a .1))
+
+pub rows-length : (H : Echelon) → Hermite H → All (Len (width H)) (rows H)
+rows-length done h = tt
+rows-length (skip H) h = indent-length (width H) (rows H) (rows-length H h)
+rows-length (step p r H) h = (ap suc (h .1), indent-length (width H) (rows H) (rows-length H (h .3)))
 
 -- ---- spans behind a column
 pub span-indent : (T : List (List ℤ)) (x : ℤ) (v : List ℤ) → Span (indent T) (x ∷ v) ↔ ((x ≡ pos 0) × Span T v)

@@ -3,6 +3,7 @@ pub mod Rows
 pub mod Sums
 pub mod RowLaws
 pub mod Span
+pub mod FlatLaws
 pub mod SumLaws
 pub mod Hermite
 pub mod Coset

@@ -3,3 +3,4 @@ pub mod Limits
 pub mod Kinds
 pub mod Answers
 pub mod Checks
+pub mod CheckLaws

@@ -4,9 +4,10 @@
 --   goes-on       and at i + 1, where f holds at i
 --   ends          past the last place f holds at every one
 --   fails         where f fails at i, it does not
+--   every-at      where f holds at every place, it holds at each
 -- Assumes nothing.
-use mathlib.Core.Path.{_≡_, refl, subst}
-use mathlib.Core.Bool.{Bool, true, false, and-false}
+use mathlib.Core.Path.{_≡_, refl, sym, _∙_, subst}
+use mathlib.Core.Bool.{Bool, true, false, and-false, true≢false}
 use mathlib.Core.Logic.{⊎-elim}
 use Prim.Native.Nat.{ℕ, zero, suc, _+_, _≤_, _<_}
 use native.Mathlib.Nat.{le-antisymm, eq-or-lt-of-le, le-of-suc-le-suc, not-suc-le-zero}
@@ -43,3 +44,10 @@ one-fails (suc n) f i l e =
 
 pub fails : {n : ℕ} {f : ℕ → Bool} {i : ℕ} → SoFar n f i → i < n → f i ≡ false → every n f ≡ false
 fails {n} {f} {i} s l e = one-fails n f i l e
+
+pub every-at : (n : ℕ) (f : ℕ → Bool) (i : ℕ) → every n f ≡ true → i < n → f i ≡ true
+every-at n f i e l = go (f i) refl
+  where
+    go : (t : Bool) → f i ≡ t → f i ≡ true
+    go true h = h
+    go false h = absurd (true≢false (sym e ∙ one-fails n f i l h))
