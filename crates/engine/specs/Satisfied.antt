@@ -27,7 +27,7 @@ use Rattle.lattice.specs.Sums.{sums, Satisfies}
 use Rattle.lattice.specs.SumLaws.{length-sums}
 use Rattle.lattice.specs.FlatLaws.{length-chop}
 use Rattle.lattice.specs.Span.{All, Len, Span, all-map, all-both, span-row, span-under, span-plus}
-use Rattle.lattice.specs.Hermite.{rows-length}
+use Rattle.lattice.specs.Hermite.{width, rows, Led, rows-led}
 use Rattle.lattice.specs.Coset.{Describes, coset-self}
 use Rattle.problem.specs.Limits.{anyBeyond}
 use Rattle.problem.specs.Answers.{noSteps, isVerdict}
@@ -145,7 +145,7 @@ describes-keeps n Q s N long d = record {
       d .set (plus c r v) (length-plus c r v ∙ long v q) .1
       (subst (Span N) (plus-comm c (negsuc 0) r s v)
       (span-plus N c r (minus v s) (omega (arith, length-plus (negsuc 0) s v, long v q, l)) t (d .set v (long v q) .0 q))))
-      N (span-rows N) (rw (← (d .wide), d .is) (rows-length (d .form) (d .hermite)));
+      N (span-rows N) (rw (← (d .wide), d .is) (all-map (Led (width (d .form))) (Len (width (d .form))) (λ r l. l .wide) (rows (d .form)) (rows-led (d .form) (d .hermite))));
 }
 
 -- ---- whole assignments

@@ -6,6 +6,8 @@
 --   past m H            the rows whose lead lies past the first m columns, without these
 --   Reduced H v         v's numbers at H's leads lie in 0 to lead − 1
 --   Hermite H           the leads are above 0, and each row is reduced by the rows below it
+--   Led n r             r has n numbers, and a lead above 0
+--   rows-led            so has each row of a Hermite form
 --   span-indent, -pivot the span of a table behind a column of zeros, and below a pivot's row
 --   past-..             the rows past m columns: their width, their form, what is reduced by them, what they span
 --   reduced-unique      of the lists that differ by a list of the span at most one is reduced
@@ -15,16 +17,16 @@
 use mathlib.Core.Path.{_≡_, refl, sym, _∙_, ap, ap₂, subst}
 use mathlib.Core.Logic.{_↔_, Iff·trans}
 use mathlib.Core.List.{List, [], _∷_, _++_, map}
-use Prim.Native.Nat.{ℕ, zero, suc, _+_}
+use Prim.Native.Nat.{ℕ, zero, suc, _+_, _<_}
 use native.Mathlib.Omega.{arith}
 use lib.ListN.{length}
 use lib.IntN.{ℤ, pos, negsuc, _+ℤ_, _*ℤ_}
 use lib.Signed.{_≤ℤ_, _<ℤ_, ≤ℤ-refl}
-use Rattle.whole.specs.Lists.{zeros}
-use Rattle.whole.specs.Integers.{rep, diff-rel, Positive, positive-above, positive-nonzero, multiple-zero, multiple-small, multiple-both, multiple-self, add-none}
-use Rattle.lattice.specs.Rows.{plus, minus, ZeroTo}
+use Rattle.whole.specs.Lists.{entry, zeros}
+use Rattle.whole.specs.Integers.{rep, diff-rel, Positive, positive, positive-above, positive-nonzero, multiple-zero, multiple-small, multiple-both, multiple-self, add-none}
+use Rattle.lattice.specs.Rows.{plus, minus, ZeroTo, lead}
 use Rattle.lattice.specs.RowLaws.{plus-none}
-use Rattle.lattice.specs.Span.{All, Len, Span, Same, span-row, span-under}
+use Rattle.lattice.specs.Span.{All, Span, Same, span-row, span-under}
 
 pub data Echelon : Type 0 where
   done : Echelon
@@ -44,6 +46,11 @@ rows done = []
 rows (skip H) = indent (rows H)
 rows (step p r H) = (p ∷ r) ∷ indent (rows H)
 
+pub record Led (n : ℕ) (r : List ℤ) : Type 0 where
+  pub wide : length r ≡ n
+  pub inside : lead r < n
+  pub above : Positive (entry (lead r) r)
+
 abbrev pub past : ℕ → Echelon → Echelon
 past zero H = H
 past (suc m) done = done
@@ -62,15 +69,21 @@ Hermite done = Unit {0}
 Hermite (skip H) = Hermite H
 Hermite (step p r H) = Positive p × (length r ≡ width H) × Reduced H r × Hermite H
 
--- ---- the rows' lengths
-indent-length : (n : ℕ) (T : List (List ℤ)) → All (Len n) T → All (Len (suc n)) (indent T)
-indent-length n [] a = tt
-indent-length n (r ∷ T) a = (ap suc (a .0), indent-length n T (a .1))
+-- ---- the rows' lengths and leads
+indent-led : (n : ℕ) (T : List (List ℤ)) → All (Led n) T → All (Led (suc n)) (indent T)
+unfolding lead
+indent-led n [] a = tt
+indent-led n (r ∷ T) a =
+    (record { wide = ap suc (a .0 .wide); inside = omega (arith, a .0 .inside); above = a .0 .above }, indent-led n T (a .1))
 
-pub rows-length : (H : Echelon) → Hermite H → All (Len (width H)) (rows H)
-rows-length done h = tt
-rows-length (skip H) h = indent-length (width H) (rows H) (rows-length H h)
-rows-length (step p r H) h = (ap suc (h .1), indent-length (width H) (rows H) (rows-length H (h .3)))
+pivot-led : (n : ℕ) (p : ℤ) (r : List ℤ) → Positive p → length r ≡ n → Led (suc n) (p ∷ r)
+unfolding lead
+pivot-led n p r (positive k) e = record { wide = ap suc e; inside = omega arith; above = positive k }
+
+pub rows-led : (H : Echelon) → Hermite H → All (Led (width H)) (rows H)
+rows-led done h = tt
+rows-led (skip H) h = indent-led (width H) (rows H) (rows-led H h)
+rows-led (step p r H) h = (pivot-led (width H) p r (h .0) (h .1), indent-led (width H) (rows H) (rows-led H (h .3)))
 
 -- ---- spans behind a column
 pub span-indent : (T : List (List ℤ)) (x : ℤ) (v : List ℤ) → Span (indent T) (x ∷ v) ↔ ((x ≡ pos 0) × Span T v)

@@ -3,6 +3,7 @@
 --   indents m T           m columns of zeros before T
 --   leading-remaining     the rows of a form are the leading ones, then the remaining ones
 --   remaining-past        the remaining ones are the form past m columns, behind m zeros
+--   basis-past            so the basis is the form past m columns
 --   right-found           what is found: the residue's tail and the form past m columns, if the residue begins with m zeros
 --   right-tells           and that tells the set of lists x where (m zeros, x) − v lies in the form's span
 -- The mark `over` changes nothing in the rows.
@@ -102,7 +103,7 @@ remaining-pivot m p r T (positive k) = rw (lt-ltb 0 (suc m) (omega arith))
 indent-split : (m : ℕ) (T : List (List ℤ)) → leading (suc m) (indent T) ++ remaining (suc m) (indent T) ≡ indent (leading m T ++ remaining m T)
 indent-split m T = ap₂ _++_ (leading-indent m T) (remaining-indent m T) ∙ sym (map-append (λ r. pos 0 ∷ r) (leading m T) (remaining m T))
 
-leading-remaining : (m : ℕ) (H : Echelon) → Hermite H → leading m (rows H) ++ remaining m (rows H) ≡ rows H
+pub leading-remaining : (m : ℕ) (H : Echelon) → Hermite H → leading m (rows H) ++ remaining m (rows H) ≡ rows H
 unfolding leading remaining
 leading-remaining zero H h = ap₂ _++_ (leading-none (rows H)) (remaining-all (rows H))
 leading-remaining (suc m) done h = refl
@@ -132,6 +133,9 @@ indents-drop : (m : ℕ) (T : List (List ℤ)) → map (drop m) (indents m T) �
 indents-drop zero T = map-id T
 indents-drop (suc m) T = map-map (drop (suc m)) (λ r. pos 0 ∷ r) (indents m T) ∙ indents-drop m T
 
+pub basis-past : (m : ℕ) (H : Echelon) → Hermite H → basis m (rows H) ≡ rows (past m H)
+basis-past m H h = ap (map (drop m)) (remaining-past m H h) ∙ indents-drop m (rows (past m H))
+
 -- the first m numbers stay
 indents-take : (m : ℕ) (T : List (List ℤ)) (v : List ℤ) → m ≤ length v → take m (sweep (indents m T) v .row) ≡ take m v
 indents-take zero T v l = refl
@@ -153,7 +157,7 @@ unfolding rightSide
 right-found m H over v l k h =
     found-cond (allZero (take m w)) _ _
     ∙ ap₂ (λ (a : List ℤ) (b : Found). cond (allZero a) b none) heads
-    (ap₂ (λ (x : List ℤ) (N : List (List ℤ)). some (drop m x) N) whole based)
+    (ap₂ (λ (x : List ℤ) (N : List (List ℤ)). some (drop m x) N) whole (basis-past m H h))
   where
     w : List ℤ
     w = sweep (leading m (rows H)) v .row
@@ -172,9 +176,6 @@ right-found m H over v l k h =
         sym (indents-take m (rows (past m H)) w (omega (arith, sweep-length (leading m (rows H)) v)))
         ∙ ap (λ (T : List (List ℤ)). take m (sweep T w .row)) (sym (remaining-past m H h))
         ∙ ap (take m) whole
-
-    based : basis m (rows H) ≡ rows (past m H)
-    based = ap (map (drop m)) (remaining-past m H h) ∙ indents-drop m (rows (past m H))
 
 -- ---- what it tells
 pub right-tells : (n m : ℕ) (H : Echelon) (over : Bool) (v : List ℤ) → width H ≡ m + n → Hermite H → length v ≡ m + n

@@ -6,6 +6,9 @@
 --   elimination-unique   elimination of two tables leaves the same exactly when they span the same lists
 --   reached-tells        what generator rows and a right side find tells the set of lists that they reach
 --   reached-same         two of them find the same exactly when they reach the same lists
+--   problem-form         a problem's tableau comes into its Hermite form
+--   problem-split        the form's leading rows stand above the remaining ones
+--   problem-basis        each vector of the basis has n numbers and a lead above 0
 --   solve-tells          what a problem finds tells the set of lists that satisfy its rows
 --   solve-some           these lists are the starting list and the whole combinations of the basis added to it
 --   solve-none           there is no such list exactly when "none" is found
@@ -27,17 +30,17 @@ use Rattle.lattice.specs.RowLaws.{length-plus, length-zeros}
 use Rattle.lattice.specs.Sums.{Satisfies}
 use Rattle.lattice.specs.Span.{All, Len, Span, Same, Independent}
 use Rattle.lattice.specs.Hermite as Forms
-use Rattle.lattice.specs.Hermite.{Echelon, width, rows, Reduced, Hermite}
+use Rattle.lattice.specs.Hermite.{Echelon, width, rows, past, Led, Reduced, Hermite, rows-led, past-width, past-hermite}
 use Rattle.lattice.specs.Coset.{Describes}
 use Rattle.tableau.specs.Table.{tableau}
 use Rattle.tableau.specs.Elimination.{at, gather, eliminate}
-use Rattle.tableau.specs.RightSide.{none, some, rightSide, form, solve}
+use Rattle.tableau.specs.RightSide.{leading, remaining, basis, none, some, rightSide, form, solve}
 use Rattle.tableau.specs.Generators.{Generators, Reaches, Tells, Sized}
 use Rattle.tableau.specs.GatherLaws.{Chosen, Alone, gather-alone, gather-fuel}
 use Rattle.tableau.specs.FormLaws.{Eliminated, eliminated}
-use Rattle.tableau.specs.TableLaws.{tableau-generators, tableau-reaches}
+use Rattle.tableau.specs.TableLaws.{tableau-length, tableau-independent, tableau-generators, tableau-reaches}
 use Rattle.tableau.specs.FoundLaws.{tells-same, tells-none, tells-unique}
-use Rattle.tableau.specs.RightLaws.{right-tells}
+use Rattle.tableau.specs.RightLaws.{leading-remaining, basis-past, right-tells}
 
 -- ---- elimination
 -- As many rounds as the first magnitude chosen leave the pivot's entry above 0 and every lower entry 0. More rounds leave the same, and the same
@@ -100,6 +103,24 @@ pub reached-same : (n m m′ : ℕ) (T T′ : List (List ℤ)) (over over′ : B
 reached-same n m m′ T T′ over over′ v v′ g g′ =
     tells-unique n (Reaches n m T v) (Reaches n m′ T′ v′) _ _ (λ x r. r .long) (λ x r. r .long)
     (reached-tells n m T over v g) (reached-tells n m′ T′ over′ v′ g′)
+
+-- A problem's tableau has independent rows, so that its form is a Hermite form
+pub problem-form : (n : ℕ) (A : List (List ℤ)) → Eliminated (length A + n) (tableau n A)
+problem-form n A = eliminated (length A + n) (tableau n A) (tableau-length n A) (tableau-independent n A)
+
+pub problem-split : (n : ℕ) (A : List (List ℤ)) → leading (length A) (form n A .table) ++ remaining (length A) (form n A .table) ≡ form n A .table
+unfolding form
+problem-split n A =
+    let t : Eliminated (length A + n) (tableau n A) = problem-form n A in rw (t .is) (leading-remaining (length A) (t .form) (t .hermite))
+
+pub problem-basis : (n : ℕ) (A : List (List ℤ)) → All (Led n) (basis (length A) (form n A .table))
+unfolding form
+problem-basis n A =
+    let t : Eliminated (length A + n) (tableau n A) = problem-form n A in
+    let K : Echelon = past (length A) (t .form) in
+    let w : width K ≡ n = past-width (length A) n (t .form) (t .wide) in
+    rw (t .is, basis-past (length A) (t .form) (t .hermite))
+    (subst (λ (k : ℕ). All (Led k) (rows K)) w (rows-led K (past-hermite (length A) (t .form) (t .hermite))))
 
 -- ---- a problem
 -- The same for a problem: what is found tells the set of lists that satisfy its rows.
