@@ -1,3 +1,8 @@
--- The root of the definitions.
+-- The root of the definitions and of the lattice's laws.
 pub mod Rows
 pub mod Sums
+pub mod RowLaws
+pub mod Span
+pub mod SumLaws
+pub mod Hermite
+pub mod Coset

@@ -1,5 +1,6 @@
 -- Rows of whole numbers, as lists, and tables of them.
 --   plus c r v    v + c r, with v's length
+--   minus u v     u − v, with u's length
 --   neg r         −r
 --   unit n j      the j-th unit list of n numbers, j counted from 0
 --   allZero r     every number is 0
@@ -19,6 +20,9 @@ unfoldable pub plus : ℤ → List ℤ → List ℤ → List ℤ
 plus c [] v = v
 plus c (y ∷ r) [] = []
 plus c (y ∷ r) (x ∷ v) = (x +ℤ c *ℤ y) ∷ plus c r v
+
+abbrev pub minus : List ℤ → List ℤ → List ℤ
+minus u v = plus (negsuc 0) v u
 
 unfoldable pub neg : List ℤ → List ℤ
 neg [] = []

@@ -1,1 +1,56 @@
-// Rows of whole numbers: the definitions are in specs/.
+ghost use mathlib.Core.Path.{_≡_};
+ghost use lib.ListN.{length};
+ghost use Rattle.whole.specs.Lists.{zeros};
+ghost use Rattle.lattice.specs.Rows as Rows;
+
+// Copies a row onto one of the same length.
+pub fn copy(to: &mut [i64], from: &[i64])
+    requires { ⌜ length (now to) ≡ length (now from) ⌝ }
+    ensures { λ _. ⌜ now (to .exit) ≡ now (from .entry) ⌝ }
+{
+    let mut i = 0;
+    while i < from.len() {
+        let x = from[i];
+        to[i] = x;
+        i += 1;
+    }
+}
+
+// Sets every number to 0.
+pub fn wipe(row: &mut [i64])
+    ensures { λ _. ⌜ now (row .exit) ≡ zeros (length (now (row .entry))) ⌝ }
+{
+    let mut i = 0;
+    while i < row.len() {
+        row[i] = 0;
+        i += 1;
+    }
+}
+
+// The column of the first number other than 0; the row's length if there is none.
+pub fn lead(row: &[i64]) -> usize
+    ensures { λ r. ⌜ r ≡ Rows.lead (now (row .entry)) ⌝ }
+{
+    let mut i = 0;
+    while i < row.len() {
+        if whole::magnitude(row[i]) != 0 {
+            return i;
+        }
+        i += 1;
+    }
+    i
+}
+
+// Whether every number is 0.
+pub fn all_zero(row: &[i64]) -> bool
+    ensures { λ r. ⌜ r ≡ Rows.allZero (now (row .entry)) ⌝ }
+{
+    let mut i = 0;
+    while i < row.len() {
+        if whole::magnitude(row[i]) != 0 {
+            return false;
+        }
+        i += 1;
+    }
+    true
+}

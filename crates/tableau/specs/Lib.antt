@@ -1,4 +1,7 @@
--- The root of the definitions.
+-- The root of the definitions and of the tableau's laws.
 pub mod Table
 pub mod Elimination
 pub mod RightSide
+pub mod Generators
+pub mod GatherLaws
+pub mod TableLaws

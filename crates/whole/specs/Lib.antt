@@ -4,3 +4,4 @@ pub mod Tests
 pub mod Counted
 pub mod Quotient
 pub mod Divisor
+pub mod Integers

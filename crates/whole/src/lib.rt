@@ -1,8 +1,9 @@
 ghost use mathlib.Core.Path.{_≡_};
 ghost use mathlib.Core.Bool.{true};
-ghost use lib.IntN.{ℤ, pos, natAbs};
+ghost use Prim.Native.Nat.{_<_};
+ghost use lib.IntN.{ℤ, pos, natAbs, negℤ, _+ℤ_, _*ℤ_};
 ghost use lib.Signed.{_<ℤ_, ltZ, quotZ, nonNeg};
-ghost use Rattle.whole.specs.Quotient.{floorQuotient, flip};
+ghost use Rattle.whole.specs.Quotient.{floorQuotient, gatheringQuotient, flip};
 ghost use Rattle.whole.specs.Divisor as Divisor;
 
 // Whether a is below b.
@@ -38,6 +39,32 @@ pub fn floor_quotient(e: i64, p: i64) -> i64
     } else {
         quotient(e, p)
     }
+}
+
+// The quotient that gathering takes in the lower rows.
+pub fn gathering_quotient(e: i64, p: i64) -> i64
+    requires { ⌜ pos 0 <ℤ p ⌝ }
+    ensures { λ r. ⌜ r ≡ gatheringQuotient e p ⌝ }
+{
+    floor_quotient(e, p)
+}
+
+// −x, of any x but the least i64.
+pub fn negated(x: i64) -> i64
+    requires { ⌜ natAbs x < 9223372036854775808 ⌝ }
+    ensures { λ r. ⌜ r ≡ negℤ x ⌝ }
+{
+    0 - x
+}
+
+// x − q y, of numbers below 2 to the 31st: x and the product fit together.
+pub fn less_product(x: i64, q: i64, y: i64) -> i64
+    requires { ⌜ natAbs x < 2147483648 ⌝ }
+    requires { ⌜ natAbs q < 2147483648 ⌝ }
+    requires { ⌜ natAbs y < 2147483648 ⌝ }
+    ensures { λ r. ⌜ r ≡ x +ℤ negℤ q *ℤ y ⌝ }
+{
+    x - q * y
 }
 
 // The magnitude of any a, the least i64 too.

@@ -1,0 +1,26 @@
+-- Generator rows with a right side, apart from the problem they come from: m columns of a head, n columns of a tail.
+--   Generators n m T v   the rows of T have m + n numbers and are independent; so has the right side v
+--   Reaches n m T v x    x has n numbers, and (m zeros, x) − v is a whole combination of the rows: x is one of the lists that T and v reach
+--   Sized n A b          the rows of the matrix A have n numbers, and there is one right side for each
+-- Assumes nothing.
+use mathlib.Core.Path.{_≡_}
+use mathlib.Core.List.{List, _++_}
+use Prim.Native.Nat.{ℕ, _+_}
+use lib.IntN.{ℤ}
+use lib.ListN.{length}
+use Rattle.whole.specs.Lists.{zeros}
+use Rattle.lattice.specs.Rows.{minus}
+use Rattle.lattice.specs.Span.{All, Len, Span, Independent}
+
+pub record Generators (n m : ℕ) (T : List (List ℤ)) (v : List ℤ) : Type 0 where
+  pub wide : All (Len (m + n)) T
+  pub independent : Independent (m + n) T
+  pub long : length v ≡ m + n
+
+pub record Reaches (n m : ℕ) (T : List (List ℤ)) (v x : List ℤ) : Type 0 where
+  pub long : length x ≡ n
+  pub spans : Span T (minus (zeros m ++ x) v)
+
+pub record Sized (n : ℕ) (A : List (List ℤ)) (b : List ℤ) : Type 0 where
+  pub wide : All (Len n) A
+  pub long : length b ≡ length A
