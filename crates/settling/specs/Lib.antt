@@ -9,3 +9,4 @@ pub mod Settle
 pub mod Strides
 pub mod Sizes
 pub mod Views
+pub mod Ready

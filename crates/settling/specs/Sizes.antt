@@ -6,7 +6,7 @@
 --   distance-under ..   the three cases of the distance
 --   inside-small        a value in bounds is no larger than they are; `inside-above` nor 0, where the lower bound is 1 or more
 --   measure-room        the measure of a sized column has room
---   allowed-sized       a value that a move may leave in part p can be measured there
+--   allowed-sized       a value that a move may leave in part p can be measured there; `sized-near` one that can be measured is near
 -- Assumes nothing.
 use mathlib.Core.Path.{_≡_, refl, sym, _∙_, ap}
 use mathlib.Core.Bool.{Bool, true, false, cond, not, true≢false, false≢true}
@@ -133,3 +133,8 @@ allowed-sized Goals c s e =
       goal = s .goal;
       value = inside-small maxBound (c .lower) (c .upper) (c .value) (s .lower) (s .upper) (eqb-true (distanceOf c) 0 e);
     }
+
+-- and any measured value is near
+pub sized-near : (p : Part) (c : Cell) → Sized p c → Sized Bounds c
+sized-near Bounds c s = s
+sized-near Goals c s = record { lower = s .lower; upper = s .upper; goal = s .goal; value = omega (arith, s .value) }
