@@ -7,3 +7,6 @@ pub mod Measures
 pub mod Steps
 pub mod Settle
 pub mod Strides
+pub mod Sizes
+pub mod Views
+pub mod Ready

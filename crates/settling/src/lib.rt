@@ -6,6 +6,9 @@ ghost use Rattle.settling.specs.Ideals.{goalIdeal, goalWish, into};
 ghost use Rattle.settling.specs.Ideals as Ideals;
 use whole::magnitude;
 
+pub mod measures;
+pub mod moves;
+
 // What a column is to come to when it is seated: a number, or its present value.
 pub enum Wish {
     Unset,
@@ -24,6 +27,21 @@ pub struct Move {
     pub a: i64,
     pub t: usize,
     pub b: i64,
+}
+
+// How the vectors of a basis lie in a slice: each has a number for each column and starts `stride` after the last one.
+pub struct Basis {
+    pub columns: usize,
+    pub vectors: usize,
+    pub stride: usize,
+}
+
+// What settling knows of one column.
+pub struct Cell {
+    pub lower: i64,
+    pub upper: i64,
+    pub goal: i64,
+    pub value: i64,
 }
 
 // A column's distance, over 1, or its ratio.

@@ -1,10 +1,10 @@
 -- `settling::goal_ideal` meets its contract: its branches are the definition's cases, and a goal within the limit keeps the products small. Assumes nothing.
+use mathlib.Core.Path.{sym}
 use Prim.Native.Nat.{_≤_, _*_}
 use native.Mathlib.Omega.{arith}
 use native.Mathlib.Nat.{mul-le-mul}
-use mathlib.Core.Path.{sym}
-use Rattle.settling.proofs.Ideals.{ideal-least, ideal-up, ideal-down, product-small}
 use borrow.Author.Needs.{needs}
+use Rattle.settling.proofs.Ideals.{ideal-least, ideal-up, ideal-down, product-small}
 use Rattle.settling.proofs.goal_ideal.Statement.{statement}
 use Rattle.settling.proofs.goal_ideal.Tie as tie
 

@@ -1,16 +1,15 @@
-use lib.IntN.{pos}
-use mir.Syntax.{w64}
-use mir.Val.{SFits, toZ}
-use Rattle.settling.specs.Ideals.{goalIdeal}
-use Rattle.settling.specs.declared.Wish.the-variants.{Set}
 -- `settling::goal_wish` meets its contract: a magnitude of 0 is no goal, and the ideal of any other is far below 2^63. Assumes nothing.
 use mathlib.Core.Path.{_≡_, sym, _∙_, ap}
-use Prim.Native.Nat.{ℕ, _≤_}
+use Prim.Native.Nat.{ℕ}
 use native.Mathlib.Omega.{arith}
-use lib.IntN.{natAbs}
-use mir.Facts.{toZ-ofZ}
-use Rattle.settling.proofs.Ideals.{ideal-small, wish-unset, wish-set}
 use borrow.Author.Needs.{needs}
+use lib.IntN.{pos, natAbs}
+use mir.Syntax.{w64}
+use mir.Val.{SFits, toZ}
+use mir.Facts.{toZ-ofZ}
+use Rattle.settling.specs.Ideals.{goalIdeal}
+use Rattle.settling.specs.declared.Wish.the-variants.{Set}
+use Rattle.settling.proofs.Ideals.{ideal-small, wish-unset, wish-set}
 use Rattle.settling.proofs.goal_wish.Statement.{statement}
 use Rattle.settling.proofs.goal_wish.Tie as tie
 

@@ -1,11 +1,11 @@
+-- `settling::ideal` meets its contract: it brings the wish, or the present value, into the bounds. Assumes nothing.
+use mathlib.Core.Path.{_≡_}
+use borrow.Author.Needs.{needs}
 use mir.Syntax.{w64}
 use mir.Val.{toZ, ofZ}
-use mathlib.Core.Path.{_≡_, sym, _∙_, ap}
 use mir.Facts.{toZ-ofZ}
 use Rattle.whole.proofs.Signed.{back}
 use Rattle.settling.specs.Ideals as Ideals
--- `settling::ideal` meets its contract: it brings the wish, or the present value, into the bounds. Assumes nothing.
-use borrow.Author.Needs.{needs}
 use Rattle.settling.proofs.ideal.Statement.{statement}
 use Rattle.settling.proofs.ideal.Tie as tie
 

@@ -1,0 +1,108 @@
+-- `search::scan::passes_at` meets its contract: the cell with the moved value is the column after the move. Assumes nothing.
+use mathlib.Core.Path.{_≡_, sym, _∙_, ap, ap₂, subst}
+use mathlib.Core.List.{List}
+use Prim.Native.Nat.{ℕ, _+_, _*_, _<_, _≤_}
+use native.Mathlib.Omega.{arith}
+use lib.IntN.{ℤ, natAbs, _+ℤ_}
+use lib.ListN.{length}
+use mir.Syntax.{w64}
+use mir.Val.{toZ, ofZ}
+use Rattle.whole.specs.Lists.{entry}
+use Rattle.whole.proofs.Signed.{back, abs-add}
+use Rattle.problem.specs.Limits.{M}
+use Rattle.settling.specs.declared.Cell.{Cell}
+use Rattle.settling.specs.Columns.{Columns}
+use Rattle.settling.specs.Moves as Moves
+use Rattle.settling.specs.Steps as Steps
+use Rattle.settling.specs.Sizes.{Sized, sized-near}
+use Rattle.settling.specs.declared.Part.the-variants.{Bounds}
+use Rattle.settling.specs.Views.{vectors, change-small, moved-at}
+use Rattle.settling.proofs.Machine.{read}
+use Rattle.search.specs.Cells.{cellAt, cellOf, cell-at, valuesOf, pick-length}
+use borrow.Author.Needs.{needs}
+use Rattle.search.proofs.scan.passes_at.Statement.{statement}
+use Rattle.search.proofs.scan.passes_at.Tie as tie
+
+module _ (s : tie.Start) where
+  abbrev N : List (List ℤ)
+  N = vectors (s .args .search .view) (s .args .basis .now)
+
+  abbrev v : List ℤ
+  v = valuesOf (s .args .search .view .columns) (s .args .cells .now)
+
+  abbrev cell : Cell
+  cell = cellOf (s .args .search .view .columns) (s .args .cells .now) (s .args .j)
+
+  is : cell ≡ cellAt (s .args .cells .now) (s .args .j)
+  is = cell-at (s .args .search .view .columns) (s .args .cells .now) (s .pre .0 .long) (s .args .j)
+
+  sized : Sized Bounds cell
+  sized = sized-near (s .args .search .part) cell (subst (Sized (s .args .search .part)) (sym is) (s .pre .0 .cells .sized (s .args .j) (omega (arith, s .pre .0 .long, s .pre .3))))
+
+  near : natAbs (cell .value) ≤ M
+  near = subst (λ (x : Cell). natAbs (x .value) ≤ M) (sym is) (s .pre .0 .near (s .args .j))
+
+  small : natAbs (Moves.change N (s .args .o) (s .args .j)) ≤ 2 * M
+  small = change-small (s .args .search .view) (s .args .basis .now) (s .args .o) (s .args .j) (s .pre .0 .basis) (s .pre .1) (s .pre .3)
+
+  moved : entry (s .args .j) (Moves.moved N (s .args .o) v) ≡ cell .value +ℤ Moves.change N (s .args .o) (s .args .j)
+  moved = moved-at N (s .args .o) v (s .args .j) (omega (arith, pick-length (s .args .search .view .columns) 3 (s .args .cells .now), s .pre .3))
+
+  moved-near : natAbs (entry (s .args .j) (Moves.moved N (s .args .o) v)) ≤ 3 * M
+  moved-near = rw moved (omega (arith, abs-add (cell .value) (Moves.change N (s .args .o) (s .args .j)), near, small))
+
+-- what the machine reads back
+module _ (c : tie.After-cell-at) where
+  told : c .cell-at .result ≡ cell (c .before .before)
+  told = c .cell-at .ensures ∙ sym (is (c .before .before))
+
+  lower : toZ w64 (ofZ w64 (c .cell-at .result .lower)) ≡ cell (c .before .before) .lower
+  lower = ap (λ (x : Cell). toZ w64 (ofZ w64 (x .lower))) told ∙ read _ (omega (arith, sized (c .before .before) .lower))
+
+  upper : toZ w64 (ofZ w64 (c .cell-at .result .upper)) ≡ cell (c .before .before) .upper
+  upper = ap (λ (x : Cell). toZ w64 (ofZ w64 (x .upper))) told ∙ read _ (omega (arith, sized (c .before .before) .upper))
+
+  goal : toZ w64 (ofZ w64 (c .cell-at .result .goal)) ≡ cell (c .before .before) .goal
+  goal = ap (λ (x : Cell). toZ w64 (ofZ w64 (x .goal))) told ∙ read _ (omega (arith, sized (c .before .before) .goal))
+
+  value : toZ w64 (ofZ w64 (c .cell-at .result .value)) ≡ cell (c .before .before) .value
+  value = ap (λ (x : Cell). toZ w64 (ofZ w64 (x .value))) told ∙ read _ (omega (arith, near (c .before .before)))
+
+  change : let s = c .before .before in toZ w64 (ofZ w64 (c .before .change .result)) ≡ Moves.change (N s) (s .args .o) (s .args .j)
+  change = back (c .before .change .result) (c .before .change .ok) ∙ c .before .change .ensures
+
+after : (c : tie.After-sum) → let s = c .before .before .before .before in toZ w64 (ofZ w64 (c .sum .result)) ≡ entry (s .args .j) (Moves.moved (N s) (s .args .o) (v s))
+after c = back (c .sum .result) (c .sum .ok) ∙ c .sum .ensures ∙ ap₂ _+ℤ_ (value (c .before .before)) (change (c .before .before)) ∙ sym (moved (c .before .before .before .before))
+
+change-requires : tie.Need-change-requires
+change-requires c κs = search needs
+
+cell-at-requires : tie.Need-cell-at-requires
+cell-at-requires c κs = search needs
+
+sum-requires : tie.Need-sum-requires
+sum-requires c κs = let s = c .before .before .before in rw (value (c .before), change (c .before)) (near s, small s)
+
+passes-requires : tie.Need-passes-requires
+passes-requires c κs =
+    let s = c .before .before .before .before .before in
+    let k = c .before .before .before in (
+      record {
+        lower = rw (lower k) (sized s .lower);
+        upper = rw (upper k) (sized s .upper);
+        goal = rw (goal k) (sized s .goal);
+        value = rw (after (c .before)) (moved-near s);
+      },
+      s .pre .2,
+    )
+
+returns : tie.Need-returns
+returns c =
+    let s = c .before .before .before .before .before .before in
+    let k = c .before .before .before .before in
+    c .passes .ensures
+    ∙ (λ i. Steps.passes (s .args .search .part) (lower k i) (upper k i) (goal k i) (after (c .before .before) i) (change k i) (s .args .q))
+
+pub passes-at-spec : {M : Type 1} → statement M
+passes-at-spec =
+    tie.close (tie.spec change-requires cell-at-requires sum-requires passes-requires returns)

@@ -1,0 +1,113 @@
+-- What the search may skip. Along the ranking the measure to come below only falls: a move that improves a column also improves each higher
+-- column that it changes, so that it has to be tried only at the highest column that it changes.
+--   every-at, -not     a test that holds at every place, and one that fails at some place
+--   Proper p C v j     the measure of column j is a fraction
+--   weak               proper columns are ordered by their measures
+--   unchanged          a move improves no column that it leaves as it is
+--   blocked            one that does not improve a column that it changes improves none that is not larger
+-- Assumes nothing.
+use mathlib.Core.Path.{_≡_, refl, sym, _∙_, ap, ap₂}
+use mathlib.Core.Logic.{_⊎_, ⊎-elim}
+use mathlib.Core.Bool.{Bool, true, false, not, _&&_, _||_, false≢true, true≢false}
+use mathlib.Core.List.{List}
+use Prim.Native.Nat.{ℕ, zero, suc, _*_, _<_, _≤_}
+use native.Mathlib.Nat.{eq-or-lt-of-le, mul-le-mul-right, mul-lt-mul-of-pos-right, le-of-mul-le-mul-right, lt-of-mul-lt-mul-right}
+use native.Mathlib.Omega.{arith}
+use borrow.Author.Tests.{lt-ltb, le-ltb, ltb-true, ltb-false}
+use lib.IntN.{ℤ}
+use Rattle.whole.specs.Tests.{isZero, every}
+use Rattle.settling.specs.declared.Move.{Move}
+use Rattle.settling.specs.declared.Measure.{Measure}
+use Rattle.settling.specs.declared.Part.{Part}
+use Rattle.settling.specs.Columns.{Columns}
+use Rattle.settling.specs.Moves.{changes}
+use Rattle.settling.specs.Measures.{below, measure}
+use Rattle.settling.specs.Steps.{isCompared, isAllowed, passes, measureAt, largerAt, passesAt, improves}
+use Rattle.search.specs.Rankings.{Weak}
+
+-- ---- every
+pub and-true : (a b : Bool) → a && b ≡ true → (a ≡ true) × (b ≡ true)
+and-true true b e = (refl, e)
+and-true false b e = absurd (false≢true e)
+
+pub every-at : (n : ℕ) (f : ℕ → Bool) (j : ℕ) → every n f ≡ true → j < n → f j ≡ true
+unfolding every
+every-at zero f j e h = absurd (omega arith)
+every-at (suc n) f j e h =
+    let x = and-true (every n f) (f n) e in
+    ⊎-elim (λ p. ap f p ∙ x .1) (λ p. every-at n f j (x .0) p) (last j n h)
+  where
+    last : (j n : ℕ) → j < suc n → (j ≡ n) ⊎ (j < n)
+    last j n h = eq-or-lt-of-le (omega arith)
+
+every-all : (n : ℕ) (f : ℕ → Bool) → ((j : ℕ) → j < n → f j ≡ true) → every n f ≡ true
+unfolding every
+every-all zero f h = refl
+every-all (suc n) f h = ap₂ _&&_ (every-all n f (λ j l. h j (omega arith))) (h n (omega arith))
+
+pub every-not : (n : ℕ) (f : ℕ → Bool) (j : ℕ) → j < n → f j ≡ false → every n f ≡ false
+every-not n f j h e = go (every n f) refl
+  where
+    go : (b : Bool) → every n f ≡ b → every n f ≡ false
+    go true g = absurd (true≢false (sym (every-at n f j g h) ∙ e))
+    go false g = g
+
+-- ---- measures with a bottom above 0 are ordered as fractions
+below-past : (p q r : Measure) → 0 < q .bottom → below q p ≡ false → below r q ≡ false → below r p ≡ false
+below-past p q r h a b =
+    let x : p .top * q .bottom ≤ q .top * p .bottom = ltb-false (q .top * p .bottom) (p .top * q .bottom) a in
+    let y : q .top * r .bottom ≤ r .top * q .bottom = ltb-false (r .top * q .bottom) (q .top * r .bottom) b in
+    let z : p .top * r .bottom * q .bottom ≤ r .top * p .bottom * q .bottom = omega (arith, mul-le-mul-right (r .bottom) x, mul-le-mul-right (p .bottom) y) in
+    le-ltb (r .top * p .bottom) (p .top * r .bottom) (le-of-mul-le-mul-right z h)
+
+below-up : (x q r : Measure) → 0 < q .bottom → 0 < r .bottom → below x q ≡ true → below r q ≡ false → below x r ≡ true
+below-up x q r h k a b =
+    let y : x .top * q .bottom < q .top * x .bottom = ltb-true (x .top * q .bottom) (q .top * x .bottom) a in
+    let z : q .top * r .bottom ≤ r .top * q .bottom = ltb-false (r .top * q .bottom) (q .top * r .bottom) b in
+    let w : x .top * r .bottom * q .bottom < r .top * x .bottom * q .bottom = omega (arith, mul-lt-mul-of-pos-right {k = r .bottom} y k, mul-le-mul-right (x .bottom) z) in
+    lt-ltb (x .top * r .bottom) (r .top * x .bottom) (lt-of-mul-lt-mul-right (q .bottom) w)
+
+below-asym : (p q : Measure) → below q p ≡ true → below p q ≡ false
+below-asym p q a = le-ltb (p .top * q .bottom) (q .top * p .bottom) (omega (arith, ltb-true (q .top * p .bottom) (p .top * q .bottom) a))
+
+abbrev pub Proper : Part → Columns → List ℤ → ℕ → Type 0
+Proper p C v j = 0 < measureAt p C v j .bottom
+
+pub weak : (p : Part) (C : Columns) (v : List ℤ) → Weak (Proper p C v) (largerAt p C v)
+weak p C v = record {
+  asym = λ i j a b e. below-asym (measureAt p C v i) (measureAt p C v j) e;
+  past = λ i j k a b c e f. below-past (measureAt p C v i) (measureAt p C v j) (measureAt p C v k) b e f;
+}
+
+-- ---- a move that improves i improves each higher column that it changes
+passes-up : (p : Part) (lo hi g y e : ℤ) (q r : Measure) → 0 < q .bottom → 0 < r .bottom → below r q ≡ false → passes p lo hi g y e q ≡ true → passes p lo hi g y e r ≡ true
+unfolding passes
+passes-up p lo hi g y e q r h k b f = go (isAllowed p lo hi y) (not (not (isZero e) && isCompared p g)) (below (measure p lo hi g y) q) refl f
+  where
+    go : (a c d : Bool) → below (measure p lo hi g y) q ≡ d → a && (c || d) ≡ true → a && (c || below (measure p lo hi g y) r) ≡ true
+    go true true d x f = refl
+    go true false true x f = below-up (measure p lo hi g y) q r h k x b
+    go true false false x f = absurd (false≢true f)
+    go false c d x f = absurd (false≢true f)
+
+module _ (p : Part) (C : Columns) (N : List (List ℤ)) (v : List ℤ) where
+  improves-up : (o : Move) (i j : ℕ) → Proper p C v i → Proper p C v j → largerAt p C v i j ≡ false → changes N o j ≡ true
+      → improves p C N v o i ≡ true → improves p C N v o j ≡ true
+  unfolding improves
+  improves-up o i j a b l c e =
+      let x = and-true (changes N o i) (every (C .count) (passesAt p C N v o (measureAt p C v i))) e in
+      ap₂ _&&_ c
+      (every-all (C .count) (passesAt p C N v o (measureAt p C v j))
+      (λ k h. passes-up p _ _ _ _ _ (measureAt p C v i) (measureAt p C v j) a b l (every-at (C .count) (passesAt p C N v o (measureAt p C v i)) k (x .1) h)))
+
+  pub unchanged : (o : Move) (i : ℕ) → changes N o i ≡ false → improves p C N v o i ≡ false
+  unfolding improves
+  unchanged o i e = ap (λ (t : Bool). t && every (C .count) (passesAt p C N v o (measureAt p C v i))) e
+
+  pub blocked : (o : Move) (i j : ℕ) → Proper p C v i → Proper p C v j → largerAt p C v i j ≡ false → changes N o j ≡ true
+      → improves p C N v o j ≡ false → improves p C N v o i ≡ false
+  blocked o i j a b l c e = go (improves p C N v o i) refl
+    where
+      go : (t : Bool) → improves p C N v o i ≡ t → improves p C N v o i ≡ false
+      go true g = absurd (true≢false (sym (improves-up o i j a b l c g) ∙ e))
+      go false g = g

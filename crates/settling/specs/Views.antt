@@ -1,0 +1,85 @@
+-- A basis as it lies in a slice.
+--   Basis              how: a number of vectors of `columns` numbers, each `stride` after the last (declared in src/)
+--   rowsOf r n w l     r rows of n numbers, each w after the last
+--   vectors B l        the vectors of the view B of the slice l
+--   Viewed B l         they lie in the slice, and no number of it lies beyond ±M
+--   OfBasis r o        the move o adds or takes away vectors of the first r
+--   rows-length        there are as many as the view says
+--   vectors-at         the number at column j of vector s
+--   unit-small, sum-small, change-small   how large a signed number, the sum of two, and so what a move adds can be
+--   moved-length, -at  the values after a move
+-- Assumes nothing.
+use mathlib.Core.Path.{_≡_, refl, sym, _∙_, ap}
+use mathlib.Core.List.{List, [], _∷_}
+use Prim.Native.Nat.{ℕ, zero, suc, _+_, _*_, _<_, _≤_}
+use native.Mathlib.Nat.{mul-le-mul}
+use native.Mathlib.Omega.{arith}
+use lib.IntN.{ℤ, pos, natAbs, _+ℤ_, _*ℤ_, +ℤ-assoc}
+use lib.ListN.{length, getD, take, drop}
+use lib.Seq.{getD-drop, getD-take}
+use Rattle.whole.specs.Lists.{entry}
+use Rattle.whole.proofs.Signed.{abs-add, abs-mul}
+use Rattle.lattice.specs.Rows.{plus}
+use Rattle.lattice.specs.RowLaws.{length-plus, entry-plus}
+use Rattle.problem.specs.Limits.{M}
+use Rattle.settling.specs.declared.Basis.{Basis}
+use Rattle.settling.specs.declared.Move.{Move}
+use Rattle.settling.specs.Moves.{vector, change, moved}
+
+unfoldable pub rowsOf : ℕ → ℕ → ℕ → List ℤ → List (List ℤ)
+rowsOf zero n w l = []
+rowsOf (suc r) n w l = take n l ∷ rowsOf r n w (drop w l)
+
+abbrev pub vectors : Basis → List ℤ → List (List ℤ)
+vectors B l = rowsOf (B .vectors) (B .columns) (B .stride) l
+
+pub record Viewed (B : Basis) (l : List ℤ) : Type 0 where
+  pub lies : (s j : ℕ) → s < B .vectors → j < B .columns → s * B .stride + j < length l
+  pub small : (i : ℕ) → natAbs (entry i l) ≤ M
+
+pub record OfBasis (r : ℕ) (o : Move) : Type 0 where
+  pub s : o .s < r
+  pub t : o .t < r
+  pub a : natAbs (o .a) ≤ 1
+  pub b : natAbs (o .b) ≤ 1
+
+-- ---- the vectors
+pub rows-length : (r n w : ℕ) (l : List ℤ) → length (rowsOf r n w l) ≡ r
+unfolding rowsOf
+rows-length zero n w l = refl
+rows-length (suc r) n w l = ap suc (rows-length r n w (drop w l))
+
+rows-at : (r n w : ℕ) (l : List ℤ) (s j : ℕ) → s < r → j < n → entry j (vector (rowsOf r n w l) s) ≡ entry (s * w + j) l
+unfolding rowsOf
+rows-at zero n w l s j h k = absurd (omega arith)
+rows-at (suc r) n w l zero j h k = getD-take n l j (pos 0) k ∙ ap (λ (i : ℕ). entry i l) (omega arith)
+rows-at (suc r) n w l (suc s) j h k =
+    rows-at r n w (drop w l) s j (omega arith) k ∙ getD-drop w l (s * w + j) (pos 0) ∙ ap (λ (i : ℕ). entry i l) (omega arith)
+
+pub vectors-at : (B : Basis) (l : List ℤ) (s j : ℕ) → s < B .vectors → j < B .columns → entry j (vector (vectors B l) s) ≡ entry (s * B .stride + j) l
+vectors-at B l s j h k = rows-at (B .vectors) (B .columns) (B .stride) l s j h k
+
+-- ---- what a move does
+pub unit-small : (a x : ℤ) → natAbs a ≤ 1 → natAbs x ≤ M → natAbs (a *ℤ x) ≤ M
+unit-small a x h k = rw abs-mul (omega (arith, mul-le-mul h k))
+
+pub sum-small : (a x b y : ℤ) → natAbs a ≤ 1 → natAbs b ≤ 1 → natAbs x ≤ M → natAbs y ≤ M → natAbs (a *ℤ x +ℤ b *ℤ y) ≤ 2 * M
+sum-small a x b y h k p q = omega (arith, unit-small a x h p, unit-small b y k q, abs-add (a *ℤ x) (b *ℤ y))
+
+pub change-small : (B : Basis) (l : List ℤ) (o : Move) (j : ℕ) → Viewed B l → OfBasis (B .vectors) o → j < B .columns → natAbs (change (vectors B l) o j) ≤ 2 * M
+change-small B l o j v m h =
+    sum-small (o .a) (entry j (vector (vectors B l) (o .s))) (o .b) (entry j (vector (vectors B l) (o .t))) (m .a) (m .b)
+    (rw (vectors-at B l (o .s) j (m .s) h) (v .small (o .s * B .stride + j)))
+    (rw (vectors-at B l (o .t) j (m .t) h) (v .small (o .t * B .stride + j)))
+
+pub moved-length : (N : List (List ℤ)) (o : Move) (v : List ℤ) → length (moved N o v) ≡ length v
+unfolding moved
+moved-length N o v =
+    length-plus (o .b) (vector N (o .t)) (plus (o .a) (vector N (o .s)) v) ∙ length-plus (o .a) (vector N (o .s)) v
+
+pub moved-at : (N : List (List ℤ)) (o : Move) (v : List ℤ) (j : ℕ) → j < length v → entry j (moved N o v) ≡ entry j v +ℤ change N o j
+unfolding moved
+moved-at N o v j h =
+    entry-plus j (o .b) (vector N (o .t)) (plus (o .a) (vector N (o .s)) v) (omega (arith, length-plus (o .a) (vector N (o .s)) v))
+    ∙ ap (λ (z : ℤ). z +ℤ o .b *ℤ entry j (vector N (o .t))) (entry-plus j (o .a) (vector N (o .s)) v h)
+    ∙ +ℤ-assoc (entry j v) (o .a *ℤ entry j (vector N (o .s))) (o .b *ℤ entry j (vector N (o .t)))
