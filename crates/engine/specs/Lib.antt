@@ -1,4 +1,5 @@
 -- The root of the definitions.
 pub mod Assign
+pub mod Views
 pub mod Demand
 pub mod Satisfied

@@ -8,7 +8,7 @@
 --   all-..              properties of all rows
 --   span-..             the span has zeros, each row, multiples and sums
 --   front, back         a row brought past others
---   steps-..            the steps keep what negation and sums keep, the lengths, the span, and independence
+--   steps-..            the steps keep what negation and sums keep, the rows' number and lengths, the span, and independence
 --   independent-nonzero there is no row of zeros among independent rows
 -- Assumes nothing.
 use mathlib.Core.Path.{_≡_, refl, sym, _∙_, ap, subst}
@@ -132,6 +132,14 @@ module _ (Q : List ℤ → Type 0) (qn : (r : List ℤ) → Q r → Q (neg r)) (
   steps-all (swap r s) a = (a .1 .0, (a .0, a .1 .1))
   steps-all (sign r) a = (qn r (a .0), a .1)
   steps-all (add q r s) a = (a .0, (qp q r s (a .0) (a .1 .0), a .1 .1))
+
+pub steps-count : {T U : List (List ℤ)} → T ~ U → length T ≡ length U
+steps-count same = refl
+steps-count (x then y) = steps-count x ∙ steps-count y
+steps-count (under r x) = ap suc (steps-count x)
+steps-count (swap r s) = refl
+steps-count (sign r) = refl
+steps-count (add c r s) = refl
 
 pub steps-length : (n : ℕ) {T U : List (List ℤ)} → T ~ U → All (Len n) T → All (Len n) U
 steps-length n s a = steps-all (Len n) (λ r e. length-neg r ∙ e) (λ q r s e f. length-plus q r s ∙ f) s a

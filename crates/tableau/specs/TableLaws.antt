@@ -1,11 +1,11 @@
 -- Laws of the tableau: what its rows span, and that they are independent.
---   tableau-length        its rows have m + n numbers
+--   tableau-count, -length   it has n rows, of m + n numbers
 --   tableau-independent   they are independent
 --   tableau-span          (y, x) lies in their span exactly when the sums of x are y
 --   tableau-generators    with the list (−b, then n zeros) they are generator rows with a right side
 --   tableau-reaches       and reach exactly the lists that satisfy the rows
 -- Assumes nothing.
-use mathlib.Core.Path.{_≡_, sym, _∙_, ap, ap₂, subst}
+use mathlib.Core.Path.{_≡_, refl, sym, _∙_, ap, ap₂, subst}
 use mathlib.Core.Logic.{_↔_}
 use mathlib.Core.List.{List, _++_}
 use Prim.Native.Nat.{ℕ, zero, suc, _+_, _<_}
@@ -32,6 +32,15 @@ unfolding tableauFrom
 from-length zero j n A = tt
 from-length (suc k) j n A =
     (length-append (column j A) (unit n j) ∙ ap₂ _+_ (length-column j A) (length-unit n j), from-length k (suc j) n A)
+
+from-count : (k j n : ℕ) (A : List (List ℤ)) → length (tableauFrom k j n A) ≡ k
+unfolding tableauFrom
+from-count zero j n A = refl
+from-count (suc k) j n A = ap suc (from-count k (suc j) n A)
+
+pub tableau-count : (n : ℕ) (A : List (List ℤ)) → length (tableau n A) ≡ n
+unfolding tableau
+tableau-count n A = from-count n 0 n A
 
 pub tableau-length : (n : ℕ) (A : List (List ℤ)) → All (Len (length A + n)) (tableau n A)
 unfolding tableau

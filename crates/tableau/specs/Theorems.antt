@@ -7,6 +7,7 @@
 --   reached-tells        what generator rows and a right side find tells the set of lists that they reach
 --   reached-same         two of them find the same exactly when they reach the same lists
 --   problem-form         a problem's tableau comes into its Hermite form
+--   problem-count, -wide it has a row of m + n numbers for each column
 --   problem-split        the form's leading rows stand above the remaining ones
 --   problem-basis        each vector of the basis has n numbers and a lead above 0
 --   solve-tells          what a problem finds tells the set of lists that satisfy its rows
@@ -19,7 +20,7 @@
 use mathlib.Core.Path.{_≡_, sym, _∙_, ap, subst}
 use mathlib.Core.Logic.{_↔_, Iff·rfl, Iff·symm, Iff·trans}
 use mathlib.Core.Bool.{Bool}
-use mathlib.Core.List.{List, _++_}
+use mathlib.Core.List.{List, [], _++_}
 use Prim.Native.Nat.{ℕ, _+_, _≤_}
 use native.Mathlib.Omega.{arith}
 use lib.IntN.{ℤ, negsuc}
@@ -28,7 +29,7 @@ use Rattle.whole.specs.Lists.{zeros}
 use Rattle.lattice.specs.Rows.{minus, neg}
 use Rattle.lattice.specs.RowLaws.{length-plus, length-zeros}
 use Rattle.lattice.specs.Sums.{Satisfies}
-use Rattle.lattice.specs.Span.{All, Len, Span, Same, Independent}
+use Rattle.lattice.specs.Span.{All, Len, Span, Same, Independent, steps-count, steps-length}
 use Rattle.lattice.specs.Hermite as Forms
 use Rattle.lattice.specs.Hermite.{Echelon, width, rows, past, Led, Reduced, Hermite, rows-led, past-width, past-hermite}
 use Rattle.lattice.specs.Coset.{Describes}
@@ -37,8 +38,8 @@ use Rattle.tableau.specs.Elimination.{at, gather, eliminate}
 use Rattle.tableau.specs.RightSide.{leading, remaining, basis, none, some, rightSide, form, solve}
 use Rattle.tableau.specs.Generators.{Generators, Reaches, Tells, Sized}
 use Rattle.tableau.specs.GatherLaws.{Chosen, Alone, gather-alone, gather-fuel}
-use Rattle.tableau.specs.FormLaws.{Eliminated, eliminated}
-use Rattle.tableau.specs.TableLaws.{tableau-length, tableau-independent, tableau-generators, tableau-reaches}
+use Rattle.tableau.specs.FormLaws.{Eliminated, eliminated, passColumns-steps}
+use Rattle.tableau.specs.TableLaws.{tableau-count, tableau-length, tableau-independent, tableau-generators, tableau-reaches}
 use Rattle.tableau.specs.FoundLaws.{tells-same, tells-none, tells-unique}
 use Rattle.tableau.specs.RightLaws.{leading-remaining, basis-past, right-tells}
 
@@ -107,6 +108,14 @@ reached-same n m m′ T T′ over over′ v v′ g g′ =
 -- A problem's tableau has independent rows, so that its form is a Hermite form
 pub problem-form : (n : ℕ) (A : List (List ℤ)) → Eliminated (length A + n) (tableau n A)
 problem-form n A = eliminated (length A + n) (tableau n A) (tableau-length n A) (tableau-independent n A)
+
+pub problem-count : (n : ℕ) (A : List (List ℤ)) → length (form n A .table) ≡ n
+unfolding form eliminate
+problem-count n A = sym (steps-count (passColumns-steps (length A + n) 0 [] (tableau n A))) ∙ tableau-count n A
+
+pub problem-wide : (n : ℕ) (A : List (List ℤ)) → All (Len (length A + n)) (form n A .table)
+unfolding form eliminate
+problem-wide n A = steps-length (length A + n) (passColumns-steps (length A + n) 0 [] (tableau n A)) (tableau-length n A)
 
 pub problem-split : (n : ℕ) (A : List (List ℤ)) → leading (length A) (form n A .table) ++ remaining (length A) (form n A .table) ≡ form n A .table
 unfolding form
