@@ -19,15 +19,13 @@ use mathlib.Core.Bool.{Bool, true, false, cond, _&&_, true≢false}
 use mathlib.Core.List.{List, [], _∷_}
 use Prim.Native.Nat.{ℕ, zero, suc, _+_, _*_, _≤_}
 use native.Mathlib.Omega.{arith}
-use borrow.Author.Tests.{eqb-true}
-use lib.Dec.{eqb}
 use lib.IntN.{ℤ}
 use lib.ListN.{length}
 use Rattle.lattice.specs.Sums.{Satisfies}
 use Rattle.lattice.specs.FlatLaws.{chop-rows, length-chop}
 use Rattle.problem.specs.Answers.{noSteps, isVerdict}
 use Rattle.problem.specs.Checks.{Posed, firstCause}
-use Rattle.problem.specs.CheckLaws.{both-true, passes}
+use Rattle.problem.specs.CheckLaws.{passes, Fits, fits}
 use Rattle.problem.specs.declared.Refusal.{Refusal}
 use Rattle.problem.specs.declared.Refusal.the-variants.{Elimination, NoWholeNumbers, Seating}
 use Rattle.problem.specs.declared.Check.{Check}
@@ -88,10 +86,10 @@ pub record Demand3 (P Q : Posed) (B C : Buffers) : Type 0 where
 module _ (P : Posed) (B : Buffers) (w : Within P B) where
   pub within-sized : Sized (n P) (matrix P) (P .rights)
   within-sized =
-      let e : (eqb (length (P .coefficients)) (m P * n P) ≡ true) × (eqb (length (P .rights)) (m P) ≡ true) = both-true _ _ (passes P (lentOf B) (w .passed) .row-lengths) in
+      let f : Fits P (lentOf B) = fits P (lentOf B) (passes P (lentOf B) (w .passed)) in
       record {
-        wide = chop-rows (m P) (n P) (P .coefficients) (eqb-true _ _ (e .0));
-        long = eqb-true _ _ (e .1) ∙ sym (length-chop (m P) (n P) (P .coefficients));
+        wide = chop-rows (m P) (n P) (P .coefficients) (f .coefficients-long);
+        long = f .rights-long ∙ sym (length-chop (m P) (n P) (P .coefficients));
       }
 
   -- past the checks, the mark decides

@@ -11,9 +11,7 @@ use mathlib.Core.Logic.{_↔_}
 use mathlib.Core.Bool.{Bool, true, false, not, cond, _&&_, _||_, true≢false}
 use mathlib.Core.List.{List, [], _∷_, _++_}
 use Prim.Native.Nat.{ℕ, zero, suc, _+_, _*_, _≤_}
-use lib.Dec.{eqb}
 use native.Mathlib.Omega.{arith}
-use borrow.Author.Tests.{eqb-true}
 use lib.IntN.{ℤ, pos, negsuc, _-ℤ_}
 use lib.ListN.{length, getD, take, drop}
 use lib.Seq.{ext-getD}
@@ -32,7 +30,7 @@ use Rattle.lattice.specs.Coset.{Describes, coset-self}
 use Rattle.problem.specs.Limits.{anyBeyond}
 use Rattle.problem.specs.Answers.{noSteps, isVerdict}
 use Rattle.problem.specs.Checks.{Posed, firstCause}
-use Rattle.problem.specs.CheckLaws.{both-true, passes}
+use Rattle.problem.specs.CheckLaws.{both-true, passes, fits}
 use Rattle.problem.specs.declared.Counts.{Counts}
 use Rattle.problem.specs.declared.Refusal.the-variants.{Standing}
 use Rattle.problem.specs.declared.Check.{Check}
@@ -199,12 +197,10 @@ stands-satisfies : (P : Posed) (B : Buffers) → Within P B → stands P (B .val
 stands-satisfies P B w e =
     let z : Sized (n P) (matrix P) (P .rights) = within-sized P B w in
     let c : length (matrix P) ≡ m P = length-chop (m P) (n P) (P .coefficients) in
-    let l : (eqb (length (B .values)) (n P) ≡ true) × (eqb (length (B .strides)) (n P) ≡ true) =
-    both-true _ _ (both-true (eqb (length (B .tableau)) (n P * (m P + n P))) _ (passes P (lentOf B) (w .passed) .lent) .1) in
     let f : ℕ → Bool = λ i. isZero (entry i (sums (matrix P) (B .values)) -ℤ entry i (P .rights)) in
     let h : every (m P) f ≡ true = both-true (not (anyBeyond (B .values))) _ e .1 in
     record {
-      wide = eqb-true _ _ (l .0);
+      wide = fits P (lentOf B) (passes P (lentOf B) (w .passed)) .values-long;
       keeps = ext-getD (pos 0) (sums (matrix P) (B .values)) (P .rights) (length-sums (matrix P) (B .values) ∙ sym (z .long))
           (λ i k. equal-if _ _ (isZero-true _ (every-at (m P) f i h (omega (arith, k, c, length-sums (matrix P) (B .values))))));
     }

@@ -1,14 +1,25 @@
 -- What a problem that passes the checks has.
---   Passes P L   each of the tests of causes 1 to 6 holds
---   passes       so it is where no cause is named
---   both-true    both of two tests hold
+--   Passes P L    each of the tests of causes 1 to 6 holds
+--   passes        so it is where no cause is named
+--   Fits P L      in numbers: sizes, lengths, and how large the numbers of each list are, at every place
+--   fits          so it is
+--   both-true     both of two tests hold
 -- Assumes nothing.
-use mathlib.Core.Path.{_≡_, refl}
-use mathlib.Core.Bool.{Bool, true, false, _&&_}
-use Prim.Native.Nat.{ℕ}
+use mathlib.Core.Path.{_≡_, refl, sym, _∙_, ap, subst}
+use mathlib.Core.Bool.{Bool, true, false, _&&_, _||_}
+use mathlib.Core.List.{List}
+use Prim.Native.Nat.{ℕ, _+_, _*_, _<_, _≤_}
 use native.Mathlib.Omega.{arith}
-use Rattle.problem.specs.Limits.{maxColumns, maxRows}
-use Rattle.problem.specs.Checks.{Posed, sizesFit, rowLengthsFit, columnLengthsFit, lentFit, rowsFit, boundsFit, goalsFit, limitFits, orNext, firstCause}
+use borrow.Author.Tests.{leb-true, eqb-true, ltb-true, ltb-false}
+use lib.Dec.{leb, eqb, ltb}
+use lib.IntN.{ℤ, pos, negsuc, natAbs}
+use lib.ListN.{length, List·getD-eq-default}
+use lib.Signed.{leZ}
+use Rattle.whole.specs.Lists.{entry}
+use Rattle.whole.specs.Tests.{isZero, spans, inRange, every}
+use Rattle.whole.specs.Counted.{every-at}
+use Rattle.problem.specs.Limits.{maxColumns, maxRows, maxCoefficient, maxRight, maxBound, maxGoal, maxSteps}
+use Rattle.problem.specs.Checks.{Posed, sizesFit, rowLengthsFit, columnLengthsFit, lentFit, allSpan, rowsFit, boundFits, boundsFit, goalFits, goalsFit, limitFits, orNext, firstCause}
 use Rattle.problem.specs.declared.Lent.{Lent}
 use Rattle.problem.specs.declared.Refusal.{Refusal}
 use Rattle.problem.specs.declared.Refusal.the-variants.{Size, Length, Coefficient, Bound, Goal, Limit}
@@ -24,6 +35,26 @@ pub record Passes (P : Posed) (L : Lent) : Type 0 where
   pub bounds : boundsFit (P .lower) (P .upper) ≡ true
   pub goals : goalsFit (P .lower) (P .goals) ≡ true
   pub limit : limitFits (P .problem) ≡ true
+
+pub record Fits (P : Posed) (L : Lent) : Type 0 where
+  pub some-columns : 1 ≤ P .problem .columns
+  pub few-columns : P .problem .columns ≤ maxColumns
+  pub few-rows : P .problem .rows ≤ maxRows
+  pub coefficients-long : length (P .coefficients) ≡ P .problem .rows * P .problem .columns
+  pub rights-long : length (P .rights) ≡ P .problem .rows
+  pub lower-long : length (P .lower) ≡ P .problem .columns
+  pub upper-long : length (P .upper) ≡ P .problem .columns
+  pub goals-long : length (P .goals) ≡ P .problem .columns
+  pub tableau-long : L .tableau ≡ P .problem .columns * (P .problem .rows + P .problem .columns)
+  pub values-long : L .values ≡ P .problem .columns
+  pub strides-long : L .strides ≡ P .problem .columns
+  pub coefficients-small : (i : ℕ) → natAbs (entry i (P .coefficients)) ≤ maxCoefficient
+  pub rights-small : (i : ℕ) → natAbs (entry i (P .rights)) ≤ maxRight
+  pub lower-small : (j : ℕ) → natAbs (entry j (P .lower)) ≤ maxBound
+  pub upper-small : (j : ℕ) → natAbs (entry j (P .upper)) ≤ maxBound
+  pub goals-small : (j : ℕ) → natAbs (entry j (P .goals)) ≤ maxGoal
+  pub goal-above : (j : ℕ) → isZero (entry j (P .goals)) || leZ (pos 1) (entry j (P .lower)) ≡ true
+  pub few-steps : P .problem .limit ≤ maxSteps
 
 both : (t : Bool) (why : Refusal) (next : Check) → orNext t why next ≡ Passed → (t ≡ true) × (next ≡ Passed)
 both true why next e = (refl, e)
@@ -51,6 +82,101 @@ passes P L e =
       limit = i .0;
     }
 
+-- ---- tests
 pub both-true : (a b : Bool) → a && b ≡ true → (a ≡ true) × (b ≡ true)
 both-true true b e = (refl, e)
 both-true false b e = absurd (let z : _≡_ {A = ℕ} 0 1 = cc in omega arith)
+
+all-true : (a b c : Bool) → a && (b && c) ≡ true → (a ≡ true) × (b ≡ true) × (c ≡ true)
+all-true a b c e = let x : (a ≡ true) × (b && c ≡ true) = both-true a (b && c) e in (x .0, both-true b c (x .1) .0, both-true b c (x .1) .1)
+
+-- what holds of a list's numbers, and of 0, holds at every place
+every-place : (Q : ℤ → Type 0) (l : List ℤ) → ((j : ℕ) → j < length l → Q (entry j l)) → Q (pos 0) → (j : ℕ) → Q (entry j l)
+every-place Q l f z j = go (ltb j (length l)) refl
+  where
+    go : (t : Bool) → ltb j (length l) ≡ t → Q (entry j l)
+    go true e = f j (ltb-true j (length l) e)
+    go false e = subst Q (sym (List·getD-eq-default l (pos 0) (ltb-false j (length l) e))) z
+
+spans-small : (k : ℕ) (l : List ℤ) → ((j : ℕ) → j < length l → spans k (entry j l) ≡ true) → (j : ℕ) → natAbs (entry j l) ≤ k
+spans-small k l f = every-place (λ (x : ℤ). natAbs x ≤ k) l (λ j h. leb-true (natAbs (entry j l)) k (f j h)) (omega arith)
+
+all-small : (k : ℕ) (l : List ℤ) → allSpan k l ≡ true → (j : ℕ) → natAbs (entry j l) ≤ k
+all-small k l e = spans-small k l (λ j h. every-at (length l) (λ i. spans k (entry i l)) j e h)
+
+range-small : (k : ℕ) (x : ℤ) → inRange (pos 0) (pos k) x ≡ true → natAbs x ≤ k
+range-small k (pos n) e = leb-true n k (both-true (leb 0 n) (leb n k) e .1)
+range-small k (negsuc n) e = absurd (let z : _≡_ {A = ℕ} 0 1 = cc in omega arith)
+
+module _ (P : Posed) (L : Lent) (f : Passes P L) where
+  n : ℕ
+  n = P .problem .columns
+
+  m : ℕ
+  m = P .problem .rows
+
+  sizes : (leb 1 n ≡ true) × (leb n maxColumns ≡ true) × (leb m maxRows ≡ true)
+  unfolding n m
+  sizes = all-true (leb 1 n) (leb n maxColumns) (leb m maxRows) (f .sizes)
+
+  rows-long : (eqb (length (P .coefficients)) (m * n) ≡ true) × (eqb (length (P .rights)) m ≡ true)
+  unfolding n m
+  rows-long = both-true (eqb (length (P .coefficients)) (m * n)) (eqb (length (P .rights)) m) (f .row-lengths)
+
+  columns-long : (eqb (length (P .lower)) n ≡ true) × (eqb (length (P .upper)) n ≡ true) × (eqb (length (P .goals)) n ≡ true)
+  unfolding n
+  columns-long = all-true (eqb (length (P .lower)) n) (eqb (length (P .upper)) n) (eqb (length (P .goals)) n) (f .column-lengths)
+
+  lent-long : (eqb (L .tableau) (n * (m + n)) ≡ true) × (eqb (L .values) n ≡ true) × (eqb (L .strides) n ≡ true)
+  unfolding n m
+  lent-long = all-true (eqb (L .tableau) (n * (m + n))) (eqb (L .values) n) (eqb (L .strides) n) (f .lent)
+
+  bound-at : (j : ℕ) → j < length (P .lower) → (spans maxBound (entry j (P .lower)) ≡ true) × (spans maxBound (entry j (P .upper)) ≡ true) × (leZ (entry j (P .lower)) (entry j (P .upper)) ≡ true)
+  bound-at j h =
+      all-true (spans maxBound (entry j (P .lower))) (spans maxBound (entry j (P .upper))) (leZ (entry j (P .lower)) (entry j (P .upper)))
+      (every-at (length (P .lower)) (λ j. boundFits (entry j (P .lower)) (entry j (P .upper))) j (f .bounds) h)
+
+  goal-at : (j : ℕ) → j < length (P .lower) → (inRange (pos 0) (pos maxGoal) (entry j (P .goals)) ≡ true) × (isZero (entry j (P .goals)) || leZ (pos 1) (entry j (P .lower)) ≡ true)
+  goal-at j h =
+      both-true (inRange (pos 0) (pos maxGoal) (entry j (P .goals))) (isZero (entry j (P .goals)) || leZ (pos 1) (entry j (P .lower)))
+      (every-at (length (P .lower)) (λ j. goalFits (entry j (P .lower)) (entry j (P .goals))) j (f .goals) h)
+
+  -- past the last column there is no goal
+  above-at : length (P .goals) ≡ length (P .lower) → (j : ℕ) → isZero (entry j (P .goals)) || leZ (pos 1) (entry j (P .lower)) ≡ true
+  above-at e j = go (ltb j (length (P .lower))) refl
+    where
+      go : (t : Bool) → ltb j (length (P .lower)) ≡ t → isZero (entry j (P .goals)) || leZ (pos 1) (entry j (P .lower)) ≡ true
+      go true h = goal-at j (ltb-true j (length (P .lower)) h) .1
+      go false h =
+          let z : entry j (P .goals) ≡ pos 0 = List·getD-eq-default (P .goals) (pos 0) (omega (arith, ltb-false j (length (P .lower)) h)) in
+          ap (λ (x : ℤ). isZero x || leZ (pos 1) (entry j (P .lower))) z
+
+  pub fits : Fits P L
+  unfolding n m
+  fits =
+      let lower : length (P .lower) ≡ P .problem .columns = eqb-true _ _ (columns-long .0) in
+      let upper : length (P .upper) ≡ P .problem .columns = eqb-true _ _ (columns-long .1) in
+      let goals : length (P .goals) ≡ P .problem .columns = eqb-true _ _ (columns-long .2) in
+      let rows : (allSpan maxCoefficient (P .coefficients) ≡ true) × (allSpan maxRight (P .rights) ≡ true) =
+      both-true (allSpan maxCoefficient (P .coefficients)) (allSpan maxRight (P .rights)) (f .rows) in
+      record {
+        some-columns = leb-true 1 (P .problem .columns) (sizes .0);
+        few-columns = leb-true (P .problem .columns) maxColumns (sizes .1);
+        few-rows = leb-true (P .problem .rows) maxRows (sizes .2);
+        coefficients-long = eqb-true _ _ (rows-long .0);
+        rights-long = eqb-true _ _ (rows-long .1);
+        lower-long = lower;
+        upper-long = upper;
+        goals-long = goals;
+        tableau-long = eqb-true _ _ (lent-long .0);
+        values-long = eqb-true _ _ (lent-long .1);
+        strides-long = eqb-true _ _ (lent-long .2);
+        coefficients-small = all-small maxCoefficient (P .coefficients) (rows .0);
+        rights-small = all-small maxRight (P .rights) (rows .1);
+        lower-small = spans-small maxBound (P .lower) (λ j h. bound-at j h .0);
+        upper-small = spans-small maxBound (P .upper) (λ j h. bound-at j (omega arith) .1);
+        goals-small =
+            every-place (λ (x : ℤ). natAbs x ≤ maxGoal) (P .goals) (λ j h. range-small maxGoal (entry j (P .goals)) (goal-at j (omega arith) .0)) (omega arith);
+        goal-above = above-at (goals ∙ sym lower);
+        few-steps = leb-true _ _ (f .limit);
+      }
