@@ -141,18 +141,18 @@ no-skip p r H K h f = positive-nonzero (h .0) (span-indent (rows K) p r .0 (f (s
 inner-skip : (H K : Echelon) → Same (width (skip H)) (rows (skip H)) (rows (skip K)) → Same (width H) (rows H) (rows K)
 inner-skip H K f = record {
   both = λ v e. (
-      (λ x. span-indent (rows K) (pos 0) v .0 (f .both (pos 0 ∷ v) (ap suc e) .0 (span-indent (rows H) (pos 0) v .1 (refl, x))) .1),
-      (λ x. span-indent (rows H) (pos 0) v .0 (f .both (pos 0 ∷ v) (ap suc e) .1 (span-indent (rows K) (pos 0) v .1 (refl, x))) .1),
-    );
+    (λ x. span-indent (rows K) (pos 0) v .0 (f .both (pos 0 ∷ v) (ap suc e) .0 (span-indent (rows H) (pos 0) v .1 (refl, x))) .1),
+    (λ x. span-indent (rows H) (pos 0) v .0 (f .both (pos 0 ∷ v) (ap suc e) .1 (span-indent (rows K) (pos 0) v .1 (refl, x))) .1),
+  );
 }
 
 inner-step : {p q : ℤ} (r s : List ℤ) (H K : Echelon) → Positive p → Positive q
     → Same (width (step p r H)) (rows (step p r H)) (rows (step q s K)) → Same (width H) (rows H) (rows K)
 inner-step r s H K pp pq f = record {
   both = λ v e. (
-      (λ x. span-pivot s (rows K) v pq .0 (f .both (pos 0 ∷ v) (ap suc e) .0 (span-pivot r (rows H) v pp .1 x))),
-      (λ x. span-pivot r (rows H) v pp .0 (f .both (pos 0 ∷ v) (ap suc e) .1 (span-pivot s (rows K) v pq .1 x))),
-    );
+    (λ x. span-pivot s (rows K) v pq .0 (f .both (pos 0 ∷ v) (ap suc e) .0 (span-pivot r (rows H) v pp .1 x))),
+    (λ x. span-pivot r (rows H) v pp .0 (f .both (pos 0 ∷ v) (ap suc e) .1 (span-pivot s (rows K) v pq .1 x))),
+  );
 }
 
 -- two first rows over one form

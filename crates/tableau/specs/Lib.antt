@@ -5,3 +5,6 @@ pub mod RightSide
 pub mod Generators
 pub mod GatherLaws
 pub mod TableLaws
+pub mod Within
+pub mod Steps
+pub mod Choices
