@@ -3,10 +3,11 @@
 --   Describes n Q s N  the lists of n numbers with the property Q are s and the whole combinations of N added to it; N is in Hermite form and s is
 --                      reduced by it
 --   coset-..           u and v are of one coset of T if `Span T (minus u v)`: turned round, one after the other, under a sum
---   residue-..         the residue's length; it is reduced; it is of v's coset; it is the only such list; lists of one coset have one
+--   residue-..         the residue's length; it is reduced; it is of v's coset; it stands for v; it is the only such list; lists of one
+--                      coset have one
 --   describes-unique   a set has only one description
 -- Assumes nothing.
-use mathlib.Core.Path.{_≡_, refl, sym, _∙_, ap, ap₂, subst}
+use mathlib.Core.Path.{_≡_, refl, sym, _∙_, ap, subst}
 use mathlib.Core.Logic.{_↔_}
 use mathlib.Core.List.{List, [], _∷_}
 use Prim.Native.Nat.{ℕ, suc, _≤_}
@@ -96,12 +97,17 @@ residue-coset (step p r H) (x ∷ v) e =
     twice : (q : ℤ) → negsuc 0 *ℤ negℤ q ≡ q
     twice q = rw (rep q) (simp diff-rel (omega arith))
 
+pub residue-for : (H : Echelon) (u v : List ℤ) → length u ≡ width H → length v ≡ width H → Span (rows H) (minus u v) ↔ Span (rows H) (minus u (residue H v))
+residue-for H u v a b =
+    let l : length (residue H v) ≡ length v = residue-length H v in (
+      (λ s. coset-via (rows H) u v (residue H v) (omega arith) s (coset-turn (rows H) (residue H v) v (omega arith) (residue-coset H v b))),
+      (λ s. coset-via (rows H) u (residue H v) v (omega arith) s (residue-coset H v b)),
+    )
+
 pub residue-unique : (H : Echelon) (u v : List ℤ) → length u ≡ width H → length v ≡ width H → Hermite H → Reduced H u → Span (rows H) (minus u v)
     → u ≡ residue H v
 residue-unique H u v a b h r s =
-    let l : length (residue H v) ≡ length v = residue-length H v in
-    reduced-unique H u (residue H v) a (l ∙ b) h r (residue-reduced H v h)
-    (coset-via (rows H) u v (residue H v) (omega arith) s (coset-turn (rows H) (residue H v) v (omega arith) (residue-coset H v b)))
+    reduced-unique H u (residue H v) a (residue-length H v ∙ b) h r (residue-reduced H v h) (residue-for H u v a b .0 s)
 
 pub residue-equal : (H : Echelon) (u v : List ℤ) → length u ≡ width H → length v ≡ width H → Hermite H → Span (rows H) (minus u v)
     → residue H u ≡ residue H v

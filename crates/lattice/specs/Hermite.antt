@@ -9,6 +9,7 @@
 --   span-indent, -pivot the span of a table behind a column of zeros, and below a pivot's row
 --   past-..             the rows past m columns: their width, their form, what is reduced by them, what they span
 --   reduced-unique      of the lists that differ by a list of the span at most one is reduced
+--   reduced-head        a reduced list of the coset of (m zeros, u) begins with m zeros
 --   hermite-unique      two Hermite forms of one span are the same
 -- Assumes nothing.
 use mathlib.Core.Path.{_≡_, refl, sym, _∙_, ap, ap₂, subst}
@@ -18,11 +19,11 @@ use Prim.Native.Nat.{ℕ, zero, suc, _+_}
 use native.Mathlib.Omega.{arith}
 use lib.ListN.{length}
 use lib.IntN.{ℤ, pos, negsuc, _+ℤ_, _*ℤ_}
-use lib.Signed.{_≤ℤ_, _<ℤ_}
+use lib.Signed.{_≤ℤ_, _<ℤ_, ≤ℤ-refl}
 use Rattle.whole.specs.Lists.{zeros}
-use Rattle.whole.specs.Integers.{rep, diff-rel, Positive, positive-nonzero, multiple-zero, multiple-small, multiple-both, multiple-self}
-use Rattle.lattice.specs.Rows.{plus, minus}
-use Rattle.lattice.specs.RowLaws.{plus-zero, add-none}
+use Rattle.whole.specs.Integers.{rep, diff-rel, Positive, positive-above, positive-nonzero, multiple-zero, multiple-small, multiple-both, multiple-self, add-none}
+use Rattle.lattice.specs.Rows.{plus, minus, ZeroTo}
+use Rattle.lattice.specs.RowLaws.{plus-none}
 use Rattle.lattice.specs.Span.{Span, Same, span-row, span-under}
 
 pub data Echelon : Type 0 where
@@ -78,7 +79,7 @@ span-pivot {p} r T v h = (
   (λ s.
       let i : (pos 0 +ℤ s .0 *ℤ p ≡ pos 0) × Span T (plus (s .0) r v) = span-indent T _ _ .0 (s .1) in
       let z : s .0 ≡ pos 0 = multiple-zero (s .0) h (i .0) in
-      subst (Span T) (ap (λ (c : ℤ). plus c r v) z ∙ plus-zero r v) (i .1)),
+      subst (Span T) (ap (λ (c : ℤ). plus c r v) z ∙ plus-none r v) (i .1)),
   (λ s. span-under (p ∷ r) (indent T) (pos 0 ∷ v) (span-indent T (pos 0) v .1 (refl, s))),
 )
 
@@ -130,7 +131,23 @@ reduced-unique (step p r H) (x ∷ u) (y ∷ v) a b h ru rv s =
     let z : (s .0 ≡ pos 0) × (x ≡ y) = multiple-small x y (s .0) (h .0) (ru .0) (ru .1) (rv .0) (rv .1) (i .0) in
     ap₂ _∷_ (z .1)
     (reduced-unique H u v (omega arith) (omega arith) (h .3) (ru .2) (rv .2)
-    (subst (Span (rows H)) (ap (λ (c : ℤ). plus c r (minus u v)) (z .0) ∙ plus-zero r (minus u v)) (i .1)))
+    (subst (Span (rows H)) (ap (λ (c : ℤ). plus c r (minus u v)) (z .0) ∙ plus-none r (minus u v)) (i .1)))
+
+-- a reduced list that differs by a list of the span from one with m zeros in front has them too
+pub reduced-head : (m : ℕ) (H : Echelon) (u v : List ℤ) → length (zeros m ++ u) ≡ width H → Hermite H → Reduced H v
+    → Span (rows H) (minus (zeros m ++ u) v) → ZeroTo m v
+unfolding plus
+reduced-head zero H u v l h r s = tt
+reduced-head (suc m) H u [] l h r s = tt
+reduced-head (suc m) done u (y ∷ v) l h r s = absurd (omega arith)
+reduced-head (suc m) (skip H) u (y ∷ v) l h r s =
+    let i : (pos 0 +ℤ negsuc 0 *ℤ y ≡ pos 0) × Span (rows H) (minus (zeros m ++ u) v) = span-indent (rows H) _ _ .0 s in
+    (sym (equal (pos 0) y (i .0)), reduced-head m H u v (omega arith) h r (i .1))
+reduced-head (suc m) (step p t H) u (y ∷ v) l h r s =
+    let w : List ℤ = minus (zeros m ++ u) v in
+    let i : (pos 0 +ℤ negsuc 0 *ℤ y +ℤ s .0 *ℤ p ≡ pos 0) × Span (rows H) (plus (s .0) t w) = span-indent (rows H) _ _ .0 (s .1) in
+    let z : (s .0 ≡ pos 0) × (pos 0 ≡ y) = multiple-small (pos 0) y (s .0) (h .0) (≤ℤ-refl (pos 0)) (positive-above (h .0)) (r .0) (r .1) (i .0) in
+    (sym (z .1), reduced-head m H u v (omega arith) (h .3) (r .2) (subst (Span (rows H)) (ap (λ (c : ℤ). plus c t w) (z .0) ∙ plus-none t w) (i .1)))
 
 -- ---- the form of a span
 -- a pivot in one form has a pivot in the other

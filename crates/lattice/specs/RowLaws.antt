@@ -1,13 +1,11 @@
 -- Laws of rows: of plus, minus and neg, of zeros, and of entries.
---   Zero v                  every number of v is 0; `allZero` is its test
---   length-plus, -neg       the lengths
---   plus-zero .. -append    v + c r: no multiple; multiples of one row add up; those of two rows may change places; a multiple of a sum; of a
+--   length-..               the lengths
+--   plus-none .. -take      v + c r: no multiple; multiples of one row add up; those of two rows may change places; a multiple of a sum; of a
 --                           negated row; of zeros; once a row and zeros; of rows end to end. Lengths are asked for only where a sum is
 --                           itself taken times a number
---   minus-..                u − v by way of w; turned round; of two sums; of a sum and one of its parts
---   Zero-..                 what zeros are, and what keeps them
+--   minus-..                u − v by way of w; turned round; of two sums; of a sum and one of its parts; behind m zeros
+--   Zero-.., ZeroTo-..      what zeros are, and what keeps them
 --   entry-..                the number at a place of a sum, a negated row, zeros, a unit list
--- `Zero (take c r)` says that the first c numbers of r are 0.
 -- Assumes nothing.
 use mathlib.Core.Path.{_≡_, refl, sym, _∙_, ap, ap₂, subst}
 use mathlib.Core.Logic.{_↔_}
@@ -15,16 +13,13 @@ use mathlib.Core.Bool.{Bool, true, false, _&&_, false≢true}
 use mathlib.Core.List.{List, [], _∷_, _++_}
 use Prim.Native.Nat.{ℕ, zero, suc, _+_, _<_, _≤_}
 use native.Mathlib.Omega.{arith}
-use lib.ListN.{length, take, drop, length-replicate}
+use lib.ListN.{length, take, length-append, length-replicate}
+use lib.Seq.{take-all}
 use lib.IntN.{ℤ, pos, negsuc, negℤ, _+ℤ_, _*ℤ_, +ℤ-invr}
 use Rattle.whole.specs.Lists.{entry, zeros}
 use Rattle.whole.specs.Tests.{isZero}
-use Rattle.whole.specs.Integers.{rep, diff-rel, isZero-true}
-use Rattle.lattice.specs.Rows.{plus, minus, neg, unit, allZero}
-
-abbrev pub Zero : List ℤ → Type 0
-Zero [] = Unit {0}
-Zero (x ∷ v) = (x ≡ pos 0) × Zero v
+use Rattle.whole.specs.Integers.{rep, diff-rel, add-none, isZero-true}
+use Rattle.lattice.specs.Rows.{plus, minus, neg, unit, Zero, ZeroTo, allZero}
 
 -- ---- lengths
 pub length-plus : (c : ℤ) (r v : List ℤ) → length (plus c r v) ≡ length v
@@ -43,12 +38,15 @@ length-unit zero j = refl
 length-unit (suc n) zero = ap suc (length-replicate n (pos 0))
 length-unit (suc n) (suc j) = ap suc (length-unit n j)
 
+pub length-zeros : (m : ℕ) (v : List ℤ) → length (zeros m ++ v) ≡ m + length v
+length-zeros m v = length-append (zeros m) v ∙ ap (λ (k : ℕ). k + length v) (length-replicate m (pos 0))
+
 -- ---- multiples of a row
-pub plus-zero : (r v : List ℤ) → plus (pos 0) r v ≡ v
+pub plus-none : (r v : List ℤ) → plus (pos 0) r v ≡ v
 unfolding plus
-plus-zero [] v = refl
-plus-zero (y ∷ r) [] = refl
-plus-zero (y ∷ r) (x ∷ v) = ap₂ _∷_ (rw (rep x, rep y) (simp diff-rel (omega arith))) (plus-zero r v)
+plus-none [] v = refl
+plus-none (y ∷ r) [] = refl
+plus-none (y ∷ r) (x ∷ v) = ap₂ _∷_ (rw (rep x, rep y) (simp diff-rel (omega arith))) (plus-none r v)
 
 pub plus-plus : (c d : ℤ) (r v : List ℤ) → plus c r (plus d r v) ≡ plus (d +ℤ c) r v
 unfolding plus
@@ -60,7 +58,7 @@ pub plus-cancel : (c : ℤ) (r u v : List ℤ) → plus c r u ≡ plus c r v →
 plus-cancel c r u v e = sym (undo u) ∙ ap (plus (negℤ c) r) e ∙ undo v
   where
     undo : (v : List ℤ) → plus (negℤ c) r (plus c r v) ≡ v
-    undo v = plus-plus (negℤ c) c r v ∙ ap (λ (k : ℤ). plus k r v) (+ℤ-invr c) ∙ plus-zero r v
+    undo v = plus-plus (negℤ c) c r v ∙ ap (λ (k : ℤ). plus k r v) (+ℤ-invr c) ∙ plus-none r v
 
 pub plus-comm : (c d : ℤ) (r s v : List ℤ) → plus c r (plus d s v) ≡ plus d s (plus c r v)
 unfolding plus
@@ -86,15 +84,11 @@ plus-neg c [] v = refl
 plus-neg c (y ∷ r) [] = refl
 plus-neg c (y ∷ r) (x ∷ v) = ap₂ _∷_ (rw (rep c, rep x, rep y) (simp diff-rel (omega arith))) (plus-neg c r v)
 
--- x + c 0 = x
-pub add-none : (c x y : ℤ) → y ≡ pos 0 → x +ℤ c *ℤ y ≡ x
-add-none c x y e = ap (λ (t : ℤ). x +ℤ c *ℤ t) e ∙ rw (rep c, rep x) (simp diff-rel (omega arith))
-
-pub plus-Zero : (c : ℤ) (r v : List ℤ) → Zero r → plus c r v ≡ v
+pub plus-zeros : (c : ℤ) (r v : List ℤ) → Zero r → plus c r v ≡ v
 unfolding plus
-plus-Zero c [] v z = refl
-plus-Zero c (y ∷ r) [] z = refl
-plus-Zero c (y ∷ r) (x ∷ v) z = ap₂ _∷_ (add-none c x y (z .0)) (plus-Zero c r v (z .1))
+plus-zeros c [] v z = refl
+plus-zeros c (y ∷ r) [] z = refl
+plus-zeros c (y ∷ r) (x ∷ v) z = ap₂ _∷_ (add-none c x y (z .0)) (plus-zeros c r v (z .1))
 
 pub plus-one : (r v : List ℤ) → length r ≡ length v → Zero v → plus (pos 1) r v ≡ r
 unfolding plus
@@ -125,12 +119,7 @@ Zero-minus [] = tt
 Zero-minus (x ∷ r) = (rw (rep x) (simp diff-rel (omega arith)), Zero-minus r)
 
 pub Zero-plus : (c : ℤ) (r v : List ℤ) → Zero r → Zero v → Zero (plus c r v)
-Zero-plus c r v zr zv = rw (plus-Zero c r v zr) zv
-
-pub Zero-neg : (r : List ℤ) → Zero r → Zero (neg r)
-unfolding neg
-Zero-neg [] z = tt
-Zero-neg (x ∷ r) z = (ap negℤ (z .0), Zero-neg r (z .1))
+Zero-plus c r v zr zv = rw (plus-zeros c r v zr) zv
 
 pub Zero-zeros : (n : ℕ) → Zero (zeros n)
 Zero-zeros zero = tt
@@ -142,12 +131,6 @@ zeros-Zero zero (x ∷ v) l z = absurd (omega arith)
 zeros-Zero (suc n) [] l z = absurd (omega arith)
 zeros-Zero (suc n) (x ∷ v) l z = ap₂ _∷_ (z .0) (zeros-Zero n v (omega arith) (z .1))
 
-pub Zero-unit : (n j : ℕ) → Zero (take j (unit n j))
-Zero-unit zero zero = tt
-Zero-unit zero (suc j) = tt
-Zero-unit (suc n) zero = tt
-Zero-unit (suc n) (suc j) = (refl, Zero-unit n j)
-
 pub Zero-append : (u v : List ℤ) → Zero (u ++ v) ↔ (Zero u × Zero v)
 Zero-append [] v = ((λ z. (tt, z)), (λ z. z .1))
 Zero-append (x ∷ u) v = (
@@ -155,33 +138,42 @@ Zero-append (x ∷ u) v = (
   (λ z. (z .0 .0, Zero-append u v .1 (z .0 .1, z .1))),
 )
 
-pub Zero-next : (c : ℕ) (r : List ℤ) → Zero (take c r) → entry c r ≡ pos 0 → Zero (take (suc c) r)
-Zero-next c [] z e = tt
-Zero-next zero (x ∷ r) z e = (e, tt)
-Zero-next (suc c) (x ∷ r) z e = (z .0, Zero-next c r (z .1) e)
+pub ZeroTo-next : (c : ℕ) (r : List ℤ) → ZeroTo c r → entry c r ≡ pos 0 → ZeroTo (suc c) r
+ZeroTo-next c [] z e = tt
+ZeroTo-next zero (x ∷ r) z e = (e, tt)
+ZeroTo-next (suc c) (x ∷ r) z e = (z .0, ZeroTo-next c r (z .1) e)
 
-pub Zero-take-plus : (c : ℕ) (q : ℤ) (r s : List ℤ) → Zero (take c r) → Zero (take c s) → Zero (take c (plus q r s))
-Zero-take-plus c q r s y z = rw (plus-take c q r s) (Zero-plus q (take c r) (take c s) y z)
+pub ZeroTo-all : (c : ℕ) (r : List ℤ) → length r ≤ c → ZeroTo c r → Zero r
+ZeroTo-all c r l z = subst Zero (take-all c r l) z
 
-pub Zero-take-neg : (c : ℕ) (r : List ℤ) → Zero (take c r) → Zero (take c (neg r))
+pub ZeroTo-plus : (c : ℕ) (q : ℤ) (r s : List ℤ) → ZeroTo c r → ZeroTo c s → ZeroTo c (plus q r s)
+ZeroTo-plus c q r s y z = rw (plus-take c q r s) (Zero-plus q (take c r) (take c s) y z)
+
+pub ZeroTo-neg : (c : ℕ) (r : List ℤ) → ZeroTo c r → ZeroTo c (neg r)
 unfolding neg
-Zero-take-neg zero r z = tt
-Zero-take-neg (suc c) [] z = tt
-Zero-take-neg (suc c) (x ∷ r) z = (ap negℤ (z .0), Zero-take-neg c r (z .1))
+ZeroTo-neg zero r z = tt
+ZeroTo-neg (suc c) [] z = tt
+ZeroTo-neg (suc c) (x ∷ r) z = (ap negℤ (z .0), ZeroTo-neg c r (z .1))
+
+pub ZeroTo-unit : (n j : ℕ) → ZeroTo j (unit n j)
+ZeroTo-unit zero zero = tt
+ZeroTo-unit zero (suc j) = tt
+ZeroTo-unit (suc n) zero = tt
+ZeroTo-unit (suc n) (suc j) = (refl, ZeroTo-unit n j)
 
 -- ---- differences, from the laws of plus
 -- u − v = (u − w) + (w − v)
 pub minus-via : (u w v : List ℤ) → length u ≤ length w → plus (pos 1) (minus w v) (minus u w) ≡ minus u v
 minus-via u w v l =
     plus-nest (pos 1) (negsuc 0) v w (minus u w) (omega (arith, length-plus (negsuc 0) w u))
-    ∙ ap (plus (negsuc 0) v) (plus-plus (pos 1) (negsuc 0) w u ∙ plus-zero w u)
+    ∙ ap (plus (negsuc 0) v) (plus-plus (pos 1) (negsuc 0) w u ∙ plus-none w u)
 
 -- v − u = (v − v) − (u − v)
 pub minus-turn : (u v : List ℤ) → length v ≤ length u → minus (minus v v) (minus u v) ≡ minus v u
 minus-turn u v l =
     plus-nest (negsuc 0) (negsuc 0) v u (minus v v) (omega (arith, length-plus (negsuc 0) v v))
     ∙ plus-comm (pos 1) (negsuc 0) v u (minus v v)
-    ∙ ap (plus (negsuc 0) u) (plus-plus (pos 1) (negsuc 0) v v ∙ plus-zero v v)
+    ∙ ap (plus (negsuc 0) u) (plus-plus (pos 1) (negsuc 0) v v ∙ plus-none v v)
 
 -- (v − v) + c (u − w) = (v + c u) − (v + c w)
 pub minus-sums : (c : ℤ) (u w v : List ℤ) → length v ≤ length u → plus c (minus u w) (minus v v) ≡ minus (plus c u v) (plus c w v)
@@ -196,6 +188,11 @@ minus-sums c u w v l =
 -- (v + u) − v = u
 pub minus-part : (u v : List ℤ) → length u ≡ length v → minus (plus (pos 1) u v) v ≡ u
 minus-part u v l = plus-comm (negsuc 0) (pos 1) v u v ∙ plus-one u (minus v v) (l ∙ sym (length-plus (negsuc 0) v v)) (Zero-minus v)
+
+-- (0, u) − (0, v) = (0, u − v)
+pub minus-zeros : (m : ℕ) (u v : List ℤ) → minus (zeros m ++ u) (zeros m ++ v) ≡ zeros m ++ minus u v
+minus-zeros m u v =
+    plus-append (negsuc 0) (zeros m) (zeros m) v u refl ∙ ap (λ (t : List ℤ). t ++ minus u v) (plus-zeros (negsuc 0) (zeros m) (zeros m) (Zero-zeros m))
 
 -- ---- entries
 pub entry-plus : (i : ℕ) (c : ℤ) (r v : List ℤ) → i < length v → entry i (plus c r v) ≡ entry i v +ℤ c *ℤ entry i r

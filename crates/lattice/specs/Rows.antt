@@ -3,11 +3,14 @@
 --   minus u v     u − v, with u's length
 --   neg r         −r
 --   unit n j      the j-th unit list of n numbers, j counted from 0
---   allZero r     every number is 0
+--   Zero v        every number of v is 0
+--   ZeroTo c v    the first c numbers are 0
+--   allZero r     the test: every number is 0
 --   lead r        the column of the first number other than 0; r's length if there is none
 --   flat T        a table's rows one after the other, as they lie in a buffer
 --   chop k w l    the first k rows of w numbers of a buffer
 -- Assumes nothing.
+use mathlib.Core.Path.{_≡_}
 use mathlib.Core.Bool.{Bool, true, false, _&&_}
 use mathlib.Core.List.{List, [], _∷_, _++_}
 use Prim.Native.Nat.{ℕ, zero, suc}
@@ -32,6 +35,13 @@ abbrev pub unit : ℕ → ℕ → List ℤ
 unit zero j = []
 unit (suc n) zero = pos 1 ∷ zeros n
 unit (suc n) (suc j) = pos 0 ∷ unit n j
+
+abbrev pub Zero : List ℤ → Type 0
+Zero [] = Unit {0}
+Zero (x ∷ v) = (x ≡ pos 0) × Zero v
+
+abbrev pub ZeroTo : ℕ → List ℤ → Type 0
+ZeroTo c v = Zero (take c v)
 
 unfoldable pub allZero : List ℤ → Bool
 allZero [] = true

@@ -11,7 +11,7 @@
 --   steps-..            the steps keep what negation and sums keep, the lengths, the span, and independence
 --   independent-nonzero there is no row of zeros among independent rows
 -- Assumes nothing.
-use mathlib.Core.Path.{_≡_, refl, sym, _∙_, ap, ap₂, subst}
+use mathlib.Core.Path.{_≡_, refl, sym, _∙_, ap, subst}
 use mathlib.Core.Logic.{_↔_, Iff·rfl, Iff·trans}
 use mathlib.Core.List.{List, [], _∷_, _++_, append-nil}
 use Prim.Native.Nat.{ℕ, zero, suc, _<_, _≤_}
@@ -19,9 +19,9 @@ use native.Mathlib.Omega.{arith}
 use lib.ListN.{length, getD, length-replicate}
 use lib.IntN.{ℤ, pos, negsuc, negℤ, _+ℤ_, _*ℤ_, negℤ-negℤ}
 use Rattle.whole.specs.Lists.{entry, zeros}
-use Rattle.whole.specs.Integers.{rep, diff-rel}
-use Rattle.lattice.specs.Rows.{plus, minus, neg}
-use Rattle.lattice.specs.RowLaws.{Zero, length-plus, length-neg, plus-zero, plus-plus, plus-comm, plus-nest, plus-neg, plus-Zero, add-none, Zero-minus, Zero-plus, Zero-zeros, entry-plus}
+use Rattle.whole.specs.Integers.{rep, diff-rel, add-none, positive, positive-nonzero}
+use Rattle.lattice.specs.Rows.{plus, minus, neg, Zero}
+use Rattle.lattice.specs.RowLaws.{length-plus, length-neg, plus-none, plus-plus, plus-comm, plus-nest, plus-neg, plus-zeros, Zero-minus, Zero-plus, Zero-zeros, entry-plus}
 
 abbrev pub All : (List ℤ → Type 0) → List (List ℤ) → Type 0
 All Q [] = Unit {0}
@@ -60,9 +60,12 @@ pub all-both : (Q R S : List ℤ → Type 0) → ((r : List ℤ) → Q r → R r
 all-both Q R S f [] a b = tt
 all-both Q R S f (r ∷ T) a b = (f r (a .0) (b .0), all-both Q R S f T (a .1) (b .1))
 
-pub all-append : (Q : List ℤ → Type 0) (T U : List (List ℤ)) → All Q T → All Q U → All Q (T ++ U)
-all-append Q [] U a b = b
-all-append Q (r ∷ T) U a b = (a .0, all-append Q T U (a .1) b)
+pub all-append : (Q : List ℤ → Type 0) (T U : List (List ℤ)) → All Q (T ++ U) ↔ (All Q T × All Q U)
+all-append Q [] U = ((λ a. (tt, a)), (λ a. a .1))
+all-append Q (r ∷ T) U = (
+  (λ a. ((a .0, all-append Q T U .0 (a .1) .0), all-append Q T U .0 (a .1) .1)),
+  (λ a. (a .0 .0, all-append Q T U .1 (a .0 .1, a .1))),
+)
 
 pub all-at : (Q : List ℤ → Type 0) (T : List (List ℤ)) (j : ℕ) (d : List ℤ) → j < length T → All Q T → Q (getD T j d)
 all-at Q [] j d h a = absurd (omega arith)
@@ -71,7 +74,7 @@ all-at Q (r ∷ T) (suc j) d h a = all-at Q T j d (omega arith) (a .1)
 
 -- ---- what lies in a span
 pub span-under : (r : List ℤ) (T : List (List ℤ)) (v : List ℤ) → Span T v → Span (r ∷ T) v
-span-under r T v s = (pos 0, rw (plus-zero r v) s)
+span-under r T v s = (pos 0, rw (plus-none r v) s)
 
 pub span-zero : (T : List (List ℤ)) (v : List ℤ) → Zero v → Span T v
 span-zero [] v z = z
@@ -178,7 +181,7 @@ neg-zero c = rw (rep c) (simp diff-rel (omega arith))
 
 -- with the first multiple zero
 drop-first : (T : List (List ℤ)) (r s : List ℤ) (c d : ℤ) (v : List ℤ) → c ≡ pos 0 → Span T (plus d s (plus c r v)) → Span T (plus d s v)
-drop-first T r s c d v z x = subst (Span T) (ap (λ (c : ℤ). plus d s (plus c r v)) z ∙ ap (plus d s) (plus-zero r v)) x
+drop-first T r s c d v z x = subst (Span T) (ap (λ (c : ℤ). plus d s (plus c r v)) z ∙ ap (plus d s) (plus-none r v)) x
 
 pub steps-independent : (n : ℕ) {T U : List (List ℤ)} → T ~ U → All (Len n) T → Independent n T → Independent n U
 steps-independent n same a i = i
@@ -202,7 +205,7 @@ steps-independent n (add {T} q r s) a i = (
       both c d q e (i .1 .0 d (drop-first T r s (c +ℤ d *ℤ q) d (zeros n) e z))),
   (
     (λ d x.
-        let y : Span T (plus d (plus q r s) (plus (pos 0) r (zeros n))) = rw (plus-zero r (zeros n)) x in
+        let y : Span T (plus d (plus q r s) (plus (pos 0) r (zeros n))) = rw (plus-none r (zeros n)) x in
         let z : Span T (plus d s (plus (pos 0 +ℤ d *ℤ q) r (zeros n))) = subst (Span T) (regroup (pos 0) d q r s (zeros n) short) y in
         i .1 .0 d (drop-first T r s (pos 0 +ℤ d *ℤ q) d (zeros n) (i .0 (pos 0 +ℤ d *ℤ q) (d, z)) z)),
     i .1 .1,
@@ -219,8 +222,5 @@ pub independent-nonzero : (n : ℕ) (T Z : List (List ℤ)) → All (Len n) (T +
 independent-nonzero n T [] l i z = append-nil T
 independent-nonzero n T (s ∷ Z) l i z =
     let j : Independent n (s ∷ (T ++ Z)) = steps-independent n (front T s Z) l i in
-    let e : pos 1 ≡ pos 0 = j .0 (pos 1) (rw (plus-Zero (pos 1) s (zeros n) (z .0)) (span-zero (T ++ Z) (zeros n) (Zero-zeros n))) in
-    absurd (one-zero e)
-  where
-    one-zero : pos 1 ≡ pos 0 → ⊥
-    one-zero e = let x : _≡_ {A = ℕ} 0 1 = cc in omega arith
+    let e : pos 1 ≡ pos 0 = j .0 (pos 1) (rw (plus-zeros (pos 1) s (zeros n) (z .0)) (span-zero (T ++ Z) (zeros n) (Zero-zeros n))) in
+    absurd (positive-nonzero (positive 0) e)

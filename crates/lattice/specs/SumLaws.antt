@@ -9,12 +9,12 @@ use mathlib.Core.List.{List, [], _∷_, map}
 use Prim.Native.Nat.{ℕ, zero, suc, _≤_}
 use native.Mathlib.Omega.{arith}
 use lib.ListN.{length, length-map}
-use lib.IntN.{ℤ, pos, _+ℤ_, _*ℤ_}
+use lib.IntN.{ℤ, pos, _+ℤ_, _*ℤ_, zero-*ℤ}
 use Rattle.whole.specs.Lists.{entry, zeros}
-use Rattle.whole.specs.Integers.{rep, diff-rel}
-use Rattle.lattice.specs.Rows.{plus, unit}
+use Rattle.whole.specs.Integers.{rep, diff-rel, add-none}
+use Rattle.lattice.specs.Rows.{plus, unit, Zero}
 use Rattle.lattice.specs.Sums.{dot, sums}
-use Rattle.lattice.specs.RowLaws.{Zero, Zero-zeros, add-none}
+use Rattle.lattice.specs.RowLaws.{Zero-zeros}
 use Rattle.lattice.specs.Span.{All, Len}
 
 pub dot-plus : (a : List ℤ) (c : ℤ) (u v : List ℤ) → length u ≡ length v → dot a (plus c u v) ≡ dot a v +ℤ c *ℤ dot a u
@@ -28,14 +28,11 @@ dot-plus (a ∷ r) c (y ∷ u) (x ∷ v) l = ap (λ (t : ℤ). t +ℤ (x +ℤ c 
     regroup : (s t : ℤ) → s +ℤ c *ℤ t +ℤ (x +ℤ c *ℤ y) *ℤ a ≡ s +ℤ x *ℤ a +ℤ c *ℤ (t +ℤ y *ℤ a)
     regroup s t = rw (rep s, rep t, rep c, rep x, rep y, rep a) (simp diff-rel (omega arith))
 
-none-more : (a : ℤ) → pos 0 *ℤ a ≡ pos 0
-none-more a = rw (rep a) (simp diff-rel (omega arith))
-
 pub dot-Zero : (a v : List ℤ) → Zero v → dot a v ≡ pos 0
 unfolding dot
 dot-Zero [] v z = refl
 dot-Zero (a ∷ r) [] z = refl
-dot-Zero (a ∷ r) (x ∷ v) z = ap₂ (λ (s y : ℤ). s +ℤ y *ℤ a) (dot-Zero r v (z .1)) (z .0) ∙ ap (λ (s : ℤ). pos 0 +ℤ s) (none-more a)
+dot-Zero (a ∷ r) (x ∷ v) z = ap₂ (λ (s y : ℤ). s +ℤ y *ℤ a) (dot-Zero r v (z .1)) (z .0) ∙ ap (λ (s : ℤ). pos 0 +ℤ s) (zero-*ℤ a)
 
 pub dot-unit : (a : List ℤ) (n j : ℕ) → length a ≤ n → dot a (unit n j) ≡ entry j a
 unfolding dot
@@ -43,7 +40,7 @@ dot-unit [] n j l = refl
 dot-unit (a ∷ r) zero j l = absurd (omega arith)
 dot-unit (a ∷ r) (suc n) zero l = ap (λ (s : ℤ). s +ℤ pos 1 *ℤ a) (dot-Zero r (zeros n) (Zero-zeros n)) ∙ rw (rep a) (simp diff-rel (omega arith))
 dot-unit (a ∷ r) (suc n) (suc j) l =
-    ap₂ (λ (s t : ℤ). s +ℤ t) (dot-unit r n j (omega arith)) (none-more a) ∙ rw (rep (entry j r)) (simp diff-rel (omega arith))
+    ap₂ (λ (s t : ℤ). s +ℤ t) (dot-unit r n j (omega arith)) (zero-*ℤ a) ∙ rw (rep (entry j r)) (simp diff-rel (omega arith))
 
 pub length-sums : (A : List (List ℤ)) (v : List ℤ) → length (sums A v) ≡ length A
 unfolding sums

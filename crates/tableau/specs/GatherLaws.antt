@@ -1,9 +1,9 @@
 -- Laws of gathering: it is made of elementary row steps, it ends, and what it leaves.
---   each-rows         the rows of `each f B`: f's row of each row of B
 --   each-steps        where f takes multiples of r away, `each f` is row steps
 --   ..-steps          an exchange, a sign, clearing, a round and gathering are row steps
 --   Stands c B z      z tells of the rows B: there is nothing but 0 at c, or row j has the magnitude p there, above 0
 --   choose-stands     so does what `choose` chooses
+--   Chosen n c b B j p   column c is one of n, the rows b and B have n numbers, and the choice among them is row j with the magnitude p
 --   round-lead        after a round the pivot's entry is the magnitude chosen
 --   round-lower       and the magnitudes below it are smaller. Of the gathering quotient this uses the one law `gatheringQuotient-left`
 --   Alone c b B       b's entry at c is above 0, and those of B are 0
@@ -14,7 +14,7 @@
 -- Assumes nothing.
 use mathlib.Core.Path.{_≡_, refl, sym, _∙_, ap, ap₂, subst}
 use mathlib.Core.Bool.{Bool, true, false, cond, or-false}
-use mathlib.Core.List.{List, [], _∷_, _++_, map, append-nil}
+use mathlib.Core.List.{List, [], _∷_, _++_, append-nil}
 use Prim.Native.Nat.{ℕ, zero, suc, _<_, _≤_}
 use native.Mathlib.Omega.{arith}
 use borrow.Author.Tests.{lt-leb}
@@ -24,18 +24,12 @@ use lib.ListN.{length, getD, set}
 use Rattle.whole.specs.Lists.{entry}
 use Rattle.whole.specs.Tests.{isZero}
 use Rattle.whole.specs.Quotient.{gatheringQuotient}
-use Rattle.whole.specs.Integers.{isZero-true, Positive, above-zero, gatheringQuotient-left}
-use Rattle.lattice.specs.Rows.{neg}
+use Rattle.whole.specs.Integers.{isZero-true, Positive, positive-of, gatheringQuotient-left}
 use Rattle.lattice.specs.RowLaws.{entry-plus, entry-neg}
 use Rattle.lattice.specs.Span.{All, Len, all-at, _~_, same, _then_, under, swap, sign, add, steps-length}
-use Rattle.tableau.specs.Elimination.{Left, subtract, kept, lowered, reduced, Run, each, Choice, none, at, shifted, prefer, choose, Gathered, exchange, signed, clear, round, onward, gather}
+use Rattle.tableau.specs.Elimination.{Left, subtract, kept, lowered, each, Choice, none, at, prefer, choose, Gathered, exchange, signed, clear, round, onward, gather}
 
 -- ---- row steps
-pub each-rows : (f : List ℤ → Left) (B : List (List ℤ)) → each f B .table ≡ map (λ s. f s .row) B
-unfolding each
-each-rows f [] = refl
-each-rows f (s ∷ B) = ap (λ (T : List (List ℤ)). f s .row ∷ T) (each-rows f B)
-
 pub each-steps : (r : List ℤ) (f : List ℤ → Left) → ((s : List ℤ) (B : List (List ℤ)) → (r ∷ s ∷ B) ~ (r ∷ f s .row ∷ B)) → (A B : List (List ℤ))
     → (r ∷ (A ++ B)) ~ (r ∷ (each f A .table ++ B))
 unfolding each
@@ -141,40 +135,54 @@ lowered-below c p r s l e h = go (isZero (entry c s)) (isZero-true (entry c s))
 
     go : (t : Bool) → (t ≡ true → entry c s ≡ pos 0) → natAbs (entry c (cond t (kept s) (subtract q r s) .row)) < p
     go true f = rw (f refl) l
-    go false f = rw (entry-plus c (negℤ q) r s h, e) (gatheringQuotient-left (entry c s) (above-zero p l))
+    go false f = rw (entry-plus c (negℤ q) r s h, e) (gatheringQuotient-left (entry c s) (positive-of p l))
 
 each-below : (n c p : ℕ) (r : List ℤ) (B : List (List ℤ)) → c < n → 0 < p → entry c r ≡ pos p → All (Len n) B → All (Below c p) (each (lowered c r) B .table)
 unfolding each
 each-below n c p r [] h l e a = tt
 each-below n c p r (s ∷ B) h l e a = (lowered-below c p r s l e (omega (arith, a .0)), each-below n c p r B h l e (a .1))
 
-module _ (n c : ℕ) (b : List ℤ) (B : List (List ℤ)) (j p : ℕ) (h : c < n) (a : All (Len n) (b ∷ B)) (e : choose c (b ∷ B) ≡ at j p) where
-  chosen : Stands c (b ∷ B) (at j p)
-  chosen = subst (Stands c (b ∷ B)) e (choose-stands c (b ∷ B))
+-- what the laws ask for
+pub record Chosen (n c : ℕ) (b : List ℤ) (B : List (List ℤ)) (j p : ℕ) : Type 0 where
+  pub within : c < n
+  pub wide : All (Len n) (b ∷ B)
+  pub choice : choose c (b ∷ B) ≡ at j p
 
-  round-length : All (Len n) (round c b B .pivot ∷ round c b B .below)
-  round-length = steps-length n (round-steps c b B) a
+module _ {n c : ℕ} {b : List ℤ} {B : List (List ℤ)} {j p : ℕ} (h : Chosen n c b B j p) where
+  pub chosen-stands : Stands c (b ∷ B) (at j p)
+  chosen-stands = subst (Stands c (b ∷ B)) (h .choice) (choose-stands c (b ∷ B))
 
-  round-lead : entry c (round c b B .pivot) ≡ pos p
+  pub round-lead : entry c (round c b B .pivot) ≡ pos p
   unfolding round clear
   round-lead =
       signed-entry c (exchange (choose c (b ∷ B)) b B .0) p
-      (ap (λ (z : Choice). natAbs (entry c (exchange z b B .0))) e ∙ exchange-entry c b B j p chosen)
+      (ap (λ (z : Choice). natAbs (entry c (exchange z b B .0))) (h .choice) ∙ exchange-entry c b B j p chosen-stands)
 
   round-below : All (Below c p) (round c b B .below)
   unfolding round clear
   round-below =
-      each-below n c p (round c b B .pivot) (exchange (choose c (b ∷ B)) b B .1) h (chosen .0) round-lead
-      (steps-length n (exchange-steps (choose c (b ∷ B)) b B) a .1)
+      each-below n c p (round c b B .pivot) (exchange (choose c (b ∷ B)) b B .1) (h .within) (chosen-stands .0) round-lead
+      (steps-length n (exchange-steps (choose c (b ∷ B)) b B) (h .wide) .1)
 
-  -- the next round's choice is smaller, and is that of all rows
-  round-next : (i k : ℕ) → choose c (round c b B .below) ≡ at i k → (k < p) × (choose c (round c b B .pivot ∷ round c b B .below) ≡ at (suc i) k)
+  -- what holds of the choice in the lower rows: there is none, or a smaller one, which is that of all rows too
+  pub round-next : (P : Choice → Type 0) → (Stands c (round c b B .below) none → P none)
+      → ((i k : ℕ) → k < p → Chosen n c (round c b B .pivot) (round c b B .below) (suc i) k → P (at i k))
+      → P (choose c (round c b B .below))
   unfolding Below choose
-  round-next i k e1 =
-      let C : List (List ℤ) = round c b B .below in
-      let s : Stands c C (at i k) = subst (Stands c C) e1 (choose-stands c C) in
-      let l : k < p = omega (arith, s .2 [], all-at (Below c p) C i [] (s .1) round-below) in
-      (l, ap₂ (λ (z : ℤ) (y : Choice). prefer (natAbs z) y) round-lead e1 ∙ prefer-below p i k l)
+  round-next P end more = go (choose c C) refl (choose-stands c C)
+    where
+      C : List (List ℤ)
+      C = round c b B .below
+
+      go : (z : Choice) → choose c C ≡ z → Stands c C z → P z
+      go none e s = end s
+      go (at i k) e s =
+          let l : k < p = omega (arith, s .2 [], all-at (Below c p) C i [] (s .1) round-below) in
+          more i k l (record {
+            within = h .within;
+            wide = steps-length n (round-steps c b B) (h .wide);
+            choice = ap₂ (λ (x : ℤ) (y : Choice). prefer (natAbs x) y) round-lead e ∙ prefer-below p i k l;
+          })
 
 -- ---- the rounds end
 gather-none : (f c : ℕ) (b : List ℤ) (B : List (List ℤ)) → gather f c none b B ≡ record { pivot = b; below = B; over = false }
@@ -186,54 +194,33 @@ pub record Alone (c : ℕ) (b : List ℤ) (B : List (List ℤ)) : Type 0 where
   pub lead : Positive (entry c b)
   pub lower : All (λ (s : List ℤ). entry c s ≡ pos 0) B
 
-pub gather-alone : (n c f : ℕ) (b : List ℤ) (B : List (List ℤ)) (i k j p : ℕ) → c < n → All (Len n) (b ∷ B) → choose c (b ∷ B) ≡ at j p → p ≤ f
+pub gather-alone : {n c : ℕ} {b : List ℤ} {B : List (List ℤ)} {j p : ℕ} → Chosen n c b B j p → (f i k : ℕ) → p ≤ f
     → Alone c (gather f c (at i k) b B .pivot) (gather f c (at i k) b B .below)
 unfolding gather
-gather-alone n c zero b B i k j p h a e l = absurd (omega (arith, chosen n c b B j p h a e .0))
-gather-alone n c (suc f) b B i k j p h a e l =
-    go (choose c C) refl (λ i′ k′ j′ p′. gather-alone n c f r C i′ k′ j′ p′ h (round-length n c b B j p h a e))
-  where
-    r : List ℤ
-    r = round c b B .pivot
-
-    C : List (List ℤ)
-    C = round c b B .below
-
-    go : (z : Choice) → choose c C ≡ z
-        → ((i k j p : ℕ) → choose c (r ∷ C) ≡ at j p → p ≤ f → Alone c (gather f c (at i k) r C .pivot) (gather f c (at i k) r C .below))
-        → Alone c (gather f c z r C .pivot) (gather f c z r C .below)
-    go none e1 ih =
-        subst (λ (g : Gathered). Alone c (g .pivot) (g .below)) (sym (gather-none f c r C)) (record {
-          lead = rw (round-lead n c b B j p h a e) (above-zero p (chosen n c b B j p h a e .0));
-          lower = subst (Stands c C) e1 (choose-stands c C);
-        })
-    go (at i k) e1 ih =
-        let t : (k < p) × (choose c (r ∷ C) ≡ at (suc i) k) = round-next n c b B j p h a e i k e1 in
-        ih i k (suc i) k (t .1) (omega (arith, t .0))
+gather-alone h zero i k l = absurd (omega (arith, chosen-stands h .0))
+gather-alone {c = c} {b = b} {B = B} {p = p} h (suc f) i k l =
+    let r : List ℤ = round c b B .pivot in
+    let C : List (List ℤ) = round c b B .below in
+    round-next h (λ (z : Choice). Alone c (gather f c z r C .pivot) (gather f c z r C .below))
+    (λ s. subst (λ (g : Gathered). Alone c (g .pivot) (g .below)) (sym (gather-none f c r C)) (record {
+      lead = rw (round-lead h) (positive-of p (chosen-stands h .0));
+      lower = s;
+    }))
+    (λ i′ k′ l′ h′. gather-alone h′ f i′ k′ (omega arith))
 
 -- ---- the count of rounds does not matter
-pub gather-fuel : (n c f g : ℕ) (b : List ℤ) (B : List (List ℤ)) (i k i′ k′ j p : ℕ) → c < n → All (Len n) (b ∷ B) → choose c (b ∷ B) ≡ at j p → p ≤ f
-    → p ≤ g → gather f c (at i k) b B ≡ gather g c (at i′ k′) b B
+pub gather-fuel : {n c : ℕ} {b : List ℤ} {B : List (List ℤ)} {j p : ℕ} → Chosen n c b B j p → (f g i k i′ k′ : ℕ) → p ≤ f → p ≤ g
+    → gather f c (at i k) b B ≡ gather g c (at i′ k′) b B
 unfolding gather
-gather-fuel n c zero g b B i k i′ k′ j p h a e l l′ = absurd (omega (arith, chosen n c b B j p h a e .0))
-gather-fuel n c (suc f) zero b B i k i′ k′ j p h a e l l′ = absurd (omega (arith, chosen n c b B j p h a e .0))
-gather-fuel n c (suc f) (suc g) b B i k i′ k′ j p h a e l l′ =
+gather-fuel h zero g i k i′ k′ l l′ = absurd (omega (arith, chosen-stands h .0))
+gather-fuel h (suc f) zero i k i′ k′ l l′ = absurd (omega (arith, chosen-stands h .0))
+gather-fuel {c = c} {b = b} {B = B} h (suc f) (suc g) i k i′ k′ l l′ =
+    let r : List ℤ = round c b B .pivot in
+    let C : List (List ℤ) = round c b B .below in
     ap (onward (round c b B .over))
-    (go (choose c C) refl (λ i″ k″ j″ p″. gather-fuel n c f g r C i″ k″ i″ k″ j″ p″ h (round-length n c b B j p h a e)))
-  where
-    r : List ℤ
-    r = round c b B .pivot
-
-    C : List (List ℤ)
-    C = round c b B .below
-
-    go : (z : Choice) → choose c C ≡ z
-        → ((i k j p : ℕ) → choose c (r ∷ C) ≡ at j p → p ≤ f → p ≤ g → gather f c (at i k) r C ≡ gather g c (at i k) r C)
-        → gather f c z r C ≡ gather g c z r C
-    go none e1 ih = gather-none f c r C ∙ sym (gather-none g c r C)
-    go (at i k) e1 ih =
-        let t : (k < p) × (choose c (r ∷ C) ≡ at (suc i) k) = round-next n c b B j p h a e i k e1 in
-        ih i k (suc i) k (t .1) (omega (arith, t .0)) (omega (arith, t .0))
+    (round-next h (λ (z : Choice). gather f c z r C ≡ gather g c z r C)
+    (λ s. gather-none f c r C ∙ sym (gather-none g c r C))
+    (λ i″ k″ l″ h″. gather-fuel h″ f g i″ k″ i″ k″ (omega arith) (omega arith)))
 
 abbrev magnitude : Choice → ℕ
 magnitude none = 0
@@ -242,30 +229,28 @@ magnitude (at j p) = p
 unfoldable pub gathering : ℕ → List ℤ → List (List ℤ) → Gathered
 gathering c b B = gather (magnitude (choose c (b ∷ B))) c (choose c (b ∷ B)) b B
 
+pub gathering-first : {n c : ℕ} {b : List ℤ} {B : List (List ℤ)} {j p : ℕ} → Chosen n c b B j p → gathering c b B ≡ gather p c (at j p) b B
+unfolding gathering
+gathering-first {c = c} {b = b} {B = B} h = ap (λ (z : Choice). gather (magnitude z) c z b B) (h .choice)
+
 -- what follows on the round x, where z is the choice in its lower rows
 abbrev pub following : ℕ → Choice → Gathered → Gathered
 following c none x = x
 following c (at j p) x = onward (x .over) (gathering c (x .pivot) (x .below))
 
-pub gathering-round : (n c : ℕ) (b : List ℤ) (B : List (List ℤ)) (j p : ℕ) → c < n → All (Len n) (b ∷ B) → choose c (b ∷ B) ≡ at j p
+pub gathering-round : {n c : ℕ} {b : List ℤ} {B : List (List ℤ)} {j p : ℕ} → Chosen n c b B j p
     → gathering c b B ≡ following c (choose c (round c b B .below)) (round c b B)
-unfolding gathering gather
-gathering-round n c b B j p h a e = ap (λ (z : Choice). gather (magnitude z) c z b B) e ∙ go p refl (choose c C) refl
+unfolding gather
+gathering-round {c = c} {b = b} {B = B} {j = j} {p = p} h = gathering-first h ∙ go p refl
   where
-    r : List ℤ
-    r = round c b B .pivot
+    x : Gathered
+    x = round c b B
 
-    C : List (List ℤ)
-    C = round c b B .below
-
-    go : (f : ℕ) → p ≡ f → (z : Choice) → choose c C ≡ z → gather f c (at j p) b B ≡ following c z (round c b B)
-    go zero q z e1 = absurd (omega (arith, chosen n c b B j p h a e .0))
-    go (suc f) q none e1 =
-        ap (onward (round c b B .over)) (ap (λ (z : Choice). gather f c z r C) e1 ∙ gather-none f c r C)
-        ∙ ap (λ (o : Bool). record { pivot = r; below = C; over = o }) (or-false (round c b B .over))
-    go (suc f) q (at i k) e1 =
-        let t : (k < p) × (choose c (r ∷ C) ≡ at (suc i) k) = round-next n c b B j p h a e i k e1 in
-        ap (onward (round c b B .over))
-        (ap (λ (z : Choice). gather f c z r C) e1
-        ∙ gather-fuel n c f k r C i k (suc i) k (suc i) k h (round-length n c b B j p h a e) (t .1) (omega (arith, t .0)) (omega arith)
-        ∙ sym (ap (λ (z : Choice). gather (magnitude z) c z r C) (t .1)))
+    go : (f : ℕ) → p ≡ f → gather f c (at j p) b B ≡ following c (choose c (x .below)) x
+    go zero q = absurd (omega (arith, chosen-stands h .0))
+    go (suc f) q =
+        round-next h (λ (z : Choice). onward (x .over) (gather f c z (x .pivot) (x .below)) ≡ following c z x)
+        (λ s.
+        ap (onward (x .over)) (gather-none f c (x .pivot) (x .below))
+        ∙ ap (λ (o : Bool). record { pivot = x .pivot; below = x .below; over = o }) (or-false (x .over)))
+        (λ i k l h′. ap (onward (x .over)) (gather-fuel h′ f k i k (suc i) k (omega arith) (omega arith) ∙ sym (gathering-first h′)))

@@ -4,7 +4,10 @@ pub mod Elimination
 pub mod RightSide
 pub mod Generators
 pub mod GatherLaws
+pub mod FormLaws
 pub mod TableLaws
+pub mod RightLaws
+pub mod Theorems
 pub mod Within
 pub mod Steps
 pub mod Choices

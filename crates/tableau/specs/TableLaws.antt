@@ -5,18 +5,18 @@
 --   tableau-generators    with the list (−b, then n zeros) they are generator rows with a right side
 --   tableau-reaches       and reach exactly the lists that satisfy the rows
 -- Assumes nothing.
-use mathlib.Core.Path.{_≡_, refl, sym, _∙_, ap, ap₂, subst}
+use mathlib.Core.Path.{_≡_, sym, _∙_, ap, ap₂, subst}
 use mathlib.Core.Logic.{_↔_}
-use mathlib.Core.List.{List, [], _∷_, _++_}
+use mathlib.Core.List.{List, _++_}
 use Prim.Native.Nat.{ℕ, zero, suc, _+_, _<_}
 use native.Mathlib.Omega.{arith}
-use lib.ListN.{length, take, length-append, length-map, length-replicate}
-use lib.Seq.{take-all, getD-append-add}
+use lib.ListN.{length, length-append, length-map, length-replicate}
+use lib.Seq.{getD-append-add}
 use lib.IntN.{ℤ, pos, negsuc, negℤ, _+ℤ_, _*ℤ_}
 use Rattle.whole.specs.Lists.{entry, zeros}
 use Rattle.whole.specs.Integers.{rep, diff-rel, positive, multiple-zero}
-use Rattle.lattice.specs.Rows.{plus, minus, neg, unit}
-use Rattle.lattice.specs.RowLaws.{Zero, length-plus, length-neg, length-unit, plus-cancel, plus-neg, plus-Zero, plus-one, plus-append, Zero-zeros, zeros-Zero, Zero-append, Zero-unit, Zero-next, Zero-take-plus, entry-plus, entry-zeros, entry-unit-at, entry-unit-before}
+use Rattle.lattice.specs.Rows.{plus, minus, neg, unit, Zero, ZeroTo}
+use Rattle.lattice.specs.RowLaws.{length-plus, length-neg, length-unit, plus-cancel, plus-neg, plus-zeros, plus-one, plus-append, Zero-zeros, zeros-Zero, Zero-append, ZeroTo-unit, ZeroTo-next, ZeroTo-all, ZeroTo-plus, entry-plus, entry-zeros, entry-unit-at, entry-unit-before}
 use Rattle.lattice.specs.Span.{All, Len, Span, Independent, span-entry}
 use Rattle.lattice.specs.Sums.{sums, Satisfies}
 use Rattle.lattice.specs.SumLaws.{length-sums, sums-plus, sums-unit, sums-Zero}
@@ -85,10 +85,10 @@ from-out (suc k) j n A y x w ly lx s =
 
 -- and those where x begins with j zeros
 from-in : (k j n : ℕ) (A : List (List ℤ)) (y x : List ℤ) → j + k ≡ n → All (Len n) A → length y ≡ length A → length x ≡ n
-    → Zero (take j x) → sums A x ≡ y → Span (tableauFrom k j n A) (y ++ x)
+    → ZeroTo j x → sums A x ≡ y → Span (tableauFrom k j n A) (y ++ x)
 unfolding tableauFrom
 from-in zero j n A y x h w ly lx z e =
-    let zx : Zero x = subst Zero (take-all j x (omega (arith, lx))) z in
+    let zx : Zero x = ZeroTo-all j x (omega (arith, lx)) z in
     Zero-append y x .1 (subst Zero e (sums-Zero A x zx), zx)
 from-in (suc k) j n A y x h w ly lx z e =
     let c : ℤ = negℤ (entry j x) in
@@ -96,7 +96,7 @@ from-in (suc k) j n A y x h w ly lx z e =
       c,
       subst (Span (tableauFrom k (suc j) n A)) (sym (plus-append c (column j A) y (unit n j) x (length-column j A ∙ sym ly)))
           (from-in k (suc j) n A (plus c (column j A) y) x′ (omega arith) w (length-plus c (column j A) y ∙ ly) (length-plus c (unit n j) x ∙ lx)
-          (Zero-next j x′ (Zero-take-plus j c (unit n j) x (Zero-unit n j) z)
+          (ZeroTo-next j x′ (ZeroTo-plus j c (unit n j) x (ZeroTo-unit n j) z)
           (entry-plus j c (unit n j) x (omega (arith, lx)) ∙ ap (λ (t : ℤ). entry j x +ℤ c *ℤ t) (entry-unit-at n j (omega arith)) ∙ gone (entry j x)))
           (sums-plus A c (unit n j) x (length-unit n j ∙ sym lx) ∙ ap₂ (plus c) (sums-unit A n j w) e)),
     )
@@ -122,7 +122,7 @@ less-right : (m n : ℕ) (b x : List ℤ) → length b ≡ m → minus (zeros m 
 less-right m n b x l =
     let e : length b ≡ length (zeros m) = l ∙ sym (length-replicate m (pos 0)) in
     plus-append (negsuc 0) (neg b) (zeros m) (zeros n) x (length-neg b ∙ e)
-    ∙ ap₂ _++_ (plus-neg (negsuc 0) b (zeros m) ∙ plus-one b (zeros m) e (Zero-zeros m)) (plus-Zero (negsuc 0) (zeros n) x (Zero-zeros n))
+    ∙ ap₂ _++_ (plus-neg (negsuc 0) b (zeros m) ∙ plus-one b (zeros m) e (Zero-zeros m)) (plus-zeros (negsuc 0) (zeros n) x (Zero-zeros n))
 
 pub tableau-reaches : (n : ℕ) (A : List (List ℤ)) (b : List ℤ) → Sized n A b → (x : List ℤ)
     → Reaches n (length A) (tableau n A) (neg b ++ zeros n) x ↔ Satisfies n A b x

@@ -4,19 +4,20 @@
 --   diff, diff-rel           the rules that turn sums, products, equations and orders of differences into statements on naturals, which
 --                            `omega` proves. So an identity, or a linear fact with its hypotheses as arrows, is one line:
 --                            law x y = rw (rep x, rep y) (simp diff-rel (omega arith))
+--   add-none, isZero-true    a multiple of 0 adds nothing; the test's meaning
 --   Positive p               p is above 0
---   multiple-zero ..         multiples of a positive number: which of them are 0, which lie near 0
+--   multiple-..              multiples of a positive number: when they are 0, when two numbers that differ by one are equal
 --   floorQuotient-low, -high what the floor quotient leaves lies in 0 to p − 1
 --   gatheringQuotient-left   what the gathering quotient leaves has a magnitude below p. Callers use no other law of it
 -- Assumes nothing.
-use mathlib.Core.Path.{_≡_, refl, sym, _∙_, ap}
+use mathlib.Core.Path.{_≡_, refl, _∙_, ap}
 use mathlib.Core.Logic.{_↔_}
 use mathlib.Core.Bool.{Bool, true, false, not, cond}
 use Prim.Native.Nat.{ℕ, zero, suc, _+_, _*_, _-_, _<_, _≤_, _/_, _%_}
 use native.Mathlib.Nat.{div-add-mod', mod-lt}
 use native.Mathlib.Omega.{arith}
 use borrow.Author.Tests.{eqb-true}
-use lib.Dec.{T, ltb, leb, ltb→lt, nltb→le, leb→le, le→leb, lt→ltb}
+use lib.Dec.{T, ltb, ltb→lt, nltb→le, leb→le, le→leb, lt→ltb}
 use lib.IntN.{ℤ, pos, negsuc, negℤ, natAbs, subℕ, _+ℤ_, _*ℤ_}
 use lib.Signed.{_≤ℤ_, _<ℤ_}
 use Rattle.whole.specs.Tests.{isZero}
@@ -152,6 +153,10 @@ pub ruleset diff = (⊖-add, ⊖-neg, ⊖-mul, ⊖-pos, ⊖-negsuc)
 
 pub ruleset diff-rel = (diff, ⊖-le, ⊖-lt, ⊖-path)
 
+-- x + c 0 = x
+pub add-none : (c x y : ℤ) → y ≡ pos 0 → x +ℤ c *ℤ y ≡ x
+add-none c x y e = ap (λ (t : ℤ). x +ℤ c *ℤ t) e ∙ rw (rep c, rep x) (simp diff-rel (omega arith))
+
 -- ---- tests
 pub isZero-true : (x : ℤ) → isZero x ≡ true → x ≡ pos 0
 isZero-true (pos n) t = ap pos (eqb-true n 0 t)
@@ -161,9 +166,12 @@ isZero-true (negsuc n) t = absurd (omega (arith, eqb-true (suc n) 0 t))
 pub data Positive : ℤ → Type 0 where
   positive : (k : ℕ) → Positive (pos (suc k))
 
-pub above-zero : (n : ℕ) → 0 < n → Positive (pos n)
-above-zero zero h = absurd (omega arith)
-above-zero (suc k) h = positive k
+pub positive-of : (n : ℕ) → 0 < n → Positive (pos n)
+positive-of zero h = absurd (omega arith)
+positive-of (suc k) h = positive k
+
+pub positive-above : {p : ℤ} → Positive p → pos 0 <ℤ p
+positive-above (positive k) = simp diff-rel (omega arith)
 
 pub positive-nonzero : {p : ℤ} → Positive p → p ≡ pos 0 → ⊥
 positive-nonzero (positive k) = simp diff-rel (omega arith)

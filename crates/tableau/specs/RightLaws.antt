@@ -1,0 +1,263 @@
+-- Laws of the right side: it finds the answer to the set of lists that a form and a right side reach.
+--   sweep-rows            to sweep by the rows of a form is to reduce by it
+--   indents m T           m columns of zeros before T
+--   leading-remaining     the rows of a form are the leading ones, then the remaining ones
+--   remaining-past        the remaining ones are the form past m columns, behind m zeros
+--   right-found           what is found: the residue's tail and the form past m columns, if the residue begins with m zeros
+--   right-answers         that is the answer to the lists x where (m zeros, x) − v lies in the form's span
+--   answers-same          the same sets have the same answers
+--   answers-none          the answer is "none" exactly when the set is empty
+--   answers-unique        two sets are the same exactly when their answers are
+-- The mark `over` changes nothing in the rows.
+-- Assumes nothing.
+use mathlib.Core.Path.{_≡_, refl, sym, _∙_, ap, ap₂, subst}
+use mathlib.Core.Logic.{_↔_, Iff·symm, Iff·trans}
+use mathlib.Core.Bool.{Bool, true, false, cond, false≢true}
+use mathlib.Core.List.{List, [], _∷_, _++_, map, map-append, map-map, map-id}
+use Prim.Native.Nat.{ℕ, zero, suc, _+_, _≤_}
+use native.Mathlib.Omega.{arith}
+use borrow.Author.Tests.{lt-ltb, le-ltb}
+use lib.Dec.{ltb, leb·suc-suc}
+use lib.ListN.{length, take, drop, length-drop, take-append-drop}
+use lib.Seq.{length-take-le}
+use lib.IntN.{ℤ, pos, negℤ, _+ℤ_, _*ℤ_}
+use Rattle.whole.specs.Lists.{entry, zeros}
+use Rattle.whole.specs.Quotient.{floorQuotient}
+use Rattle.whole.specs.Integers.{Positive, positive, add-none}
+use Rattle.lattice.specs.Rows.{plus, minus, allZero, lead}
+use Rattle.lattice.specs.RowLaws.{length-plus, length-zeros, zeros-Zero, minus-zeros, allZero-Zero}
+use Rattle.lattice.specs.Span.{Span}
+use Rattle.lattice.specs.Hermite.{Echelon, done, skip, step, width, indent, rows, past, Reduced, Hermite, past-width, past-hermite, past-reduced, past-span, reduced-head}
+use Rattle.lattice.specs.Coset.{residue, Describes, coset-self, residue-length, residue-reduced, residue-for, describes-unique}
+use Rattle.tableau.specs.Elimination.{reduced}
+use Rattle.tableau.specs.RightSide.{sweep, leading, remaining, basis, Found, none, some, Solved, rightSide}
+use Rattle.tableau.specs.Generators.{Answers}
+
+-- ---- sweeping
+sweep-length : (T : List (List ℤ)) (v : List ℤ) → length (sweep T v .row) ≡ length v
+unfolding sweep reduced
+sweep-length [] v = refl
+sweep-length (r ∷ T) v = sweep-length T _ ∙ length-plus _ r v
+
+sweep-append : (T U : List (List ℤ)) (v : List ℤ) → sweep (T ++ U) v .row ≡ sweep U (sweep T v .row) .row
+unfolding sweep
+sweep-append [] U v = refl
+sweep-append (r ∷ T) U v = sweep-append T U (reduced (lead r) r v .row)
+
+sweep-indent : (T : List (List ℤ)) (x : ℤ) (v : List ℤ) → sweep (indent T) (x ∷ v) .row ≡ x ∷ sweep T v .row
+unfolding sweep lead reduced plus
+sweep-indent [] x v = refl
+sweep-indent (r ∷ T) x v =
+    let q : ℤ = negℤ (floorQuotient (entry (lead r) v) (entry (lead r) r)) in
+    ap (λ (y : ℤ). sweep (indent T) (y ∷ plus q r v) .row) (add-none q x (pos 0) refl) ∙ sweep-indent T x (plus q r v)
+
+sweep-pivot : (p : ℤ) (r : List ℤ) (T : List (List ℤ)) (x : ℤ) (v : List ℤ) → Positive p
+    → sweep ((p ∷ r) ∷ T) (x ∷ v) .row ≡ sweep T ((x +ℤ negℤ (floorQuotient x p) *ℤ p) ∷ plus (negℤ (floorQuotient x p)) r v) .row
+unfolding sweep lead reduced plus
+sweep-pivot p r T x v (positive k) = refl
+
+pub sweep-rows : (H : Echelon) (v : List ℤ) → length v ≡ width H → Hermite H → sweep (rows H) v .row ≡ residue H v
+unfolding sweep
+sweep-rows done v l h = refl
+sweep-rows (skip H) [] l h = absurd (omega arith)
+sweep-rows (skip H) (x ∷ v) l h = sweep-indent (rows H) x v ∙ ap (λ (t : List ℤ). x ∷ t) (sweep-rows H v (omega arith) h)
+sweep-rows (step p r H) [] l h = absurd (omega arith)
+sweep-rows (step p r H) (x ∷ v) l h =
+    let q : ℤ = negℤ (floorQuotient x p) in
+    sweep-pivot p r (indent (rows H)) x v (h .0)
+    ∙ sweep-indent (rows H) (x +ℤ q *ℤ p) (plus q r v)
+    ∙ ap (λ (t : List ℤ). (x +ℤ q *ℤ p) ∷ t) (sweep-rows H (plus q r v) (length-plus q r v ∙ omega arith) (h .3))
+
+-- ---- leading and remaining rows
+leading-none : (T : List (List ℤ)) → leading 0 T ≡ []
+unfolding leading
+leading-none [] = refl
+leading-none (r ∷ T) = rw (le-ltb (lead r) 0 (omega arith)) (leading-none T)
+
+remaining-all : (T : List (List ℤ)) → remaining 0 T ≡ T
+unfolding remaining
+remaining-all [] = refl
+remaining-all (r ∷ T) = rw (le-ltb (lead r) 0 (omega arith)) (ap (λ (X : List (List ℤ)). r ∷ X) (remaining-all T))
+
+indent-cond : (b : Bool) (X Y : List (List ℤ)) → cond b (indent X) (indent Y) ≡ indent (cond b X Y)
+indent-cond true X Y = refl
+indent-cond false X Y = refl
+
+leading-indent : (m : ℕ) (T : List (List ℤ)) → leading (suc m) (indent T) ≡ indent (leading m T)
+unfolding leading lead
+leading-indent m [] = refl
+leading-indent m (r ∷ T) = rw (leb·suc-suc (suc (lead r)) m, leading-indent m T) (indent-cond (ltb (lead r) m) (r ∷ leading m T) (leading m T))
+
+remaining-indent : (m : ℕ) (T : List (List ℤ)) → remaining (suc m) (indent T) ≡ indent (remaining m T)
+unfolding remaining lead
+remaining-indent m [] = refl
+remaining-indent m (r ∷ T) = rw (leb·suc-suc (suc (lead r)) m, remaining-indent m T) (indent-cond (ltb (lead r) m) (remaining m T) (r ∷ remaining m T))
+
+leading-pivot : (m : ℕ) (p : ℤ) (r : List ℤ) (T : List (List ℤ)) → Positive p → leading (suc m) ((p ∷ r) ∷ T) ≡ (p ∷ r) ∷ leading (suc m) T
+unfolding leading lead
+leading-pivot m p r T (positive k) = rw (lt-ltb 0 (suc m) (omega arith))
+
+remaining-pivot : (m : ℕ) (p : ℤ) (r : List ℤ) (T : List (List ℤ)) → Positive p → remaining (suc m) ((p ∷ r) ∷ T) ≡ remaining (suc m) T
+unfolding remaining lead
+remaining-pivot m p r T (positive k) = rw (lt-ltb 0 (suc m) (omega arith))
+
+indent-split : (m : ℕ) (T : List (List ℤ)) → leading (suc m) (indent T) ++ remaining (suc m) (indent T) ≡ indent (leading m T ++ remaining m T)
+indent-split m T = ap₂ _++_ (leading-indent m T) (remaining-indent m T) ∙ sym (map-append (λ r. pos 0 ∷ r) (leading m T) (remaining m T))
+
+leading-remaining : (m : ℕ) (H : Echelon) → Hermite H → leading m (rows H) ++ remaining m (rows H) ≡ rows H
+unfolding leading remaining
+leading-remaining zero H h = ap₂ _++_ (leading-none (rows H)) (remaining-all (rows H))
+leading-remaining (suc m) done h = refl
+leading-remaining (suc m) (skip H) h = indent-split m (rows H) ∙ ap indent (leading-remaining m H h)
+leading-remaining (suc m) (step p r H) h =
+    ap₂ _++_ (leading-pivot m p r (indent (rows H)) (h .0)) (remaining-pivot m p r (indent (rows H)) (h .0))
+    ∙ ap (λ (X : List (List ℤ)). (p ∷ r) ∷ X) (indent-split m (rows H) ∙ ap indent (leading-remaining m H (h .3)))
+
+abbrev indents : ℕ → List (List ℤ) → List (List ℤ)
+indents zero T = T
+indents (suc m) T = indent (indents m T)
+
+remaining-past : (m : ℕ) (H : Echelon) → Hermite H → remaining m (rows H) ≡ indents m (rows (past m H))
+unfolding remaining
+remaining-past zero H h = remaining-all (rows H)
+remaining-past (suc m) done h = sym (indents-none (suc m))
+  where
+    indents-none : (m : ℕ) → indents m [] ≡ []
+    indents-none zero = refl
+    indents-none (suc m) = ap indent (indents-none m)
+remaining-past (suc m) (skip H) h = remaining-indent m (rows H) ∙ ap indent (remaining-past m H h)
+remaining-past (suc m) (step p r H) h =
+    remaining-pivot m p r (indent (rows H)) (h .0) ∙ remaining-indent m (rows H) ∙ ap indent (remaining-past m H (h .3))
+
+-- without the m zeros
+indents-drop : (m : ℕ) (T : List (List ℤ)) → map (drop m) (indents m T) ≡ T
+indents-drop zero T = map-id T
+indents-drop (suc m) T = map-map (drop (suc m)) (λ r. pos 0 ∷ r) (indents m T) ∙ indents-drop m T
+
+-- the first m numbers stay
+indents-take : (m : ℕ) (T : List (List ℤ)) (v : List ℤ) → m ≤ length v → take m (sweep (indents m T) v .row) ≡ take m v
+indents-take zero T v l = refl
+indents-take (suc m) T [] l = absurd (omega arith)
+indents-take (suc m) T (x ∷ v) l =
+    ap (take (suc m)) (sweep-indent (indents m T) x v) ∙ ap (λ (t : List ℤ). x ∷ t) (indents-take m T v (omega arith))
+
+-- ---- what is found, from the residue w and the basis N
+abbrev read : ℕ → List ℤ → List (List ℤ) → Found
+read m w N = cond (allZero (take m w)) (some (drop m w) N) none
+
+found-cond : (b : Bool) (s t : Solved) → cond b s t .found ≡ cond b (s .found) (t .found)
+found-cond true s t = refl
+found-cond false s t = refl
+
+pub right-found : (m : ℕ) (H : Echelon) (over : Bool) (v : List ℤ) → length v ≡ width H → m ≤ width H → Hermite H
+    → rightSide m (rows H) over v .found ≡ read m (residue H v) (rows (past m H))
+unfolding rightSide
+right-found m H over v l k h =
+    found-cond (allZero (take m w)) _ _ ∙ ap₂ (λ (a : List ℤ) (b : Found). cond (allZero a) b none) heads (ap₂ (λ (x : List ℤ) (N : List (List ℤ)). some (drop m x) N) whole based)
+  where
+    w : List ℤ
+    w = sweep (leading m (rows H)) v .row
+
+    x : List ℤ
+    x = sweep (remaining m (rows H)) w .row
+
+    whole : x ≡ residue H v
+    whole =
+        sym (sweep-append (leading m (rows H)) (remaining m (rows H)) v)
+        ∙ ap (λ (T : List (List ℤ)). sweep T v .row) (leading-remaining m H h)
+        ∙ sweep-rows H v l h
+
+    heads : take m w ≡ take m (residue H v)
+    heads =
+        sym (indents-take m (rows (past m H)) w (omega (arith, sweep-length (leading m (rows H)) v)))
+        ∙ ap (λ (T : List (List ℤ)). take m (sweep T w .row)) (sym (remaining-past m H h))
+        ∙ ap (take m) whole
+
+    based : basis m (rows H) ≡ rows (past m H)
+    based = ap (map (drop m)) (remaining-past m H h) ∙ indents-drop m (rows (past m H))
+
+-- ---- it is the answer
+pub right-answers : (n m : ℕ) (H : Echelon) (over : Bool) (v : List ℤ) → width H ≡ m + n → Hermite H → length v ≡ m + n
+    → Answers n (λ (x : List ℤ). Span (rows H) (minus (zeros m ++ x) v)) (rightSide m (rows H) over v .found)
+right-answers n m H over v e h l =
+    subst (Answers n Q) (sym (right-found m H over v lv (omega arith) h)) (go (allZero (take m w)) refl)
+  where
+    Q : List ℤ → Type 0
+    Q x = Span (rows H) (minus (zeros m ++ x) v)
+
+    w : List ℤ
+    w = residue H v
+
+    s : List ℤ
+    s = drop m w
+
+    lv : length v ≡ width H
+    lv = l ∙ sym e
+
+    lw : length w ≡ m + n
+    lw = residue-length H v ∙ l
+
+    lx : (x : List ℤ) → length x ≡ n → length (zeros m ++ x) ≡ width H
+    lx x k = length-zeros m x ∙ ap (λ (i : ℕ). m + i) k ∙ sym e
+
+    go : (b : Bool) → allZero (take m w) ≡ b → Answers n Q (cond b (some s (rows (past m H))) none)
+    go true t =
+        let w-is : w ≡ zeros m ++ s =
+        sym (take-append-drop m w)
+        ∙ ap (λ (u : List ℤ). u ++ s) (zeros-Zero m (take m w) (length-take-le m w (omega (arith, lw))) (allZero-Zero (take m w) .0 t)) in
+        record {
+          form = past m H;
+          wide = past-width m n H e;
+          hermite = past-hermite m H h;
+          is = refl;
+          long = length-drop m w ∙ omega (arith, lw);
+          reduced = past-reduced m H s (subst (Reduced H) w-is (residue-reduced H v h));
+          set = λ x k.
+              Iff·trans (residue-for H (zeros m ++ x) v (lx x k) lv)
+              (subst (λ (u : List ℤ). Span (rows H) u ↔ Span (rows (past m H)) (minus x s)) (sym (ap (minus (zeros m ++ x)) w-is ∙ minus-zeros m x s))
+              (past-span m n H (minus x s) e h));
+        }
+    go false t =
+        λ x k q.
+        false≢true (sym t ∙ allZero-Zero (take m w) .1
+        (reduced-head m H x w (lx x k) h (residue-reduced H v h) (residue-for H (zeros m ++ x) v (lx x k) lv .0 q)))
+
+-- ---- answers and sets
+pub answers-same : (n : ℕ) (Q R : List ℤ → Type 0) (a : Found) → ((x : List ℤ) → length x ≡ n → Q x ↔ R x) → Answers n Q a → Answers n R a
+answers-same n Q R none f p = λ x l r. p x l (f x l .1 r)
+answers-same n Q R (some s N) f p = record {
+  form = p .form;
+  wide = p .wide;
+  hermite = p .hermite;
+  is = p .is;
+  long = p .long;
+  reduced = p .reduced;
+  set = λ x l. Iff·trans (Iff·symm (f x l)) (p .set x l);
+}
+
+-- the starting list is one of the lists
+start-in : (n : ℕ) (Q : List ℤ → Type 0) (s : List ℤ) (N : List (List ℤ)) → Describes n Q s N → Q s
+start-in n Q s N p = p .set s (p .long) .1 (coset-self N s)
+
+pub answers-none : (n : ℕ) (Q : List ℤ → Type 0) (a : Found) → ((x : List ℤ) → Q x → length x ≡ n) → Answers n Q a → (a ≡ none) ↔ ((x : List ℤ) → Q x → ⊥)
+answers-none n Q a ql p = ((λ e x q. subst (Answers n Q) e p x (ql x q) q), to a p)
+  where
+    to : (a : Found) → Answers n Q a → ((x : List ℤ) → Q x → ⊥) → a ≡ none
+    to none p f = refl
+    to (some s N) p f = absurd (f s (start-in n Q s N p))
+
+pub answers-unique : (n : ℕ) (Q R : List ℤ → Type 0) (a b : Found) → ((x : List ℤ) → Q x → length x ≡ n) → ((x : List ℤ) → R x → length x ≡ n)
+    → Answers n Q a → Answers n R b → ((x : List ℤ) → Q x ↔ R x) ↔ (a ≡ b)
+answers-unique n Q R a b ql rl p q = (to a b p q, λ e. from a p (subst (Answers n R) (sym e) q))
+  where
+    to : (a b : Found) → Answers n Q a → Answers n R b → ((x : List ℤ) → Q x ↔ R x) → a ≡ b
+    to none none p q f = refl
+    to none (some s N) p q f = absurd (p s (q .long) (f s .1 (start-in n R s N q)))
+    to (some s N) none p q f = absurd (q s (p .long) (f s .0 (start-in n Q s N p)))
+    to (some s N) (some t M) p q f =
+        let u : (s ≡ t) × (N ≡ M) = describes-unique n Q R s t N M p q (λ x l. f x) in
+        ap₂ some (u .0) (u .1)
+
+    from : (a : Found) → Answers n Q a → Answers n R a → (x : List ℤ) → Q x ↔ R x
+    from none p q x = ((λ y. absurd (p x (ql x y) y)), (λ y. absurd (q x (rl x y) y)))
+    from (some s N) p q x = ((λ y. q .set x (ql x y) .1 (p .set x (ql x y) .0 y)), (λ y. p .set x (rl x y) .1 (q .set x (rl x y) .0 y)))
