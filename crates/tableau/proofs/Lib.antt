@@ -2,3 +2,5 @@
 pub mod Stepping
 pub mod Walking
 pub mod Choosing
+pub mod Lifting
+pub mod Rounds

@@ -1,5 +1,5 @@
 -- Laws of a row's step by a pivot.
---   above, inside     the pivot's entry is above 0, as the code tests it; its column lies in the row
+--   inside            the pivot's column lies in the row
 --   quotient-small    the quotient is no larger than the entry
 --   step-none         a row with a 0 there stays
 --   step-idle         so does a row whose quotient is 0
@@ -12,26 +12,23 @@ use Prim.Native.Nat.{ℕ, zero, suc, _+_, _*_, _/_, _<_, _≤_}
 use native.Mathlib.Nat.{mul-le-mul-right, zero-div}
 use native.Mathlib.Omega.{arith}
 use borrow.Author.Tests.{ltb-true, ltb-false, eq-eqb, ne-eqb}
-use lib.Dec.{ltb, lt→ltb}
+use lib.Dec.{ltb}
 use lib.IntN.{ℤ, pos, negsuc, negℤ, natAbs, _+ℤ_, _*ℤ_}
 use lib.Signed.{_<ℤ_, _≤ℤ_}
 use lib.ListN.{length, take, drop, take-append-drop, List·getD-eq-default}
 use Rattle.whole.specs.Lists.{entry}
 use Rattle.whole.specs.Tests.{isZero}
 use Rattle.whole.specs.Quotient.{floorQuotient, gatheringQuotient}
-use Rattle.whole.specs.Integers.{rep, diff-rel, Positive, positive, positive-nonzero, gatheringQuotient-left, floorQuotient-low, floorQuotient-high}
+use Rattle.whole.specs.Integers.{rep, diff-rel, Positive, positive, positive-nonzero, gatheringQuotient-left, floorQuotient-low, floorQuotient-high, add-none}
 use Rattle.whole.proofs.Signed.{abs-add, abs-mul, abs-neg}
-use Rattle.lattice.specs.Rows.{plus}
-use Rattle.lattice.specs.RowLaws.{Zero, plus-zero, add-none}
+use Rattle.lattice.specs.Rows.{plus, ZeroTo}
+use Rattle.lattice.specs.RowLaws.{plus-none}
 use Rattle.problem.specs.Limits.{anyBeyond}
 use Rattle.tableau.specs.Elimination.{Left, subtract, kept, lowered, reduced}
 use Rattle.tableau.specs.Within.{Within, within-take, beyond-append}
 use Rattle.tableau.specs.Steps.{Stops, quotientOf, stepOf, Pivot}
 use Rattle.tableau.specs.declared.rows.Way.{Way}
 use Rattle.tableau.specs.declared.rows.Way.the-variants.{Below, Above}
-
-pub above : {p : ℤ} → Positive p → pos 0 <ℤ p
-above (positive k) = record { lt = lt→ltb 0 (suc k) (omega arith) }
 
 pub inside : {w c : ℕ} {r : List ℤ} → Pivot w c r → c < w
 inside {w} {c} {r} h = go (ltb c (length r)) refl
@@ -70,7 +67,7 @@ quotient-small {p} Above x h = by-rest x (floorQuotient x p) h (floor-rest x h)
 
 -- ---- rows that stay
 nothing : (r s : List ℤ) → Within s → subtract (pos 0) r s ≡ kept s
-nothing r s h = ap (λ (l : List ℤ). record { row = l; over = anyBeyond l }) (plus-zero r s) ∙ ap (λ (b : Bool). record { row = s; over = b }) h
+nothing r s h = ap (λ (l : List ℤ). record { row = l; over = anyBeyond l }) (plus-none r s) ∙ ap (λ (b : Bool). record { row = s; over = b }) h
 
 zero-of : (x : ℤ) → natAbs x ≡ 0 → x ≡ pos 0
 zero-of (pos n) e = ap pos e
@@ -96,7 +93,7 @@ pub step-idle : (way : Way) (c : ℕ) (r s : List ℤ) → (natAbs (entry c s) �
 step-idle way c r s e h q = step-is way c r s e ∙ ap (λ (x : ℤ). subtract x r s) (zero-of (quotientOf way (entry c s) (entry c r)) q) ∙ nothing r s h
 
 -- ---- the numbers from c on
-front : (c : ℕ) (q : ℤ) (r s : List ℤ) → Zero (take c r) → plus q r s ≡ take c s ++ plus q (drop c r) (drop c s)
+front : (c : ℕ) (q : ℤ) (r s : List ℤ) → ZeroTo c r → plus q r s ≡ take c s ++ plus q (drop c r) (drop c s)
 unfolding plus
 front zero q r s z = refl
 front (suc c) q [] [] z = refl
@@ -108,7 +105,7 @@ front (suc c) q (y ∷ r) [] z = sym (short (drop c r))
     short (y ∷ r) = refl
 front (suc c) q (y ∷ r) (x ∷ s) z = ap₂ _∷_ (add-none q x y (z .0)) (front c q r s (z .1))
 
-pub step-parts : (way : Way) (c : ℕ) (r s u : List ℤ) (b : Bool) (q : ℤ) → Zero (take c r) → Within s → (natAbs (entry c s) ≡ 0 → ⊥)
+pub step-parts : (way : Way) (c : ℕ) (r s u : List ℤ) (b : Bool) (q : ℤ) → ZeroTo c r → Within s → (natAbs (entry c s) ≡ 0 → ⊥)
     → q ≡ quotientOf way (entry c s) (entry c r)
     → Stops (anyBeyond (plus (negℤ q) (drop c r) (drop c s))) (plus (negℤ q) (drop c r) (drop c s)) b u
     → Stops (stepOf way c r s .over) (stepOf way c r s .row) b (take c s ++ u)

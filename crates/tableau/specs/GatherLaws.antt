@@ -66,7 +66,7 @@ clear-steps : (c : ℕ) (r : List ℤ) (B : List (List ℤ)) → (r ∷ B) ~ (cl
 unfolding clear
 clear-steps c r B = simp append-nil at (each-steps r (lowered c r) (lowered-steps c r) B [])
 
-round-steps : (c : ℕ) (b : List ℤ) (B : List (List ℤ)) → (b ∷ B) ~ (round c b B .pivot ∷ round c b B .below)
+pub round-steps : (c : ℕ) (b : List ℤ) (B : List (List ℤ)) → (b ∷ B) ~ (round c b B .pivot ∷ round c b B .below)
 unfolding round
 round-steps c b B =
     let x : List ℤ × List (List ℤ) = exchange (choose c (b ∷ B)) b B in

@@ -11,3 +11,4 @@ pub mod Theorems
 pub mod Within
 pub mod Steps
 pub mod Choices
+pub mod Tails

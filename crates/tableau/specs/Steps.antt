@@ -11,12 +11,11 @@ use mathlib.Core.Bool.{Bool, false}
 use mathlib.Core.List.{List}
 use Prim.Native.Nat.{ℕ}
 use lib.IntN.{ℤ}
-use lib.ListN.{length, take}
+use lib.ListN.{length}
 use Rattle.whole.specs.Lists.{entry}
 use Rattle.whole.specs.Quotient.{floorQuotient, gatheringQuotient}
 use Rattle.whole.specs.Integers.{Positive}
-use Rattle.lattice.specs.Rows.{flat, chop}
-use Rattle.lattice.specs.RowLaws.{Zero}
+use Rattle.lattice.specs.Rows.{ZeroTo, flat, chop}
 use Rattle.tableau.specs.Elimination.{Left, lowered, reduced, Run, each}
 use Rattle.tableau.specs.Within.{Within}
 use Rattle.tableau.specs.declared.rows.Way.{Way}
@@ -44,5 +43,5 @@ eachOf way c r k t = each (stepOf way c r) (chop k (length r) t)
 pub record Pivot (w c : ℕ) (r : List ℤ) : Type 0 where
   pub wide : length r ≡ w
   pub small : Within r
-  pub front : Zero (take c r)
+  pub front : ZeroTo c r
   pub lead : Positive (entry c r)

@@ -11,12 +11,13 @@ use lib.ListN.{length, length-drop}
 use mir.Syntax.{w64}
 use mir.Val.{toZ, ofZ}
 use Rattle.whole.specs.Lists.{entry}
+use Rattle.whole.specs.Integers.{positive-above}
 use Rattle.whole.proofs.Signed.{back}
 use Rattle.lattice.proofs.Parts.{tail-is, tail-back}
 use Rattle.tableau.specs.Within.{Within, within-drop, within-entry}
 use Rattle.tableau.specs.Elimination.{Left, kept}
 use Rattle.tableau.specs.Steps.{Stops, quotientOf, stepOf}
-use Rattle.tableau.proofs.Stepping.{above, inside, quotient-small, step-none, step-idle, step-parts}
+use Rattle.tableau.proofs.Stepping.{inside, quotient-small, step-none, step-idle, step-parts}
 use borrow.Author.Needs.{needs}
 use Rattle.tableau.proofs.rows.step.Statement.{statement}
 use Rattle.tableau.proofs.rows.step.Tie as tie
@@ -68,7 +69,7 @@ shared-slice-copy-out-quotient : tie.Need-shared-slice-copy-out-quotient
 shared-slice-copy-out-quotient c = omega (arith, inside (c .before .before .before .pre .0), c .before .before .before .pre .0 .wide)
 
 quotient-requires : tie.Need-quotient-requires
-quotient-requires c κs = rw (back _ (c .quotient-arg .given)) (above (c .before .before .before .before .pre .0 .lead))
+quotient-requires c κs = rw (back _ (c .quotient-arg .given)) (positive-above (c .before .before .before .before .pre .0 .lead))
 
 magnitude-requires-2 : tie.Need-magnitude-requires-2
 magnitude-requires-2 c κs = search needs
