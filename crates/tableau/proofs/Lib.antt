@@ -4,3 +4,4 @@ pub mod Walking
 pub mod Choosing
 pub mod Lifting
 pub mod Rounds
+pub mod Turns

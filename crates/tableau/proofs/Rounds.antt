@@ -3,26 +3,30 @@
 --   lifted-pivot  the chosen row at the top is a pivot
 --   below-wide, below-small   the rows below it
 --   round-is      a round: this pivot, and the lower rows by it
+--   pivot-is ..   the same of what the code has then
+--   round-stops   and what it answers and leaves once it has taken the pivot from the lower rows
 -- Assumes nothing.
 use mathlib.Core.Path.{_≡_, refl, sym, _∙_, ap, ap₂, subst}
+use mathlib.Core.Bool.{Bool}
 use mathlib.Core.List.{List, [], _∷_, _++_, append-assoc}
 use Prim.Native.Nat.{ℕ, zero, suc, _+_, _*_, _-_, _<_, _≤_}
 use native.Mathlib.Nat.{zero-mul, zero-add, suc-mul}
 use native.Mathlib.Omega.{arith}
 use lib.IntN.{ℤ, pos, negsuc}
 use lib.ListN.{length, take, drop, length-append, length-drop, take-append-drop}
-use lib.Seq.{length-take-le, drop-at, drop-drop, take-add}
+use lib.Seq.{length-take-le, take-at, drop-at, drop-drop, take-add}
 use Rattle.whole.specs.Lists.{entry}
 use Rattle.whole.specs.Integers.{Positive, positive-of}
-use Rattle.lattice.specs.Rows.{neg, ZeroTo, chop}
+use Rattle.lattice.specs.Rows.{neg, ZeroTo, flat, chop}
 use Rattle.lattice.specs.RowLaws.{length-neg, ZeroTo-neg}
 use Rattle.lattice.specs.Span.{All, all-at}
 use Rattle.lattice.specs.FlatLaws.{chop-row, chop-set, length-chop, row-in-table, first-wide}
 use Rattle.tableau.specs.Elimination.{Gathered, Choice, at, choose, exchange, signed, clear, round}
 use Rattle.tableau.specs.GatherLaws.{Chosen, chosen-stands, round-lead}
 use Rattle.tableau.specs.Within.{Within, within-take, within-drop, within-append, within-neg}
-use Rattle.tableau.specs.Steps.{Pivot}
-use Rattle.tableau.specs.Tails.{Tail, Picked, lowerFirst, liftedRow, roundOf}
+use Rattle.tableau.specs.Steps.{StopsRun, eachOf, Pivot}
+use Rattle.tableau.specs.Tails.{Tail, Picked, lowerFirst, liftedRow, Lifted, Gathers, roundOf}
+use Rattle.tableau.specs.declared.rows.Way.the-variants.{Below}
 
 -- ---- the exchange
 more : (j w : ℕ) → suc j * w ≡ w + j * w
@@ -30,6 +34,11 @@ more j w = omega (arith, suc-mul j w)
 
 behind : (j w : ℕ) → suc j * w + w ≡ w + (j * w + w)
 behind j w = omega (arith, suc-mul j w)
+
+-- the rows below the first
+pub one-less : (k w : ℕ) → 0 < k → k * w ≡ w + (k - 1) * w
+one-less zero w p = absurd (omega arith)
+one-less (suc k) w p = let e : suc k - 1 ≡ k = omega arith in rw e (more k w)
 
 -- what lies behind the first row, once that has taken the place of row j
 lowered-first : (k w : ℕ) (t : List ℤ) → length t ≡ suc k * w → drop w (lowerFirst w 0 t) ≡ drop w t
@@ -130,14 +139,48 @@ module _ {k w c j : ℕ} {t : List ℤ} (h : Tail k w c t) (g : Picked k w c t j
       ∙ omega (arith, ends-inside)
 
   pub below-wide : length (drop w (lowerFirst w j t)) ≡ (k - 1) * w
-  below-wide = omega (arith, length-drop w (lowerFirst w j t), all-wide, h .wide, less k w (g .some))
-    where
-      less : (k w : ℕ) → 0 < k → k * w ≡ w + (k - 1) * w
-      less zero w p = absurd (omega arith)
-      less (suc k) w p = let e : suc k - 1 ≡ k = omega arith in rw e (more k w)
+  below-wide = omega (arith, length-drop w (lowerFirst w j t), all-wide, h .wide, one-less k w (g .some))
 
   pub below-small : Within (drop w (lowerFirst w j t))
   below-small =
       within-drop w (lowerFirst w j t)
       (within-append (take (j * w) t) (take w t ++ drop (j * w + w) t) (within-take (j * w) t (h .small))
       (within-append (take w t) (drop (j * w + w) t) (within-take w t (h .small)) (within-drop (j * w + w) t (h .small))))
+
+-- ---- what the code has once the chosen row is at the top: the pivot p and the tail u
+pub own : {w c : ℕ} {r : List ℤ} → Pivot w c r → Pivot (length r) c r
+own h = record { wide = refl; small = h .small; front = h .front; lead = h .lead }
+
+module _ {k w c j : ℕ} {t p u : List ℤ} (h : Tail k w c t) (g : Picked k w c t j) (l : Lifted c j w t p u) where
+  pub pivot-is : Pivot (length p) c p
+  pivot-is = subst (λ (r : List ℤ). Pivot (length r) c r) (sym (l .pivot)) (own (lifted-pivot h g))
+
+  pub pivot-wide : length p ≡ w
+  pivot-wide = ap length (l .pivot) ∙ lifted-pivot h g .wide
+
+  pub top-is : take w u ≡ p
+  top-is = ap (take w) (l .tail) ∙ take-at p (drop w (lowerFirst w j t)) w pivot-wide
+
+  pub below-is : drop w u ≡ drop w (lowerFirst w j t)
+  below-is = ap (drop w) (l .tail) ∙ drop-at p (drop w (lowerFirst w j t)) w pivot-wide
+
+  pub below-is-wide : length (drop w u) ≡ (k - 1) * length p
+  below-is-wide = ap length below-is ∙ below-wide h g ∙ ap (λ (n : ℕ). (k - 1) * n) (sym pivot-wide)
+
+  pub below-is-small : Within (drop w u)
+  below-is-small = subst Within (sym below-is) (below-small h g)
+
+  -- the lower rows by the pivot are the round's
+  same-rows : roundOf k w c t ≡ clear c p (chop (k - 1) (length p) (drop w u))
+  same-rows =
+      round-is h g
+      ∙ ap₂ (λ (r : List ℤ) (B : List (List ℤ)). clear c r B) (sym (l .pivot))
+      (ap₂ (λ (n : ℕ) (v : List ℤ). chop (k - 1) n v) (sym pivot-wide) (sym below-is))
+
+  pub round-stops : (b : Bool) (v : List ℤ) → StopsRun (eachOf Below c p (k - 1) (drop w u)) b v → Gathers (roundOf k w c t) b (take w u ++ v) p
+  unfolding clear
+  round-stops b v s = record {
+    answer = s .answer ∙ ap (λ (x : Gathered). x .over) (sym same-rows);
+    left = λ e. ap₂ (λ (x y : List ℤ). x ++ y) top-is (s .left e) ∙ ap (λ (x : Gathered). flat (x .pivot ∷ x .below)) (sym same-rows);
+    row = λ e. ap (λ (x : Gathered). x .pivot) (sym same-rows);
+  }

@@ -50,12 +50,11 @@ lower-first-requires : tie.Need-lower-first-requires
 lower-first-requires c κs = search needs
 
 raise-requires : tie.Need-raise-requires
-raise-requires c κs =
-    (
-      omega (arith, c .before .before .before .before .before .copy .kept .0, c .before .before .before .before .before .before .before .before .before .pre .1 .0),
-      subst Within (sym (out (c .before .before .before .before .before)))
-          (within-take (length (c .before .before .before .before .before .before .before .before .before .args .pivot .now)) (drop (c .before .before .before .before .before .before .before .before .before .args .j * length (c .before .before .before .before .before .before .before .before .before .args .pivot .now)) (c .before .before .before .before .before .before .before .before .before .args .t .now)) (within-drop (c .before .before .before .before .before .before .before .before .before .args .j * length (c .before .before .before .before .before .before .before .before .before .args .pivot .now)) (c .before .before .before .before .before .before .before .before .before .args .t .now) (c .before .before .before .before .before .before .before .before .before .pre .1 .1))),
-    )
+raise-requires c κs = (
+  omega (arith, c .before .before .before .before .before .copy .kept .0, c .before .before .before .before .before .before .before .before .before .pre .1 .0),
+  subst Within (sym (out (c .before .before .before .before .before)))
+      (within-take (length (c .before .before .before .before .before .before .before .before .before .args .pivot .now)) (drop (c .before .before .before .before .before .before .before .before .before .args .j * length (c .before .before .before .before .before .before .before .before .before .args .pivot .now)) (c .before .before .before .before .before .before .before .before .before .args .t .now)) (within-drop (c .before .before .before .before .before .before .before .before .before .args .j * length (c .before .before .before .before .before .before .before .before .before .args .pivot .now)) (c .before .before .before .before .before .before .before .before .before .args .t .now) (c .before .before .before .before .before .before .before .before .before .pre .1 .1))),
+)
 
 slice-relend-prefix-copy : tie.Need-slice-relend-prefix-copy
 slice-relend-prefix-copy c = search needs

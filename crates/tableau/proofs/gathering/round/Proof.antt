@@ -1,50 +1,57 @@
+-- `tableau::gathering::round` meets its contract: the chosen row comes to the top, and each row below it has its step. Assumes nothing.
+use mathlib.Core.Path.{_≡_, sym, _∙_, ap, ap₂, subst}
+use mathlib.Core.List.{List, _++_}
+use Prim.Native.Nat.{ℕ, _-_, _*_, _≤_}
+use native.Mathlib.Omega.{arith}
+use lib.IntN.{ℤ}
+use lib.ListN.{length, take, drop}
+use Rattle.lattice.proofs.Parts.{tail-is, tail-back}
+use Rattle.tableau.specs.Within.{Within}
+use Rattle.tableau.specs.Tails.{Gathers}
+use Rattle.tableau.proofs.Rounds.{ends-inside, all-wide, pivot-is, below-is-wide, below-is-small, round-stops}
 use borrow.Author.Needs.{needs}
 use Rattle.tableau.proofs.gathering.round.Statement.{statement}
 use Rattle.tableau.proofs.gathering.round.Tie as tie
-use Rattle.tableau.proofs.gathering.round.Reads as reads
-use Rattle.tableau.proofs.gathering.round.Lts as lts
-use Rattle.tableau.proofs.gathering.lift.Reads as lift-reads
-use Rattle.tableau.proofs.rows.each.Reads as each-reads
 
--- src/gathering.rt:112:5
 lift-requires : tie.Need-lift-requires
-lift-requires c κs = ?
+lift-requires c κs = ((c .before .before .pre .0 .narrow, ends-inside (c .before .before .pre .0) (c .before .before .pre .1)), (c .before .before .pre .0 .column, c .before .before .pre .0 .small))
 
--- src/gathering.rt:113:10
 mul-each : tie.Need-mul-each
 mul-each c = search needs
 
--- src/gathering.rt:113:10
 sub-each : tie.Need-sub-each
-sub-each c = ?
+sub-each c = omega (arith, c .before .before .lift .kept .0, ends-inside (c .before .before .before .before .before .pre .0) (c .before .before .before .before .before .pre .1))
 
--- src/gathering.rt:113:10
 part-each-start : tie.Need-part-each-start
-part-each-start c = ?
+part-each-start c = omega (arith, c .before .before .lift .kept .0, ends-inside (c .before .before .before .before .before .pre .0) (c .before .before .before .before .before .pre .1))
 
--- src/gathering.rt:113:10
 part-each-end : tie.Need-part-each-end
 part-each-end c = search needs
 
--- src/gathering.rt:113:23
 sub-each-2 : tie.Need-sub-each-2
 sub-each-2 c = search needs
 
--- src/gathering.rt:113:5
 each-requires : tie.Need-each-requires
-each-requires c κs = ?
+each-requires c κs =
+    let w : ℕ = length (c .before .before .before .before .before .before .before .args .pivot .now) in
+    let u : List ℤ = c .before .before .before .before .lift .last .0 in (
+      ap length (tail-is w u) ∙ below-is-wide (c .before .before .before .before .before .before .before .pre .0) (c .before .before .before .before .before .before .before .pre .1) (c .before .before .before .before .lift .ensures),
+      (pivot-is (c .before .before .before .before .before .before .before .pre .0) (c .before .before .before .before .before .before .before .pre .1) (c .before .before .before .before .lift .ensures), subst Within (sym (tail-is w u)) (below-is-small (c .before .before .before .before .before .before .before .pre .0) (c .before .before .before .before .before .before .before .pre .1) (c .before .before .before .before .lift .ensures))),
+    )
 
--- src/gathering.rt:106:1
 same-length : tie.Need-same-length
 same-length c = search needs
 
--- src/gathering.rt:106:1
 same-length-2 : tie.Need-same-length-2
 same-length-2 c = search needs
 
--- src/gathering.rt:106:1
 returns : tie.Need-returns
-returns c = ?
+returns c =
+    let w : ℕ = length (c .before .before .before .before .before .before .before .before .before .args .pivot .now) in
+    let u : List ℤ = c .before .before .before .before .before .before .lift .last .0 in
+    let v : List ℤ = c .before .each .last .0 in
+    rw (tail-back w u v (omega (arith, c .before .before .before .before .before .before .lift .kept .0, ends-inside (c .before .before .before .before .before .before .before .before .before .pre .0) (c .before .before .before .before .before .before .before .before .before .pre .1))))
+    (round-stops (c .before .before .before .before .before .before .before .before .before .pre .0) (c .before .before .before .before .before .before .before .before .before .pre .1) (c .before .before .before .before .before .before .lift .ensures) (c .before .each .result) v (rw (tail-is w u) at (c .before .each .ensures)))
 
 pub round-spec : {M : Type 1} → statement M
 round-spec =
