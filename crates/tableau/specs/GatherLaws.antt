@@ -68,7 +68,7 @@ clear-steps : (c : ℕ) (r : List ℤ) (B : List (List ℤ)) → (r ∷ B) ~ (cl
 unfolding clear
 clear-steps c r B = simp append-nil at (each-steps r (lowered c r) (lowered-steps c r) B [])
 
-round-steps : (c : ℕ) (b : List ℤ) (B : List (List ℤ)) → (b ∷ B) ~ (round c b B .pivot ∷ round c b B .below)
+pub round-steps : (c : ℕ) (b : List ℤ) (B : List (List ℤ)) → (b ∷ B) ~ (round c b B .pivot ∷ round c b B .below)
 unfolding round
 round-steps c b B =
     let x : List ℤ × List (List ℤ) = exchange (choose c (b ∷ B)) b B in
@@ -152,10 +152,10 @@ pub record Chosen (n c : ℕ) (b : List ℤ) (B : List (List ℤ)) (j p : ℕ) :
   pub choice : choose c (b ∷ B) ≡ at j p
 
 module _ {n c : ℕ} {b : List ℤ} {B : List (List ℤ)} {j p : ℕ} (h : Chosen n c b B j p) where
-  chosen-stands : Stands c (b ∷ B) (at j p)
+  pub chosen-stands : Stands c (b ∷ B) (at j p)
   chosen-stands = subst (Stands c (b ∷ B)) (h .choice) (choose-stands c (b ∷ B))
 
-  round-lead : entry c (round c b B .pivot) ≡ pos p
+  pub round-lead : entry c (round c b B .pivot) ≡ pos p
   unfolding round clear
   round-lead =
       signed-entry c (exchange (choose c (b ∷ B)) b B .0) p
@@ -168,7 +168,7 @@ module _ {n c : ℕ} {b : List ℤ} {B : List (List ℤ)} {j p : ℕ} (h : Chose
       (steps-length n (exchange-steps (choose c (b ∷ B)) b B) (h .wide) .1)
 
   -- what holds of the choice in the lower rows: there is none, or a smaller one, which is that of all rows too
-  round-next : (P : Choice → Type 0) → (Stands c (round c b B .below) none → P none)
+  pub round-next : (P : Choice → Type 0) → (Stands c (round c b B .below) none → P none)
       → ((i k : ℕ) → k < p → Chosen n c (round c b B .pivot) (round c b B .below) (suc i) k → P (at i k))
       → P (choose c (round c b B .below))
   unfolding Below choose

@@ -9,3 +9,7 @@ pub mod TableLaws
 pub mod FoundLaws
 pub mod RightLaws
 pub mod Theorems
+pub mod Within
+pub mod Steps
+pub mod Choices
+pub mod Tails

@@ -1,1 +1,3 @@
-// The tableau: the definitions are in specs/.
+// The tableau: a problem's table, its elimination and the right side. The definitions are in specs/.
+mod gathering;
+mod rows;

@@ -1,0 +1,7 @@
+-- The root of the laws that the proofs cite.
+pub mod Stepping
+pub mod Walking
+pub mod Choosing
+pub mod Lifting
+pub mod Rounds
+pub mod Turns

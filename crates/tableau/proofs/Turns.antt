@@ -1,0 +1,115 @@
+-- Laws of the rounds of a column on a tail t, which a round with no number beyond ±M leaves as u.
+--   next-tail      u is such a tail again
+--   next-top, -below   its first row and the others are the round's
+--   marked         a number beyond ±M in the round is one in gathering
+--   finished       where the rows below have only 0 at c, gathering is done
+--   going-on       else it goes on with a smaller choice, among the rows below
+-- Assumes nothing.
+use mathlib.Core.Path.{_≡_, refl, sym, _∙_, ap, ap₂, subst}
+use mathlib.Core.Bool.{Bool, true, false, _||_}
+use mathlib.Core.List.{List, [], _∷_, _++_}
+use Prim.Native.Nat.{ℕ, zero, suc, _+_, _*_, _-_, _<_, _≤_}
+use native.Mathlib.Numerals.{add-one}
+use native.Mathlib.Omega.{arith}
+use lib.IntN.{ℤ}
+use lib.ListN.{length, take, drop, length-drop}
+use lib.Seq.{take-at, drop-at}
+use Rattle.lattice.specs.Rows.{ZeroTo, flat, chop}
+use Rattle.lattice.specs.RowLaws.{ZeroTo-plus, ZeroTo-neg}
+use Rattle.lattice.specs.Span.{All, Len, steps-length, steps-all}
+use Rattle.lattice.specs.FlatLaws.{chop-next, chop-flat, flat-chop, length-chop}
+use Rattle.tableau.specs.Elimination.{Gathered, Choice, none, at, choose, clear, round, onward}
+use Rattle.tableau.specs.GatherLaws.{Chosen, chosen-stands, round-steps, round-next, gathering, following, gathering-round}
+use Rattle.tableau.specs.Within.{Within, within-append}
+use Rattle.tableau.specs.Steps.{Pivot}
+use Rattle.tableau.specs.Tails.{Tail, Picked, lowerFirst, liftedRow, Gathers, roundOf, gatheringOf}
+use Rattle.tableau.specs.declared.rows.Way.the-variants.{Below}
+use Rattle.tableau.proofs.Walking.{each-count, each-within, stepping}
+use Rattle.tableau.proofs.Rounds.{round-is, lifted-pivot, below-wide, below-small}
+
+-- the size of the choice, which falls with each round
+abbrev pub sizeOf : Choice → ℕ
+sizeOf none = 0
+sizeOf (at j p) = p
+
+module _ {k w c j : ℕ} {t : List ℤ} (h : Tail k w c t) (g : Picked k w c t j) where
+  abbrev x : Gathered
+  x = roundOf k w c t
+
+  pub marked : x .over ≡ true → gatheringOf k w c t .over ≡ true
+  marked e = ap (λ (y : Gathered). y .over) (gathering-round (g .is)) ∙ go (choose c (x .below))
+    where
+      go : (z : Choice) → following c z x .over ≡ true
+      go none = e
+      go (at i p) = ap (λ (b : Bool). b || gathering c (x .pivot) (x .below) .over) e
+
+  pub finished : choose c (x .below) ≡ none → gatheringOf k w c t ≡ x
+  finished e = gathering-round (g .is) ∙ ap (λ (z : Choice). following c z x) e
+
+  -- ---- what the round leaves
+  rows-wide : All (Len w) (x .pivot ∷ x .below)
+  rows-wide = steps-length w (round-steps c (take w t) (chop (k - 1) w (drop w t))) (g .is .wide)
+
+  count : length (x .below) ≡ k - 1
+  unfolding clear
+  count =
+      ap (λ (y : Gathered). length (y .below)) (round-is h g)
+      ∙ each-count _ (chop (k - 1) w (drop w (lowerFirst w j t)))
+      ∙ length-chop (k - 1) w (drop w (lowerFirst w j t))
+
+  small : x .over ≡ false → Within (flat (x .pivot ∷ x .below))
+  unfolding clear
+  small e =
+      let D : List ℤ = drop w (lowerFirst w j t) in
+      subst (λ (y : Gathered). Within (flat (y .pivot ∷ y .below))) (sym (round-is h g))
+      (within-append (liftedRow w c j t) _ (lifted-pivot h g .small)
+      (each-within (chop (k - 1) w D) (stepping Below c (liftedRow w c j t))
+      (rw (flat-chop (k - 1) w D (below-wide h g)) (below-small h g))
+      (ap (λ (y : Gathered). y .over) (sym (round-is h g)) ∙ e)))
+
+  front : All (ZeroTo c) (x .pivot ∷ x .below)
+  front =
+      steps-all (ZeroTo c) (ZeroTo-neg c) (ZeroTo-plus c) (round-steps c (take w t) (chop (k - 1) w (drop w t)))
+      (subst (All (ZeroTo c)) (chop-next k w t (g .some)) (h .front))
+
+  module _ {u : List ℤ} (o : x .over ≡ false) (s : u ≡ flat (x .pivot ∷ x .below)) (l : length u ≡ length t) where
+    pub next-top : take w u ≡ x .pivot
+    next-top = ap (take w) s ∙ take-at (x .pivot) (flat (x .below)) w (rows-wide .0)
+
+    pub next-below : chop (k - 1) w (drop w u) ≡ x .below
+    next-below =
+        ap (λ (v : List ℤ). chop (k - 1) w (drop w v)) s
+        ∙ ap (chop (k - 1) w) (drop-at (x .pivot) (flat (x .below)) w (rows-wide .0))
+        ∙ ap (λ (n : ℕ). chop n w (flat (x .below))) (sym count)
+        ∙ chop-flat w (x .below) (rows-wide .1)
+
+    pub next-tail : Tail k w c u
+    next-tail = record {
+      wide = l ∙ h .wide;
+      narrow = h .narrow;
+      column = h .column;
+      small = subst Within (sym s) (small o);
+      front = subst (All (ZeroTo c)) (sym (chop-next k w u (g .some) ∙ ap₂ (λ (r : List ℤ) (B : List (List ℤ)). r ∷ B) next-top next-below)) front;
+    }
+
+    same : gatheringOf k w c u ≡ gathering c (x .pivot) (x .below)
+    same = ap₂ (gathering c) next-top next-below
+
+    pub going-on : (i p : ℕ) → choose c (x .below) ≡ at i p → (gatheringOf k w c u ≡ gatheringOf k w c t) × (p < g .size) × Chosen w c (take w u) (chop (k - 1) w (drop w u)) (i + 1) p
+    going-on i p e =
+        let n : (p < g .size) × Chosen w c (x .pivot) (x .below) (suc i) p =
+        round-next (g .is) (λ (z : Choice). z ≡ at i p → (p < g .size) × Chosen w c (x .pivot) (x .below) (suc i) p)
+        (λ _ f. absurd (never f))
+        (λ i′ p′ l′ h′ f.
+        let a : i′ ≡ i = cc in
+        let b : p′ ≡ p = cc in
+        subst (λ (m : ℕ). (p < g .size) × Chosen w c (x .pivot) (x .below) (suc m) p) a
+        (subst (λ (m : ℕ). (m < g .size) × Chosen w c (x .pivot) (x .below) (suc i′) m) b (l′, h′)))
+        e in (
+          same ∙ sym (gathering-round (g .is) ∙ ap (λ (z : Choice). following c z x) e ∙ ap (λ (b : Bool). onward b (gathering c (x .pivot) (x .below))) o),
+          n .0,
+          subst (λ (m : ℕ). Chosen w c (take w u) (chop (k - 1) w (drop w u)) m p) (sym (add-one i)) (rw (next-top, next-below) (n .1)),
+        )
+      where
+        never : none ≡ at i p → ⊥
+        never f = let z : _≡_ {A = ℕ} 0 1 = cc in omega arith

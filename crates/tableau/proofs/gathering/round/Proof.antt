@@ -1,0 +1,69 @@
+-- `tableau::gathering::round` meets its contract: the chosen row comes to the top, and each row below it has its step. Assumes nothing.
+use mathlib.Core.Path.{_≡_, sym, _∙_, ap, ap₂, subst}
+use mathlib.Core.List.{List, _++_}
+use Prim.Native.Nat.{ℕ, _-_, _*_, _≤_}
+use native.Mathlib.Omega.{arith}
+use lib.IntN.{ℤ}
+use lib.ListN.{length, take, drop}
+use Rattle.lattice.proofs.Parts.{tail-is, tail-back}
+use Rattle.tableau.specs.Within.{Within}
+use Rattle.tableau.specs.Tails.{Gathers}
+use Rattle.tableau.proofs.Rounds.{ends-inside, all-wide, pivot-is, below-is-wide, below-is-small, round-stops}
+use borrow.Author.Needs.{needs}
+use Rattle.tableau.proofs.gathering.round.Statement.{statement}
+use Rattle.tableau.proofs.gathering.round.Tie as tie
+
+lift-requires : tie.Need-lift-requires
+lift-requires c κs = ((c .before .before .pre .0 .narrow, ends-inside (c .before .before .pre .0) (c .before .before .pre .1)), (c .before .before .pre .0 .column, c .before .before .pre .0 .small))
+
+mul-each : tie.Need-mul-each
+mul-each c = search needs
+
+sub-each : tie.Need-sub-each
+sub-each c = omega (arith, c .before .before .lift .kept .0, ends-inside (c .before .before .before .before .before .pre .0) (c .before .before .before .before .before .pre .1))
+
+part-each-start : tie.Need-part-each-start
+part-each-start c = omega (arith, c .before .before .lift .kept .0, ends-inside (c .before .before .before .before .before .pre .0) (c .before .before .before .before .before .pre .1))
+
+part-each-end : tie.Need-part-each-end
+part-each-end c = search needs
+
+sub-each-2 : tie.Need-sub-each-2
+sub-each-2 c = search needs
+
+each-requires : tie.Need-each-requires
+each-requires c κs =
+    let w : ℕ = length (c .before .before .before .before .before .before .before .args .pivot .now) in
+    let u : List ℤ = c .before .before .before .before .lift .last .0 in (
+      ap length (tail-is w u) ∙ below-is-wide (c .before .before .before .before .before .before .before .pre .0) (c .before .before .before .before .before .before .before .pre .1) (c .before .before .before .before .lift .ensures),
+      (pivot-is (c .before .before .before .before .before .before .before .pre .0) (c .before .before .before .before .before .before .before .pre .1) (c .before .before .before .before .lift .ensures), subst Within (sym (tail-is w u)) (below-is-small (c .before .before .before .before .before .before .before .pre .0) (c .before .before .before .before .before .before .before .pre .1) (c .before .before .before .before .lift .ensures))),
+    )
+
+same-length : tie.Need-same-length
+same-length c = search needs
+
+same-length-2 : tie.Need-same-length-2
+same-length-2 c = search needs
+
+returns : tie.Need-returns
+returns c =
+    let w : ℕ = length (c .before .before .before .before .before .before .before .before .before .args .pivot .now) in
+    let u : List ℤ = c .before .before .before .before .before .before .lift .last .0 in
+    let v : List ℤ = c .before .each .last .0 in
+    rw (tail-back w u v (omega (arith, c .before .before .before .before .before .before .lift .kept .0, ends-inside (c .before .before .before .before .before .before .before .before .before .pre .0) (c .before .before .before .before .before .before .before .before .before .pre .1))))
+    (round-stops (c .before .before .before .before .before .before .before .before .before .pre .0) (c .before .before .before .before .before .before .before .before .before .pre .1) (c .before .before .before .before .before .before .lift .ensures) (c .before .each .result) v (rw (tail-is w u) at (c .before .each .ensures)))
+
+pub round-spec : {M : Type 1} → statement M
+round-spec =
+    tie.close
+    (tie.spec
+    lift-requires
+    mul-each
+    sub-each
+    part-each-start
+    part-each-end
+    sub-each-2
+    each-requires
+    same-length
+    same-length-2
+    returns)

@@ -1,0 +1,110 @@
+use borrow.Rule.Slice.PartMut.{same-len-mid}
+-- `tableau::rows::each` meets its contract: the rows are taken from the top, and each becomes its step. Assumes nothing.
+use mathlib.Core.Path.{_≡_, refl, sym, _∙_, ap}
+use mathlib.Core.Bool.{Bool, true, false, true≢false}
+use mathlib.Core.List.{List}
+use Prim.Native.Nat.{ℕ, _+_, _-_, _*_, _≤_}
+use native.Mathlib.Omega.{arith}
+use borrow.Author.Needs.{needs}
+use lib.IntN.{ℤ}
+use lib.ListN.{length, take, drop}
+use Rattle.lattice.proofs.Parts.{part-is, part-back}
+use Rattle.tableau.specs.Elimination.{Left}
+use Rattle.tableau.specs.Steps.{Stops, stepOf, Pivot}
+use Rattle.tableau.proofs.Walking.{Walk, starts, goes-on, stops, ends, ahead, row, row-wide, row-small, stepping}
+use Rattle.tableau.proofs.rows.each.Statement.{statement}
+use Rattle.tableau.proofs.rows.each.Tie as tie
+
+abbrev Inv-loop : tie.InvT-loop
+Inv-loop t₀ rows pivot c way w at₀ left₀ t at left = Walk (stepOf way c pivot) w rows t₀ t at left
+
+abbrev μ-loop : tie.MeasureT-loop
+μ-loop t₀ rows pivot c way w at₀ left₀ t at left = left
+
+-- what the call answers and leaves of the row that comes next
+told :
+    (c : tie.After-step Inv-loop μ-loop) →
+    let a = c .before .before .before .before .args in
+    let l = c .before .before .before .loop in
+    let f : Left = stepOf (a .way) (a .c) (a .pivot .now) (row (l .inv) (c .before .before .loop-test .taken)) in
+    Stops (f .over) (f .row) (c .step .result) (c .step .last .0)
+told c =
+    let a = c .before .before .before .before .args in
+    let l = c .before .before .before .loop in
+    rw (part-is (l .at) (length (a .pivot .now)) (l .t)) at (c .step .ensures)
+
+loop-holds : tie.Need-loop-holds Inv-loop μ-loop
+loop-holds c = starts _ _ _ _ (c .pre .0) (c .pre .1 .1)
+
+add-next : tie.Need-add-next Inv-loop μ-loop
+add-next c = omega (arith, ahead (c .before .loop .inv) (c .loop-test .taken))
+
+mul-step : tie.Need-mul-step Inv-loop μ-loop
+mul-step c = omega (arith, ahead (c .before .loop .inv) (c .loop-test .taken))
+
+sub-step : tie.Need-sub-step Inv-loop μ-loop
+sub-step c = omega arith
+
+part-step-start : tie.Need-part-step-start Inv-loop μ-loop
+part-step-start c = omega (arith, ahead (c .before .loop .inv) (c .loop-test .taken))
+
+part-step-end : tie.Need-part-step-end Inv-loop μ-loop
+part-step-end c = omega (arith, ahead (c .before .loop .inv) (c .loop-test .taken))
+
+step-requires : tie.Need-step-requires Inv-loop μ-loop
+step-requires c κs =
+    let a = c .before .before .before .args in
+    let l = c .before .before .loop in
+    rw (part-is (l .at) (length (a .pivot .now)) (l .t)) (
+      rw (row-wide (l .inv) (c .before .loop-test .taken)) (c .before .before .before .pre .1 .0),
+      row-small (l .inv) (c .before .loop-test .taken),
+    )
+
+same-length : tie.Need-same-length Inv-loop μ-loop
+same-length c =
+    let l = c .before .before .before .before .before .loop in
+    same-len-mid (l .at) (l .at + length (c .before .before .before .before .before .before .args .pivot .now) - l .at) (l .t) (c .before .before .step .last .0) (c .before .before .step .kept .0) ∙ l .inv .same
+
+returns : tie.Need-returns Inv-loop μ-loop
+returns c = record { answer = sym (stops (c .before .before .before .before .before .loop .inv) (c .before .before .before .before .loop-test .taken) (sym (told (c .before .before) .answer) ∙ c .if1 .taken)); left = λ e. absurd (true≢false e) }
+
+sub-left : tie.Need-sub-left Inv-loop μ-loop
+sub-left c = omega arith
+
+loop-less : tie.Need-loop-less Inv-loop μ-loop
+loop-less c = omega arith
+
+loop-again : tie.Need-loop-again Inv-loop μ-loop
+loop-again c =
+    let a = c .before .before .before .before .before .before .args in
+    let l = c .before .before .before .before .before .loop in
+    let o = told (c .before .before) in
+    rw (part-back (l .at) (length (a .pivot .now)) (l .t) (c .before .before .step .last .0))
+    (goes-on (l .inv) (c .before .before .before .before .loop-test .taken) (stepping (a .way) (a .c) (a .pivot .now)) (c .before .before .step .last .0) (sym (o .answer) ∙ c .if1 .left) (o .left (c .if1 .left)))
+
+same-length-2 : tie.Need-same-length-2 Inv-loop μ-loop
+same-length-2 c = c .before .loop .inv .same
+
+returns-2 : tie.Need-returns-2 Inv-loop μ-loop
+returns-2 c = ends (c .before .loop .inv) (omega arith)
+
+pub each-spec : {M : Type 1} → statement M
+each-spec =
+    tie.close
+    (tie.spec
+    Inv-loop
+    μ-loop
+    loop-holds
+    add-next
+    mul-step
+    sub-step
+    part-step-start
+    part-step-end
+    step-requires
+    same-length
+    returns
+    sub-left
+    loop-less
+    loop-again
+    same-length-2
+    returns-2)

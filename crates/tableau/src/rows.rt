@@ -1,0 +1,100 @@
+ghost use mathlib.Core.Path.{_≡_};
+ghost use lib.IntN.{ℤ, pos, natAbs, negℤ};
+ghost use lib.Signed.{_<ℤ_};
+ghost use Prim.Native.Nat.{_≤_, _*_};
+ghost use lib.ListN.{length};
+ghost use Rattle.lattice.specs.Rows.{plus, neg};
+ghost use Rattle.problem.specs.Limits.{M, anyBeyond};
+ghost use Rattle.tableau.specs.Elimination as Elimination;
+ghost use Rattle.tableau.specs.Steps.{Stops, StopsRun, quotientOf, stepOf, eachOf, Pivot};
+ghost use Rattle.tableau.specs.Within.{Within};
+use problem::Problem;
+use whole::less_product;
+use whole::magnitude;
+
+// Which rows a pivot is taken from: those below it, or those above.
+pub(crate) enum Way {
+    Below,
+    Above,
+}
+
+// Turns the sign of every number.
+pub(crate) fn negate(row: &mut [i64])
+    requires { ⌜ Within (now row) ⌝ }
+    ensures { λ _. ⌜ now (row .exit) ≡ neg (now (row .entry)) ⌝ }
+{
+    let mut i = 0;
+    while i < row.len() {
+        let x = whole::negated(row[i]);
+        row[i] = x;
+        i += 1;
+    }
+}
+
+// Takes q times the pivot from the row. Stops with true at the first number beyond M.
+fn subtract(row: &mut [i64], pivot: &[i64], q: i64) -> bool
+    requires { ⌜ length (now row) ≡ length (now pivot) ⌝ }
+    requires { ⌜ Within (now row) × Within (now pivot) ⌝ }
+    requires { ⌜ natAbs q ≤ M ⌝ }
+    ensures { λ r. ⌜ Stops (anyBeyond (plus (negℤ q) (now (pivot .entry)) (now (row .entry)))) (plus (negℤ q) (now (pivot .entry)) (now (row .entry))) r (now (row .exit)) ⌝ }
+{
+    let mut i = 0;
+    while i < row.len() {
+        let x = less_product(row[i], q, pivot[i]);
+        if Problem::MAX_NUMBER < magnitude(x) {
+            return true;
+        }
+        row[i] = x;
+        i += 1;
+    }
+    false
+}
+
+// How often the pivot goes into the entry e, by the rule of these rows.
+fn quotient(e: i64, p: i64, way: Way) -> i64
+    requires { ⌜ pos 0 <ℤ p ⌝ }
+    ensures { λ r. ⌜ r ≡ quotientOf way e p ⌝ }
+{
+    match way {
+        Way::Below => whole::gathering_quotient(e, p),
+        Way::Above => whole::floor_quotient(e, p),
+    }
+}
+
+// One row by the pivot, whose first number other than 0 is at c: the numbers before it stay as they are.
+pub(crate) fn step(row: &mut [i64], pivot: &[i64], c: usize, way: Way) -> bool
+    requires { ⌜ Pivot (length (now row)) c (now pivot) ⌝ }
+    requires { ⌜ Within (now row) ⌝ }
+    ensures { λ r. ⌜ Stops (stepOf way c (now (pivot .entry)) (now (row .entry)) .over) (stepOf way c (now (pivot .entry)) (now (row .entry)) .row) r (now (row .exit)) ⌝ }
+{
+    let e = row[c];
+    if magnitude(e) == 0 {
+        return false;
+    }
+    let q = quotient(e, pivot[c], way);
+    if magnitude(q) == 0 {
+        return false;
+    }
+    subtract(&mut row[c..], &pivot[c..], q)
+}
+
+// Each row of the table by the pivot, top first. Stops with true at the first number beyond M.
+pub(crate) fn each(t: &mut [i64], rows: usize, pivot: &[i64], c: usize, way: Way) -> bool
+    requires { ⌜ length (now t) ≡ rows * length (now pivot) ⌝ }
+    requires { ⌜ Pivot (length (now pivot)) c (now pivot) ⌝ }
+    requires { ⌜ Within (now t) ⌝ }
+    ensures { λ r. ⌜ StopsRun (eachOf way c (now (pivot .entry)) rows (now (t .entry))) r (now (t .exit)) ⌝ }
+{
+    let w = pivot.len();
+    let mut at = 0;
+    let mut left = rows;
+    while 0 < left {
+        let next = at + w;
+        if step(&mut t[at..next], pivot, c, way) {
+            return true;
+        }
+        at = next;
+        left -= 1;
+    }
+    false
+}
