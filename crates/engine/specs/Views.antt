@@ -1,6 +1,7 @@
 -- The basis as it lies in the tableau.
 --   basisView p h    how it lies there, where h rows lead in the first m columns
 --   basisStart p h   where its first number stands; the tableau's end where there is no vector
+--   leadsAt w i m t  row i leads in the first m columns
 --   basis-view       its vectors are the basis
 -- Assumes nothing.
 use mathlib.Core.Path.{_≡_, refl, sym, _∙_, ap, ap₂, subst}
@@ -13,7 +14,7 @@ use lib.Dec.{ltb}
 use lib.IntN.{ℤ}
 use lib.ListN.{length, take, drop, length-append, length-drop}
 use lib.Seq.{drop-drop, take-at, drop-append-le, drop-append-add}
-use Rattle.lattice.specs.Rows.{flat}
+use Rattle.lattice.specs.Rows.{flat, lead}
 use Rattle.lattice.specs.Span.{All, Len, all-append}
 use Rattle.lattice.specs.FlatLaws.{flat-append}
 use Rattle.problem.specs.declared.Problem.{Problem}
@@ -29,6 +30,10 @@ basisView p h = record { columns = p .columns; vectors = p .columns - h; stride 
 
 abbrev pub basisStart : Problem → ℕ → ℕ
 basisStart p h = cond (ltb h (p .columns)) (h * width p + p .rows) (p .columns * width p)
+
+-- row i of a list of rows of w numbers leads in the first m columns
+abbrev pub leadsAt : ℕ → ℕ → ℕ → List ℤ → Bool
+leadsAt w i m t = ltb (lead (take w (drop (i * w) t))) m
 
 -- ---- rows in a list
 flat-length : (w : ℕ) (T : List (List ℤ)) → All (Len w) T → length (flat T) ≡ length T * w

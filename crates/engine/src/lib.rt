@@ -1,1 +1,2 @@
-// Whole assignments and Continue: the definitions are in specs/.
+// Whole assignments and Continue: document 01's calls on lent buffers.
+mod views;
