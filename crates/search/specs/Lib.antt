@@ -6,3 +6,4 @@ pub mod Scans
 pub mod Blocking
 pub mod Searches
 pub mod Turns
+pub mod Settlings

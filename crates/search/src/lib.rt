@@ -24,9 +24,7 @@ use settling::measures::distance;
 use settling::moves::take_move;
 
 pub mod cells;
-
 pub mod ranking;
-
 pub mod scan;
 
 // What a search goes by.
@@ -111,7 +109,14 @@ fn turn_over(cells: &[i64], basis: &[i64], view: Basis) -> Turn
 }
 
 // The part that is reached, and its step.
-fn next_turn(values: &[i64], lower: &[i64], upper: &[i64], goals: &[i64], basis: &[i64], view: Basis) -> Turn
+fn next_turn(
+    values: &[i64],
+    lower: &[i64],
+    upper: &[i64],
+    goals: &[i64],
+    basis: &[i64],
+    view: Basis,
+) -> Turn
     requires { ⌜ Ready view (now values) (now lower) (now upper) (now goals) (now basis) ⌝ }
     ensures { λ r. ⌜ r ≡ turnOf (cols view (now (lower .entry)) (now (upper .entry)) (now (goals .entry))) (vectors view (now (basis .entry))) (now (values .entry)) ⌝ }
 {
@@ -119,4 +124,86 @@ fn next_turn(values: &[i64], lower: &[i64], upper: &[i64], goals: &[i64], basis:
     let used = 4 * view.columns;
     pack(&mut cells[..used], values, lower, upper, goals);
     turn_over(&cells[..used], basis, view)
+}
+
+// The next step of settling: the first ranked column that a move improves, and its first such move.
+pub fn next_step(
+    values: &[i64],
+    lower: &[i64],
+    upper: &[i64],
+    goals: &[i64],
+    basis: &[i64],
+    view: Basis,
+) -> Step
+    requires { ⌜ Ready view (now values) (now lower) (now upper) (now goals) (now basis) ⌝ }
+    ensures { λ r. ⌜ r ≡ nextStep (cols view (now (lower .entry)) (now (upper .entry)) (now (goals .entry))) (vectors view (now (basis .entry))) (now (values .entry)) ⌝ }
+{
+    let turn = next_turn(values, lower, upper, goals, basis, view);
+    turn.step
+}
+
+// The verdict where no move improves.
+fn at_rest(part: Part, counts: Counts) -> Answer
+    ensures { λ r. ⌜ r ≡ Settle.atRest part counts ⌝ }
+{
+    match part {
+        Part::Bounds => Answer::Outside(counts),
+        Part::Goals => Answer::Fitted(counts),
+    }
+}
+
+// The counts with one more step of a part.
+fn counted(part: Part, counts: Counts) -> Counts
+    requires { ⌜ (counts .bounds < 4294967295) × (counts .goals < 4294967295) ⌝ }
+    ensures { λ r. ⌜ r ≡ Settle.counted part counts ⌝ }
+{
+    match part {
+        Part::Bounds => Counts {
+            bounds: counts.bounds + 1,
+            goals: counts.goals,
+        },
+        Part::Goals => Counts {
+            bounds: counts.bounds,
+            goals: counts.goals + 1,
+        },
+    }
+}
+
+// Takes steps while some move improves and the limit is not reached. Whether a move improves is looked at first: a list at rest is never spent.
+pub fn settle(
+    values: &mut [i64],
+    lower: &[i64],
+    upper: &[i64],
+    goals: &[i64],
+    basis: &[i64],
+    view: Basis,
+    limit: u32,
+) -> Answer
+    requires { ⌜ Ready view (now values) (now lower) (now upper) (now goals) (now basis) ⌝ }
+    ensures { λ r. ⌜ r ≡ Settle.settle limit (cols view (now (lower .entry)) (now (upper .entry)) (now (goals .entry))) (vectors view (now (basis .entry))) (now (values .entry)) .answer ⌝ }
+    ensures { λ _. ⌜ now (values .exit) ≡ Settle.settle limit (cols view (now (lower .entry)) (now (upper .entry)) (now (goals .entry))) (vectors view (now (basis .entry))) (now (values .entry)) .values ⌝ }
+{
+    let mut counts = Counts {
+        bounds: 0,
+        goals: 0,
+    };
+    let mut left = limit;
+    loop {
+        let turn = next_turn(values, lower, upper, goals, basis, view);
+        let part = turn.part;
+        let step = turn.step;
+        match step {
+            Step::Rest => {
+                return at_rest(part, counts);
+            }
+            Step::Take(_, o) => {
+                if left == 0 {
+                    return Answer::Spent(counts);
+                }
+                take_move(values, basis, view, o);
+                counts = counted(part, counts);
+                left -= 1;
+            }
+        }
+    }
 }

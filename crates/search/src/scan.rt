@@ -108,7 +108,14 @@ fn consider(search: Search, cells: &[i64], basis: &[i64], order: &[usize], o: Mo
 }
 
 // After +Ns and −Ns.
-fn both_signs(search: Search, cells: &[i64], basis: &[i64], order: &[usize], s: usize, z: Best) -> Best
+fn both_signs(
+    search: Search,
+    cells: &[i64],
+    basis: &[i64],
+    order: &[usize],
+    s: usize,
+    z: Best,
+) -> Best
     requires { ⌜ Setup search (now cells) (now basis) (now order) × (s < search .view .vectors) × (z .at ≤ length (now order)) ⌝ }
     ensures { λ r. ⌜ r ≡ Scans.scan (better search (now (cells .entry)) (now (basis .entry))) (now (order .entry)) (signs s) z ⌝ }
 {
@@ -129,7 +136,14 @@ fn both_signs(search: Search, cells: &[i64], basis: &[i64], order: &[usize], s: 
 }
 
 // After the pairs of two vectors: ++, +−, −+, −−.
-fn four_signs(search: Search, cells: &[i64], basis: &[i64], order: &[usize], p: Pair, z: Best) -> Best
+fn four_signs(
+    search: Search,
+    cells: &[i64],
+    basis: &[i64],
+    order: &[usize],
+    p: Pair,
+    z: Best,
+) -> Best
     requires { ⌜ Setup search (now cells) (now basis) (now order) × (p .s < search .view .vectors) × (p .t < search .view .vectors) × (z .at ≤ length (now order)) ⌝ }
     ensures { λ r. ⌜ r ≡ Scans.scan (better search (now (cells .entry)) (now (basis .entry))) (now (order .entry)) (signPairs (p .s) (p .t)) z ⌝ }
 {
@@ -158,7 +172,14 @@ fn singles(search: Search, cells: &[i64], basis: &[i64], order: &[usize], z: Bes
 }
 
 // After the pairs of Ns with the vectors behind it.
-fn pairs_with(search: Search, cells: &[i64], basis: &[i64], order: &[usize], s: usize, z: Best) -> Best
+fn pairs_with(
+    search: Search,
+    cells: &[i64],
+    basis: &[i64],
+    order: &[usize],
+    s: usize,
+    z: Best,
+) -> Best
     requires { ⌜ Setup search (now cells) (now basis) (now order) × (s < search .view .vectors) × (z .at ≤ length (now order)) ⌝ }
     ensures { λ r. ⌜ r ≡ Scans.scan (better search (now (cells .entry)) (now (basis .entry))) (now (order .entry)) (Moves.pairsWith (search .view .vectors - (s + 1)) s (s + 1)) z ⌝ }
 {

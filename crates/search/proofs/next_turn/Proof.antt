@@ -1,14 +1,12 @@
-use Rattle.search.specs.Turns.{part-room}
 -- `search::next_turn` meets its contract: the cells are packed from the lists, and the turn over them is that of the lists. Assumes nothing.
-use mathlib.Core.Path.{_≡_, sym, _∙_, ap, subst}
-use mathlib.Core.List.{List, _++_}
-use Prim.Native.Nat.{ℕ, _*_, _≤_}
+use mathlib.Core.Path.{sym, _∙_, ap, subst}
+use mathlib.Core.List.{List}
+use Prim.Native.Nat.{_*_}
 use native.Mathlib.Omega.{arith}
-use lib.IntN.{ℤ}
-use lib.ListN.{length, take, drop}
-use Rattle.settling.specs.declared.Basis.{Basis}
-use Rattle.search.specs.Turns.{Laid, Turnable, turnOver, part-length, part-back, part-fits, laid-pack, laid-turnable, laid-turn}
 use borrow.Author.Needs.{needs}
+use lib.IntN.{ℤ}
+use lib.ListN.{length}
+use Rattle.search.specs.Turns.{part-room, Laid, Turnable, turnOver, part-length, part-back, part-fits, laid-pack, laid-turnable, laid-turn}
 use Rattle.search.proofs.next_turn.Statement.{statement}
 use Rattle.search.proofs.next_turn.Tie as tie
 

@@ -1,13 +1,11 @@
 -- `search::step_of` meets its contract: the order holds the ranking, which is in order. Assumes nothing.
 use mathlib.Core.Path.{_≡_, sym, _∙_, ap, subst}
-use mathlib.Core.List.{List}
-use Prim.Native.Nat.{ℕ}
 use native.Mathlib.Omega.{arith}
-use lib.ListN.{length, take, length-take}
+use borrow.Author.Needs.{needs}
+use lib.ListN.{take, length-take}
 use Rattle.settling.specs.Steps as Steps
 use Rattle.settling.specs.Views.{vectors}
 use Rattle.search.specs.Searches.{columnsIn, valuesIn, InOrder, ranking-cells, ranking-in-order}
-use borrow.Author.Needs.{needs}
 use Rattle.search.proofs.step_of.Statement.{statement}
 use Rattle.search.proofs.step_of.Tie as tie
 

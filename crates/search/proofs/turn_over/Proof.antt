@@ -1,13 +1,12 @@
 -- `search::turn_over` meets its contract: it takes the step of the part that is reached. Assumes nothing.
 use mathlib.Core.Path.{_≡_, _∙_, ap}
+use borrow.Author.Needs.{needs}
 use Rattle.settling.specs.declared.Part.{Part}
 use Rattle.settling.specs.Steps.{partIf, partOf}
 use Rattle.settling.specs.Steps as Steps
 use Rattle.settling.specs.Views.{vectors}
-use Rattle.search.specs.declared.Turn.{Turn}
 use Rattle.search.specs.Cells.{columnsOf, valuesOf}
 use Rattle.search.specs.Turns.{inside-is}
-use borrow.Author.Needs.{needs}
 use Rattle.search.proofs.turn_over.Statement.{statement}
 use Rattle.search.proofs.turn_over.Tie as tie
 

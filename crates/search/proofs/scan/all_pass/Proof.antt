@@ -1,8 +1,8 @@
 -- `search::scan::all_pass` meets its contract: the loop leaves at the first column that does not pass. Assumes nothing.
-use mathlib.Core.Path.{_≡_, sym, _∙_, refl, subst}
-use mathlib.Core.Bool.{Bool, true, false}
+use mathlib.Core.Path.{sym}
+use mathlib.Core.Bool.{Bool}
 use mathlib.Core.List.{List}
-use Prim.Native.Nat.{ℕ, _-_, _<_, _≤_}
+use Prim.Native.Nat.{ℕ, _-_}
 use native.Mathlib.Omega.{arith}
 use lib.IntN.{ℤ}
 use Rattle.whole.specs.Counted.{SoFar, starts, goes-on, ends, fails}

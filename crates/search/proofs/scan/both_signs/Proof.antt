@@ -1,16 +1,15 @@
 -- `search::scan::both_signs` meets its contract: it tries the two moves in their order. Assumes nothing.
-use mathlib.Core.Path.{_≡_, _∙_, ap}
+use mathlib.Core.Path.{_∙_, ap}
 use mathlib.Core.Bool.{Bool}
 use Prim.Native.Nat.{ℕ}
 use native.Mathlib.Omega.{arith}
+use borrow.Author.Needs.{needs}
 use lib.IntN.{pos, negsuc}
 use Rattle.settling.specs.declared.Move.{Move}
 use Rattle.settling.specs.Moves.{single}
-use Rattle.settling.specs.Views.{OfBasis}
 use Rattle.search.specs.Scans.{consider-within}
 use Rattle.search.specs.Scans as Scans
 use Rattle.search.specs.Searches.{better}
-use borrow.Author.Needs.{needs}
 use Rattle.search.proofs.scan.both_signs.Statement.{statement}
 use Rattle.search.proofs.scan.both_signs.Tie as tie
 

@@ -1,11 +1,10 @@
 -- `search::scan::consider` meets its contract: the place that was found is better, or the best is kept. Assumes nothing.
-use Prim.Native.Nat.{ℕ}
 use mathlib.Core.Bool.{Bool}
-use mathlib.Core.List.{List}
+use Prim.Native.Nat.{ℕ}
+use borrow.Author.Needs.{needs}
 use Rattle.settling.specs.declared.Move.{Move}
 use Rattle.search.specs.Scans.{consider-better, consider-same}
 use Rattle.search.specs.Searches.{better}
-use borrow.Author.Needs.{needs}
 use Rattle.search.proofs.scan.consider.Statement.{statement}
 use Rattle.search.proofs.scan.consider.Tie as tie
 

@@ -1,8 +1,9 @@
 -- `search::scan::first_step` meets its contract: singles and pairs are all the moves, and a scan of them finds the step. Assumes nothing.
-use mathlib.Core.Path.{_≡_, _∙_, ap}
+use mathlib.Core.Path.{_∙_, ap}
 use mathlib.Core.Bool.{Bool}
 use Prim.Native.Nat.{ℕ}
 use native.Mathlib.Omega.{arith}
+use borrow.Author.Needs.{needs}
 use lib.ListN.{length}
 use Rattle.settling.specs.declared.Move.{Move}
 use Rattle.settling.specs.declared.Step.the-variants.{Rest}
@@ -10,7 +11,6 @@ use Rattle.settling.specs.Moves as Moves
 use Rattle.search.specs.declared.Best.{Best}
 use Rattle.search.specs.Scans.{best, scan, scan-within}
 use Rattle.search.specs.Searches.{better, search-is}
-use borrow.Author.Needs.{needs}
 use Rattle.search.proofs.scan.first_step.Statement.{statement}
 use Rattle.search.proofs.scan.first_step.Tie as tie
 

@@ -1,9 +1,9 @@
 -- `search::scan::four_signs` meets its contract: it tries the four moves in their order. Assumes nothing.
-use mathlib.Core.Path.{_≡_, _∙_, ap, sym, subst}
-use mathlib.Core.Bool.{Bool}
-use Prim.Native.Nat.{ℕ, _≤_}
-use lib.ListN.{length}
+use mathlib.Core.Path.{_≡_, _∙_, sym, subst}
+use Prim.Native.Nat.{_≤_}
 use native.Mathlib.Omega.{arith}
+use borrow.Author.Needs.{needs}
+use lib.ListN.{length}
 use lib.IntN.{ℤ, pos, negsuc, natAbs}
 use Rattle.settling.specs.declared.Move.{Move}
 use Rattle.settling.specs.Moves.{pair}
@@ -12,7 +12,6 @@ use Rattle.search.specs.declared.Best.{Best}
 use Rattle.search.specs.Scans.{consider, consider-within}
 use Rattle.search.specs.Scans as Scans
 use Rattle.search.specs.Searches.{better}
-use borrow.Author.Needs.{needs}
 use Rattle.search.proofs.scan.four_signs.Statement.{statement}
 use Rattle.search.proofs.scan.four_signs.Tie as tie
 

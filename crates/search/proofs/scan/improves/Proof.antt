@@ -1,18 +1,15 @@
 -- `search::scan::improves` meets its contract: the move changes the column, and every column passes against its measure. Assumes nothing.
 use mathlib.Core.Path.{_≡_, sym, _∙_, ap}
 use mathlib.Core.Bool.{Bool, _&&_}
-use Prim.Native.Nat.{_+_, _*_, _<_}
 use native.Mathlib.Omega.{arith}
-use lib.ListN.{length}
 use Rattle.whole.specs.Tests.{every}
 use Rattle.settling.specs.declared.Measure.{Measure}
 use Rattle.settling.specs.Steps.{passesAt, measureAt}
 use Rattle.settling.specs.Steps as Steps
-use Rattle.settling.specs.Sizes.{Sized, Room, measureOf, measure-room}
+use Rattle.settling.specs.Sizes.{Sized, measureOf, measure-room}
 use Rattle.settling.specs.Views.{vectors}
 use Rattle.search.specs.Cells.{cellAt, cell-at}
 use Rattle.search.specs.Searches.{columnsIn, valuesIn}
-use borrow.Author.Needs.{needs}
 use Rattle.search.proofs.scan.improves.Statement.{statement}
 use Rattle.search.proofs.scan.improves.Tie as tie
 
