@@ -5,3 +5,5 @@ pub mod Places
 pub mod Scans
 pub mod Blocking
 pub mod Searches
+pub mod Turns
+pub mod Settlings

@@ -4,7 +4,7 @@
 --   scan imp L R z           after the moves of the list R
 --   scan-first               a scan of all moves finds the step of the definition
 --   scan-append, scan-still  of moves one list after another; nothing is better than the first place
---   consider-.., scan-small  what one move leaves; the place never rises
+--   consider-.., scan-..     what one move leaves; the place never rises
 --   singles-.., with-.., pairs-..   the lists of moves, a vector at a time
 -- Assumes nothing.
 use mathlib.Core.Path.{_≡_, refl, sym, _∙_, ap, ap₂}
@@ -52,7 +52,7 @@ module _ (imp : Move → ℕ → Bool) (L : List ℕ) (o : Move) (z : Best) wher
   consider-same k e h =
       sym (ap (λ (t : Bool). cond t (best (least (imp o) (take (z .at) L)) (Take (getD L (least (imp o) (take (z .at) L)) 0) o)) z) (le-ltb (least (imp o) (take (z .at) L)) (z .at) (omega arith)))
 
-  pub consider-small : consider imp L o z .at ≤ z .at
+  consider-small : consider imp L o z .at ≤ z .at
   unfolding consider
   consider-small = go (ltb (least (imp o) (take (z .at) L)) (z .at)) refl
     where
@@ -73,10 +73,17 @@ unfolding scan
 scan-still imp L [] z e = refl
 scan-still imp L (o ∷ R) z e = ap (scan imp L R) (sym (consider-same imp L o z _ refl (omega arith))) ∙ scan-still imp L R z e
 
-pub scan-small : (imp : Move → ℕ → Bool) (L : List ℕ) (R : List Move) (z : Best) → scan imp L R z .at ≤ z .at
+scan-small : (imp : Move → ℕ → Bool) (L : List ℕ) (R : List Move) (z : Best) → scan imp L R z .at ≤ z .at
 unfolding scan
 scan-small imp L [] z = omega arith
 scan-small imp L (o ∷ R) z = omega (arith, scan-small imp L R (consider imp L o z), consider-small imp L o z)
+
+-- the best that a call answers still lies in the ranking
+pub consider-within : (imp : Move → ℕ → Bool) (L : List ℕ) (o : Move) (z y : Best) → y ≡ consider imp L o z → z .at ≤ length L → y .at ≤ length L
+consider-within imp L o z y e h = omega (arith, ap (λ (x : Best). x .at) e, consider-small imp L o z)
+
+pub scan-within : (imp : Move → ℕ → Bool) (L : List ℕ) (R : List Move) (z y : Best) → y ≡ scan imp L R z → z .at ≤ length L → y .at ≤ length L
+scan-within imp L R z y e h = omega (arith, ap (λ (x : Best). x .at) e, scan-small imp L R z)
 
 -- ---- the first column's first move, when a move is put in front of the others
 orElse-assoc : (a b c : Step) → orElse a (orElse b c) ≡ orElse (orElse a b) c

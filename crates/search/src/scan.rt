@@ -13,6 +13,7 @@ ghost use Rattle.search.specs.Scans.{signs};
 ghost use Rattle.search.specs.Scans as Scans;
 ghost use Rattle.search.specs.Searches.{columnsIn, valuesIn, better, Searchable, InOrder, Setup};
 use crate::Best;
+use crate::Pair;
 use crate::Search;
 use crate::cells::cell_at;
 use settling::Cell;
@@ -104,4 +105,125 @@ fn consider(search: Search, cells: &[i64], basis: &[i64], order: &[usize], o: Mo
         };
     }
     z
+}
+
+// After +Ns and −Ns.
+fn both_signs(
+    search: Search,
+    cells: &[i64],
+    basis: &[i64],
+    order: &[usize],
+    s: usize,
+    z: Best,
+) -> Best
+    requires { ⌜ Setup search (now cells) (now basis) (now order) × (s < search .view .vectors) × (z .at ≤ length (now order)) ⌝ }
+    ensures { λ r. ⌜ r ≡ Scans.scan (better search (now (cells .entry)) (now (basis .entry))) (now (order .entry)) (signs s) z ⌝ }
+{
+    let plus = Move {
+        s: s,
+        a: 1,
+        t: s,
+        b: 0,
+    };
+    let minus = Move {
+        s: s,
+        a: -1,
+        t: s,
+        b: 0,
+    };
+    let y = consider(search, cells, basis, order, plus, z);
+    consider(search, cells, basis, order, minus, y)
+}
+
+// After the pairs of two vectors: ++, +−, −+, −−.
+fn four_signs(
+    search: Search,
+    cells: &[i64],
+    basis: &[i64],
+    order: &[usize],
+    p: Pair,
+    z: Best,
+) -> Best
+    requires { ⌜ Setup search (now cells) (now basis) (now order) × (p .s < search .view .vectors) × (p .t < search .view .vectors) × (z .at ≤ length (now order)) ⌝ }
+    ensures { λ r. ⌜ r ≡ Scans.scan (better search (now (cells .entry)) (now (basis .entry))) (now (order .entry)) (signPairs (p .s) (p .t)) z ⌝ }
+{
+    let y = consider(search, cells, basis, order, p.signed(1, 1), z);
+    let x = consider(search, cells, basis, order, p.signed(1, -1), y);
+    let w = consider(search, cells, basis, order, p.signed(-1, 1), x);
+    consider(search, cells, basis, order, p.signed(-1, -1), w)
+}
+
+// After all single vectors. Nothing is better than the first place.
+fn singles(search: Search, cells: &[i64], basis: &[i64], order: &[usize], z: Best) -> Best
+    requires { ⌜ Setup search (now cells) (now basis) (now order) × (z .at ≤ length (now order)) ⌝ }
+    ensures { λ r. ⌜ r ≡ Scans.scan (better search (now (cells .entry)) (now (basis .entry))) (now (order .entry)) (Moves.singles (search .view .vectors) 0) z ⌝ }
+{
+    let r = search.view.vectors;
+    let mut y = z;
+    let mut s = 0;
+    while s < r {
+        if y.at == 0 {
+            return y;
+        }
+        y = both_signs(search, cells, basis, order, s, y);
+        s += 1;
+    }
+    y
+}
+
+// After the pairs of Ns with the vectors behind it.
+fn pairs_with(
+    search: Search,
+    cells: &[i64],
+    basis: &[i64],
+    order: &[usize],
+    s: usize,
+    z: Best,
+) -> Best
+    requires { ⌜ Setup search (now cells) (now basis) (now order) × (s < search .view .vectors) × (z .at ≤ length (now order)) ⌝ }
+    ensures { λ r. ⌜ r ≡ Scans.scan (better search (now (cells .entry)) (now (basis .entry))) (now (order .entry)) (Moves.pairsWith (search .view .vectors - (s + 1)) s (s + 1)) z ⌝ }
+{
+    let r = search.view.vectors;
+    let mut y = z;
+    let mut t = s + 1;
+    while t < r {
+        if y.at == 0 {
+            return y;
+        }
+        y = four_signs(search, cells, basis, order, Pair { s: s, t: t }, y);
+        t += 1;
+    }
+    y
+}
+
+// After all pairs.
+fn pairs(search: Search, cells: &[i64], basis: &[i64], order: &[usize], z: Best) -> Best
+    requires { ⌜ Setup search (now cells) (now basis) (now order) × (z .at ≤ length (now order)) ⌝ }
+    ensures { λ r. ⌜ r ≡ Scans.scan (better search (now (cells .entry)) (now (basis .entry))) (now (order .entry)) (Moves.pairs (search .view .vectors) 0) z ⌝ }
+{
+    let r = search.view.vectors;
+    let mut y = z;
+    let mut s = 0;
+    while s < r {
+        if y.at == 0 {
+            return y;
+        }
+        y = pairs_with(search, cells, basis, order, s, y);
+        s += 1;
+    }
+    y
+}
+
+// The first improving move of the first column of the order that has one.
+pub fn first_step(search: Search, cells: &[i64], basis: &[i64], order: &[usize]) -> Step
+    requires { ⌜ Setup search (now cells) (now basis) (now order) ⌝ }
+    ensures { λ r. ⌜ r ≡ firstColumn (stepAt (search .part) (columnsIn search (now (cells .entry))) (vectors (search .view) (now (basis .entry))) (valuesIn search (now (cells .entry)))) (now (order .entry)) ⌝ }
+{
+    let z = Best {
+        at: order.len(),
+        step: Step::Rest,
+    };
+    let y = singles(search, cells, basis, order, z);
+    let x = pairs(search, cells, basis, order, y);
+    x.step
 }

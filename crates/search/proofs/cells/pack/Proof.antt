@@ -1,7 +1,7 @@
 -- `search::cells::pack` meets its contract: it spreads the four lists, as the definition does. Assumes nothing.
-use mathlib.Core.Path.{_≡_, _∙_, ap}
-use Rattle.search.specs.Cells as Cells
+use mathlib.Core.Path.{_∙_, ap}
 use borrow.Author.Needs.{needs}
+use Rattle.search.specs.Cells as Cells
 use Rattle.search.proofs.cells.pack.Statement.{statement}
 use Rattle.search.proofs.cells.pack.Tie as tie
 

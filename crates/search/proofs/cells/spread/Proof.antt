@@ -1,9 +1,9 @@
 -- `search::cells::spread` meets its contract: what is left to write, from the numbers written so far, gives the whole. Assumes nothing.
 use mathlib.Core.Path.{_≡_, sym, _∙_, ap, refl}
+use mathlib.Core.List.{List}
 use Prim.Native.Nat.{ℕ, _+_, _*_, _-_, _≤_}
 use native.Mathlib.Omega.{arith}
 use borrow.Author.Needs.{needs}
-use mathlib.Core.List.{List}
 use lib.IntN.{ℤ}
 use lib.ListN.{length, set, drop, length-set, drop-of-length-le}
 use Rattle.whole.proofs.Signed.{back}
@@ -49,11 +49,10 @@ loop-less c = omega arith
 loop-again : tie.Need-loop-again Inv-loop μ-loop
 loop-again c =
     let s = c .before .before .before in
-    let l = c .before .before .loop in
-    let x = back _ (c .x .given) in (
+    let l = c .before .before .loop in (
       omega arith,
       length-set (l .cells) _ _ ∙ l .inv .1,
-      ap (λ (x : ℤ). Cells.spread (4 * (l .i + 1) + s .args .k) (drop (l .i + 1) (s .args .list .now)) (set (l .cells) (4 * l .i + s .args .k) x)) x
+      ap (λ (x : ℤ). Cells.spread (4 * (l .i + 1) + s .args .k) (drop (l .i + 1) (s .args .list .now)) (set (l .cells) (4 * l .i + s .args .k) x)) (back _ (c .x .given))
           ∙ sym (Cells.spread-on (s .args .k) (l .i) (s .args .list .now) (l .cells) (c .before .loop-test .taken)) ∙ l .inv .2,
     )
 

@@ -1,8 +1,8 @@
 -- `search::scan::all_pass` meets its contract: the loop leaves at the first column that does not pass. Assumes nothing.
-use mathlib.Core.Path.{_≡_, sym, _∙_, refl, subst}
-use mathlib.Core.Bool.{Bool, true, false}
+use mathlib.Core.Path.{sym}
+use mathlib.Core.Bool.{Bool}
 use mathlib.Core.List.{List}
-use Prim.Native.Nat.{ℕ, _-_, _<_, _≤_}
+use Prim.Native.Nat.{ℕ, _-_}
 use native.Mathlib.Omega.{arith}
 use lib.IntN.{ℤ}
 use Rattle.whole.specs.Counted.{SoFar, starts, goes-on, ends, fails}
@@ -21,7 +21,7 @@ abbrev test : Search → List ℤ → List ℤ → Move → Measure → ℕ → 
 test search cells basis o q = passesAt (search .part) (columnsIn search cells) (vectors (search .view) basis) (valuesIn search cells) o q
 
 abbrev Inv-loop : tie.InvT-loop
-Inv-loop search cells basis o q i n j₀ j = (n ≡ search .view .columns) × SoFar (search .view .columns) (test search cells basis o q) j
+Inv-loop search cells basis o q i n j₀ j = SoFar (search .view .columns) (test search cells basis o q) j
 
 abbrev μ-loop : tie.MeasureT-loop
 μ-loop search cells basis o q i n j₀ j = n - j
@@ -36,13 +36,13 @@ returns : tie.Need-returns Inv-loop μ-loop
 returns c = let s = c .before .before in sym (every-not (s .args .search .view .columns) (Test s) (s .args .i) (s .pre .3) (failed (c .before .passes-at .ensures) (c .if1 .taken)))
 
 loop-holds : tie.Need-loop-holds Inv-loop μ-loop
-loop-holds c = (refl, starts _ _)
+loop-holds c = starts _ _
 
 passes-at-requires-2 : tie.Need-passes-at-requires-2 Inv-loop μ-loop
-passes-at-requires-2 c κs = let s = c .before .before .before .before in (s .pre .0, s .pre .1, s .pre .2, omega (arith, c .before .loop .inv .0, c .loop-test .taken))
+passes-at-requires-2 c κs = let s = c .before .before .before .before in (s .pre .0, s .pre .1, s .pre .2, c .loop-test .taken)
 
 returns-2 : tie.Need-returns-2 Inv-loop μ-loop
-returns-2 c = let l = c .before .before .before .loop in sym (fails (l .inv .1) (omega (arith, l .inv .0, c .before .before .loop-test .taken)) (failed (c .before .passes-at2 .ensures) (c .if2 .taken)))
+returns-2 c = sym (fails (c .before .before .before .loop .inv) (c .before .before .loop-test .taken) (failed (c .before .passes-at2 .ensures) (c .if2 .taken)))
 
 add-j : tie.Need-add-j Inv-loop μ-loop
 add-j c = omega arith
@@ -51,10 +51,10 @@ loop-less : tie.Need-loop-less Inv-loop μ-loop
 loop-less c = omega arith
 
 loop-again : tie.Need-loop-again Inv-loop μ-loop
-loop-again c = let l = c .before .before .before .loop in (l .inv .0, goes-on (l .inv .1) (omega (arith, l .inv .0, c .before .before .loop-test .taken)) (passed (c .before .passes-at2 .ensures) (c .if2 .left)))
+loop-again c = goes-on (c .before .before .before .loop .inv) (c .before .before .loop-test .taken) (passed (c .before .passes-at2 .ensures) (c .if2 .left))
 
 returns-3 : tie.Need-returns-3 Inv-loop μ-loop
-returns-3 c = let l = c .before .loop in sym (ends (l .inv .1) (omega (arith, l .inv .0, c .loop-test .left)))
+returns-3 c = sym (ends (c .before .loop .inv) (c .loop-test .left))
 
 pub all-pass-spec : {M : Type 1} → statement M
 all-pass-spec =

@@ -1,17 +1,16 @@
 -- `search::scan::passes_at` meets its contract: the cell with the moved value is the column after the move. Assumes nothing.
 use mathlib.Core.Path.{_≡_, sym, _∙_, ap, ap₂, subst}
 use mathlib.Core.List.{List}
-use Prim.Native.Nat.{ℕ, _+_, _*_, _<_, _≤_}
+use Prim.Native.Nat.{_*_, _≤_}
 use native.Mathlib.Omega.{arith}
+use borrow.Author.Needs.{needs}
 use lib.IntN.{ℤ, natAbs, _+ℤ_}
-use lib.ListN.{length}
 use mir.Syntax.{w64}
 use mir.Val.{toZ, ofZ}
 use Rattle.whole.specs.Lists.{entry}
 use Rattle.whole.proofs.Signed.{back, abs-add}
 use Rattle.problem.specs.Limits.{M}
 use Rattle.settling.specs.declared.Cell.{Cell}
-use Rattle.settling.specs.Columns.{Columns}
 use Rattle.settling.specs.Moves as Moves
 use Rattle.settling.specs.Steps as Steps
 use Rattle.settling.specs.Sizes.{Sized, sized-near}
@@ -19,7 +18,6 @@ use Rattle.settling.specs.declared.Part.the-variants.{Bounds}
 use Rattle.settling.specs.Views.{vectors, change-small, moved-at}
 use Rattle.settling.proofs.Machine.{read}
 use Rattle.search.specs.Cells.{cellAt, cellOf, cell-at, valuesOf, pick-length}
-use borrow.Author.Needs.{needs}
 use Rattle.search.proofs.scan.passes_at.Statement.{statement}
 use Rattle.search.proofs.scan.passes_at.Tie as tie
 
