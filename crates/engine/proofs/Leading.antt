@@ -50,7 +50,7 @@ leads-more : (n w m j : ℕ) (t : List ℤ) → 0 < j → j ≤ n → leads n w 
 leads-more n w m zero t p h = absurd (omega arith)
 leads-more n w m (suc i) t p h = let e : suc i - 1 ≡ i = omega arith in rw e (from n w m i t (omega arith))
 
-leading-few : (m : ℕ) (T : List (List ℤ)) → length (leading m T) ≤ length T
+pub leading-few : (m : ℕ) (T : List (List ℤ)) → length (leading m T) ≤ length T
 unfolding leading
 leading-few m [] = omega arith
 leading-few m (r ∷ T) = go (ltb (lead r) m) (leading-few m T)

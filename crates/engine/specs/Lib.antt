@@ -1,5 +1,6 @@
 -- The root of the definitions.
 pub mod Assign
 pub mod Views
+pub mod Placed
 pub mod Demand
 pub mod Satisfied

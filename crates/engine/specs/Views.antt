@@ -2,7 +2,10 @@
 --   basisView p h    how it lies there, where h rows lead in the first m columns
 --   basisStart p h   where its first number stands; the tableau's end where there is no vector
 --   leadsAt w i m t  row i leads in the first m columns
---   basis-view       its vectors are the basis
+--   tableOf p t      the rows of a list of the tableau's length; basisOf p t, the basis among them
+--   Parted p t       the list has that length, no number beyond ±M, and its leading rows stand above the others
+--   basis-view       the vectors of the view are the basis
+--   basis-in         so they are in such a list
 -- Assumes nothing.
 use mathlib.Core.Path.{_≡_, refl, sym, _∙_, ap, ap₂, subst}
 use mathlib.Core.Bool.{Bool, true, false, cond}
@@ -11,14 +14,17 @@ use Prim.Native.Nat.{ℕ, zero, suc, _+_, _*_, _-_, _<_, _≤_}
 use native.Mathlib.Omega.{arith}
 use borrow.Author.Tests.{lt-ltb, le-ltb, ltb-true, ltb-false}
 use lib.Dec.{ltb}
-use lib.IntN.{ℤ}
+use lib.IntN.{ℤ, natAbs}
 use lib.ListN.{length, take, drop, length-append, length-drop}
 use lib.Seq.{drop-drop, take-at, drop-append-le, drop-append-add}
-use Rattle.lattice.specs.Rows.{flat, lead}
+use Rattle.whole.specs.Lists.{entry}
+use Rattle.lattice.specs.Rows.{flat, chop, lead}
 use Rattle.lattice.specs.Span.{All, Len, all-append}
-use Rattle.lattice.specs.FlatLaws.{flat-append}
+use Rattle.lattice.specs.FlatLaws.{flat-append, flat-chop, chop-rows, length-chop}
+use Rattle.problem.specs.Limits.{M}
 use Rattle.problem.specs.declared.Problem.{Problem}
 use Rattle.tableau.specs.RightSide.{leading, remaining, basis}
+use Rattle.settling.specs.Columns.{Columns}
 use Rattle.settling.specs.Views.{rowsOf, vectors}
 use Rattle.settling.specs.declared.Basis.{Basis}
 
@@ -30,6 +36,22 @@ basisView p h = record { columns = p .columns; vectors = p .columns - h; stride 
 
 abbrev pub basisStart : Problem → ℕ → ℕ
 basisStart p h = cond (ltb h (p .columns)) (h * width p + p .rows) (p .columns * width p)
+
+-- the rows of a list, and the basis among them
+abbrev pub tableOf : Problem → List ℤ → List (List ℤ)
+tableOf p t = chop (p .columns) (width p) t
+
+abbrev pub basisOf : Problem → List ℤ → List (List ℤ)
+basisOf p t = basis (p .rows) (tableOf p t)
+
+-- the columns as settling sees them
+abbrev pub columnsOf : Problem → List ℤ → List ℤ → List ℤ → Columns
+columnsOf p lower upper goals = record { count = p .columns; lower = lower; upper = upper; goals = goals }
+
+pub record Parted (p : Problem) (t : List ℤ) : Type 0 where
+  pub long : length t ≡ p .columns * width p
+  pub small : (i : ℕ) → natAbs (entry i t) ≤ M
+  pub split : leading (p .rows) (tableOf p t) ++ remaining (p .rows) (tableOf p t) ≡ tableOf p t
 
 -- row i of a list of rows of w numbers leads in the first m columns
 abbrev pub leadsAt : ℕ → ℕ → ℕ → List ℤ → Bool
@@ -90,3 +112,11 @@ module _ (p : Problem) (T : List (List ℤ)) (w : All (Len (width p)) T) (c : le
           → rowsOf (p .columns - length L) (p .columns) (width p) (drop (cond (ltb (length L) (p .columns)) (length L * width p + p .rows) (p .columns * width p)) (flat T)) ≡ basis (p .rows) T
       go true e = rw (e, r, behind) (rows-drop (p .rows) (p .columns) R (both-wide .1))
       go false e = none (p .columns - length L) (omega (arith, ltb-false (length L) (p .columns) e)) _ R (sym r)
+
+-- ---- in a list of the tableau's length
+pub basis-in : (p : Problem) (t : List ℤ) → Parted p t → vectors (basisView p (length (leading (p .rows) (tableOf p t)))) (drop (basisStart p (length (leading (p .rows) (tableOf p t)))) t) ≡ basisOf p t
+basis-in p t a =
+    let T : List (List ℤ) = tableOf p t in
+    let h : ℕ = length (leading (p .rows) T) in
+    ap (λ (l : List ℤ). vectors (basisView p h) (drop (basisStart p h) l)) (sym (flat-chop (p .columns) (width p) t (a .long)))
+    ∙ basis-view p T (chop-rows (p .columns) (width p) t (a .long)) (length-chop (p .columns) (width p) t) (a .split)

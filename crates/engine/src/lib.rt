@@ -1,2 +1,3 @@
 // Whole assignments and Continue: document 01's calls on lent buffers.
+mod ending;
 mod views;
