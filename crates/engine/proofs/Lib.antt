@@ -2,3 +2,4 @@
 pub mod Readiness
 pub mod Leading
 pub mod Viewing
+pub mod Dots

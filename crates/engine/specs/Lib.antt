@@ -2,5 +2,6 @@
 pub mod Assign
 pub mod Views
 pub mod Placed
+pub mod Standing
 pub mod Demand
 pub mod Satisfied
