@@ -6,23 +6,34 @@
 --   product-small    a value times a coefficient
 --   small-back       what the machine reads back of a number within ±M
 --   room             it leaves room for one more product
+--   dot-small        a whole sum is small
+--   row-inside, table-small, row-summable   a row of the coefficients lies in them, which are few, and can be summed
+--   all-within       the two tests for a number beyond ±M agree
 -- Assumes nothing.
 use mathlib.Core.Path.{_≡_, refl, sym, _∙_, ap, ap₂, subst}
+use mathlib.Core.Bool.{Bool, true, false, not, _||_, true≢false}
 use mathlib.Core.List.{List, [], _∷_}
 use Prim.Native.Nat.{ℕ, zero, suc, _+_, _*_, _-_, _<_, _≤_}
 use native.Mathlib.Nat.{mul-le-mul, mul-le-mul-right, zero-mul}
 use native.Mathlib.Omega.{arith}
+use borrow.Author.Tests.{ltb-true, ltb-false, le-ltb, le-leb}
 use lib.IntN.{ℤ, pos, natAbs, _+ℤ_, _*ℤ_}
-use lib.ListN.{length, drop, drop-of-length-le}
-use lib.Seq.{drop-cons}
+use lib.Dec.{ltb}
+use lib.ListN.{length, take, drop, length-take, length-drop, drop-of-length-le, List·getD-eq-default}
+use lib.Seq.{drop-cons, getD-take, getD-drop, length-take-le}
 use mir.Syntax.{w64}
 use mir.Val.{toZ, ofZ}
 use mir.Facts.{toZ-ofZ}
 use Rattle.whole.specs.Lists.{entry}
+use Rattle.whole.specs.Tests.{spans}
+use Rattle.whole.specs.Counted.{every-all}
 use Rattle.whole.proofs.Signed.{abs-add, abs-mul, sfits-abs}
 use Rattle.lattice.specs.Sums.{dot}
-use Rattle.problem.specs.Limits.{M, maxColumns, maxCoefficient}
-use Rattle.engine.specs.Standing.{Summable}
+use Rattle.problem.specs.Limits.{M, maxColumns, maxCoefficient, anyBeyond}
+use Rattle.problem.specs.Checks.{allSpan}
+use Rattle.problem.specs.CheckLaws.{all-small}
+use Rattle.tableau.specs.Within.{within-entry}
+use Rattle.engine.specs.Standing.{Summable, RowStandable}
 
 abbrev pub step : ℕ
 step = M * maxCoefficient
@@ -71,3 +82,57 @@ room a v j s q z =
 -- ---- what the machine reads back of a small number
 pub small-back : (z : ℤ) → natAbs z ≤ M → toZ w64 (ofZ w64 z) ≡ z
 small-back z h = toZ-ofZ (sfits-abs z (omega (arith, h)))
+
+-- ---- a row of the coefficients
+sum-small : (a v : List ℤ) → ((i : ℕ) → natAbs (entry i a) ≤ maxCoefficient) → ((i : ℕ) → natAbs (entry i v) ≤ M) → natAbs (dot a v) ≤ length a * step
+unfolding dot
+sum-small [] v f g = omega arith
+sum-small (y ∷ a) [] f g = omega arith
+sum-small (y ∷ a) (x ∷ v) f g =
+    omega (arith, abs-add (dot a v) (x *ℤ y), product-small x y (g 0) (f 0), sum-small a v (λ i. f (suc i)) (λ i. g (suc i)))
+
+pub dot-small : (a v : List ℤ) → Summable a v → natAbs (dot a v) ≤ 48 * step
+dot-small a v q =
+    let h : length a * step ≤ 48 * step = mul-le-mul-right {n = 48} step (omega (arith, q .few)) in
+    omega (arith, h, sum-small a v (q .coefficients) (q .values))
+
+part-small : (k : ℕ) (l : List ℤ) (n a : ℕ) → ((i : ℕ) → natAbs (entry i l) ≤ k) → (i : ℕ) → natAbs (entry i (take n (drop a l))) ≤ k
+part-small k l n a f i = go (ltb i n) refl
+  where
+    go : (t : Bool) → ltb i n ≡ t → natAbs (entry i (take n (drop a l))) ≤ k
+    go true e = subst (λ (z : ℤ). natAbs z ≤ k) (sym (getD-take n (drop a l) i (pos 0) (ltb-true i n e) ∙ getD-drop a l i (pos 0))) (f (a + i))
+    go false e =
+        subst (λ (z : ℤ). natAbs z ≤ k)
+        (sym (List·getD-eq-default (take n (drop a l)) (pos 0) (omega (arith, ltb-false i n e, length-take n (drop a l))))) (omega arith)
+
+module _ {a b v : List ℤ} {i : ℕ} (q : RowStandable a b v i) where
+  pub row-inside : i * length v + length v ≤ length a
+  row-inside = let h : (i + 1) * length v ≤ length b * length v = mul-le-mul-right (length v) (omega (arith, q .row)) in omega (arith, h, q .coefficients-long)
+
+  pub table-small : length a ≤ 2304
+  table-small = let h : length b * length v ≤ 48 * 48 = mul-le-mul (q .few-rows) (q .few-columns) in omega (arith, h, q .coefficients-long)
+
+  pub row-summable : (n : ℕ) → n ≡ length v → Summable (take n (drop (i * length v) a)) v
+  row-summable n e =
+      let l : length (take n (drop (i * length v) a)) ≡ n =
+      length-take-le n (drop (i * length v) a) (omega (arith, row-inside, length-drop (i * length v) a, e)) in
+      record {
+        few = omega (arith, l, e, q .few-columns);
+        same = sym (l ∙ e);
+        coefficients = part-small maxCoefficient a n (i * length v) (q .coefficients-small);
+        values = q .values-small;
+      }
+
+-- ---- no number beyond ±M
+within-all : (l : List ℤ) → ((i : ℕ) → natAbs (entry i l) ≤ M) → anyBeyond l ≡ false
+unfolding anyBeyond
+within-all [] f = refl
+within-all (x ∷ l) f = ap₂ _||_ (le-ltb M (natAbs x) (f 0)) (within-all l (λ i. f (suc i)))
+
+pub all-within : (l : List ℤ) → allSpan M l ≡ not (anyBeyond l)
+all-within l = go (allSpan M l) (anyBeyond l) refl refl
+  where
+    go : (s t : Bool) → allSpan M l ≡ s → anyBeyond l ≡ t → allSpan M l ≡ not (anyBeyond l)
+    go true t e f = e ∙ ap not (sym (within-all l (all-small M l e)))
+    go false true e f = e ∙ ap not (sym f)
+    go false false e f = absurd (true≢false (sym (every-all (length l) (λ i. spans M (entry i l)) (λ i h. le-leb (natAbs (entry i l)) M (within-entry l i f))) ∙ e))

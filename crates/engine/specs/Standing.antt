@@ -2,12 +2,12 @@
 --   Summable a v       a row of at most 48 coefficients within the limits, and as many values within ±M
 --   keepsRow n a b v i   row i of the coefficients a, n to a row, adds up to its right side in b
 --   standsIn p a b v   no value lies beyond ±M, and every row is kept
---   Standable ..       what the checks leave of these lists
+--   Standable ..       what the checks leave of these lists; RowStandable, where the values lie within ±M too, of row i
 -- Assumes nothing.
 use mathlib.Core.Path.{_≡_}
 use mathlib.Core.Bool.{Bool, not, _&&_}
 use mathlib.Core.List.{List}
-use Prim.Native.Nat.{ℕ, _*_, _≤_}
+use Prim.Native.Nat.{ℕ, _*_, _<_, _≤_}
 use lib.IntN.{ℤ, natAbs, _-ℤ_}
 use lib.ListN.{length, take, drop}
 use Rattle.whole.specs.Lists.{entry}
@@ -36,3 +36,12 @@ pub record Standable (p : Problem) (a b v : List ℤ) : Type 0 where
   pub values-long : length v ≡ p .columns
   pub coefficients-small : (i : ℕ) → natAbs (entry i a) ≤ maxCoefficient
   pub rights-small : (i : ℕ) → natAbs (entry i b) ≤ maxRight
+
+pub record RowStandable (a b v : List ℤ) (i : ℕ) : Type 0 where
+  pub few-columns : length v ≤ maxColumns
+  pub few-rows : length b ≤ maxRows
+  pub coefficients-long : length a ≡ length b * length v
+  pub row : i < length b
+  pub coefficients-small : (i : ℕ) → natAbs (entry i a) ≤ maxCoefficient
+  pub rights-small : (i : ℕ) → natAbs (entry i b) ≤ maxRight
+  pub values-small : (i : ℕ) → natAbs (entry i v) ≤ M

@@ -1,10 +1,10 @@
 ghost use mathlib.Core.Path.{_≡_};
 ghost use Prim.Native.Nat.{ℕ, _+_, _*_, _<_, _≤_};
-ghost use lib.IntN.{ℤ, natAbs, _+ℤ_, _*ℤ_};
+ghost use lib.IntN.{ℤ, natAbs, _+ℤ_, _-ℤ_, _*ℤ_};
 ghost use lib.ListN.{length};
 ghost use Rattle.lattice.specs.Sums as Sums;
-ghost use Rattle.problem.specs.Limits.{M, maxCoefficient};
-ghost use Rattle.engine.specs.Standing.{Summable, Standable, keepsRow, standsIn};
+ghost use Rattle.problem.specs.Limits.{M, maxCoefficient, maxRight};
+ghost use Rattle.engine.specs.Standing.{Summable, Standable, RowStandable, keepsRow, standsIn};
 use problem::Problem;
 use problem::checks::all_span;
 use whole::magnitude;
@@ -29,4 +29,42 @@ fn dot(row: &[i64], values: &[i64]) -> i64
         s = add_product(s, values[j], row[j]);
     }
     s
+}
+
+// A row's sum less its right side.
+fn less_right(s: i64, b: i64) -> i64
+    requires { ⌜ (natAbs s ≤ 48 * (M * maxCoefficient)) × (natAbs b ≤ maxRight) ⌝ }
+    ensures { λ r. ⌜ r ≡ s -ℤ b ⌝ }
+{
+    s - b
+}
+
+// Whether the values keep row i.
+fn keeps_row(coefficients: &[i64], rights: &[i64], values: &[i64], i: usize) -> bool
+    requires { ⌜ RowStandable (now coefficients) (now rights) (now values) i ⌝ }
+    ensures { λ r. ⌜ r ≡ keepsRow (length (now (values .entry))) (now (coefficients .entry)) (now (rights .entry)) (now (values .entry)) i ⌝ }
+{
+    let n = values.len();
+    let a = i * n;
+    let e = a + n;
+    let s = dot(&coefficients[a..e], values);
+    magnitude(less_right(s, rights[i])) == 0
+}
+
+// Whether a lent list lies within ±M and keeps every row.
+pub(crate) fn stands(p: Problem, coefficients: &[i64], rights: &[i64], values: &[i64]) -> bool
+    requires { ⌜ Standable p (now coefficients) (now rights) (now values) ⌝ }
+    ensures { λ r. ⌜ r ≡ standsIn p (now (coefficients .entry)) (now (rights .entry)) (now (values .entry)) ⌝ }
+{
+    if !all_span(values, Problem::MAX_NUMBER) {
+        return false;
+    }
+    let mut i = 0;
+    while i < rights.len() {
+        if !keeps_row(coefficients, rights, values, i) {
+            return false;
+        }
+        i += 1;
+    }
+    true
 }

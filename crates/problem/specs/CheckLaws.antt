@@ -4,6 +4,7 @@
 --   Fits P L      in numbers: sizes, lengths, and how large the numbers of each list are, at every place
 --   fits          so it is
 --   both-true     both of two tests hold
+--   all-small     how large a list's numbers are, by the test over the list
 -- Assumes nothing.
 use mathlib.Core.Path.{_≡_, refl, sym, _∙_, ap, subst}
 use mathlib.Core.Bool.{Bool, true, false, _&&_, _||_}
@@ -101,7 +102,7 @@ every-place Q l f z j = go (ltb j (length l)) refl
 spans-small : (k : ℕ) (l : List ℤ) → ((j : ℕ) → j < length l → spans k (entry j l) ≡ true) → (j : ℕ) → natAbs (entry j l) ≤ k
 spans-small k l f = every-place (λ (x : ℤ). natAbs x ≤ k) l (λ j h. leb-true (natAbs (entry j l)) k (f j h)) (omega arith)
 
-all-small : (k : ℕ) (l : List ℤ) → allSpan k l ≡ true → (j : ℕ) → natAbs (entry j l) ≤ k
+pub all-small : (k : ℕ) (l : List ℤ) → allSpan k l ≡ true → (j : ℕ) → natAbs (entry j l) ≤ k
 all-small k l e = spans-small k l (λ j h. every-at (length l) (λ i. spans k (entry i l)) j e h)
 
 range-small : (k : ℕ) (x : ℤ) → inRange (pos 0) (pos k) x ≡ true → natAbs x ≤ k

@@ -5,9 +5,10 @@
 --   ends          past the last place f holds at every one
 --   fails         where f fails at i, it does not
 --   every-at      where f holds at every place, it holds at each
+--   every-all     and the other way round
 -- Assumes nothing.
-use mathlib.Core.Path.{_≡_, refl, sym, _∙_, subst}
-use mathlib.Core.Bool.{Bool, true, false, and-false, true≢false}
+use mathlib.Core.Path.{_≡_, refl, sym, _∙_, ap₂, subst}
+use mathlib.Core.Bool.{Bool, true, false, _&&_, and-false, true≢false}
 use mathlib.Core.Logic.{⊎-elim}
 use Prim.Native.Nat.{ℕ, zero, suc, _+_, _≤_, _<_}
 use native.Mathlib.Nat.{le-antisymm, eq-or-lt-of-le, le-of-suc-le-suc, not-suc-le-zero}
@@ -51,3 +52,8 @@ every-at n f i e l = go (f i) refl
     go : (t : Bool) → f i ≡ t → f i ≡ true
     go true h = h
     go false h = absurd (true≢false (sym e ∙ one-fails n f i l h))
+
+pub every-all : (n : ℕ) (f : ℕ → Bool) → ((i : ℕ) → i < n → f i ≡ true) → every n f ≡ true
+unfolding every
+every-all zero f h = refl
+every-all (suc n) f h = ap₂ _&&_ (every-all n f (λ i l. h i (omega arith))) (h n (omega arith))
