@@ -5,3 +5,5 @@ pub mod Choosing
 pub mod Lifting
 pub mod Rounds
 pub mod Turns
+pub mod Staying
+pub mod Passing

@@ -12,3 +12,4 @@ pub mod Within
 pub mod Steps
 pub mod Choices
 pub mod Tails
+pub mod Columns
