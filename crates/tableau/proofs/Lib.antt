@@ -7,3 +7,4 @@ pub mod Rounds
 pub mod Turns
 pub mod Staying
 pub mod Passing
+pub mod Tableaus

@@ -13,3 +13,4 @@ pub mod Steps
 pub mod Choices
 pub mod Tails
 pub mod Columns
+pub mod Buffers
