@@ -14,3 +14,4 @@ pub mod Choices
 pub mod Tails
 pub mod Columns
 pub mod Buffers
+pub mod Halves

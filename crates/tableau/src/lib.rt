@@ -2,6 +2,7 @@
 mod elimination;
 mod filling;
 mod gathering;
+mod right;
 mod rows;
 
 // What the right side finds: a number beyond M on the way, no whole numbers, or a starting list.
