@@ -9,3 +9,5 @@ pub mod Staying
 pub mod Passing
 pub mod Tableaus
 pub mod Sweeping
+pub mod Answers
+pub mod Forms

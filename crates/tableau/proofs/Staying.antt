@@ -1,21 +1,24 @@
 -- What the steps keep: rows within ±M, where they mark no number beyond ±M; and the count of rows.
 --   flat-all, all-flat   rows within ±M, and the list of them
 --   each-all, round-all, gather-all   each row's step, a round and gathering keep rows within ±M
---   gather-count         gathering keeps the count of rows
+--   eliminate-all        so does the whole elimination
+--   gather-count, eliminate-count   gathering and elimination keep the count of rows
 -- Assumes nothing.
 use mathlib.Core.Path.{_≡_, refl, sym, _∙_, ap}
 use mathlib.Core.Bool.{Bool, true, false, _||_, false≢true}
 use mathlib.Core.List.{List, [], _∷_, _++_}
-use Prim.Native.Nat.{ℕ, zero, suc}
+use Prim.Native.Nat.{ℕ, zero, suc, _+_}
+use native.Mathlib.Nat.{zero-add}
+use native.Mathlib.Omega.{arith}
 use lib.IntN.{ℤ, pos, negsuc}
-use lib.ListN.{length, getD, set, length-set}
+use lib.ListN.{length, getD, set, length-set, length-append}
 use Rattle.whole.specs.Lists.{entry}
 use Rattle.lattice.specs.Rows.{flat}
-use Rattle.lattice.specs.Span.{All}
+use Rattle.lattice.specs.Span.{All, all-append}
 use Rattle.problem.specs.Limits.{anyBeyond}
-use Rattle.tableau.specs.Elimination.{Left, each, lowered, Choice, none, at, choose, Gathered, exchange, signed, clear, round, gather}
+use Rattle.tableau.specs.Elimination.{Left, each, reduced, Choice, none, at, choose, Gathered, exchange, signed, clear, round, gather, Passed, passColumn, passColumns, eliminate}
 use Rattle.tableau.specs.Within.{Within, within-append, within-left, within-right, within-neg}
-use Rattle.tableau.specs.declared.rows.Way.the-variants.{Below}
+use Rattle.tableau.specs.declared.rows.Way.the-variants.{Below, Above}
 use Rattle.tableau.proofs.Walking.{Step, stepping, each-count}
 
 pub flat-all : (T : List (List ℤ)) → All Within T → Within (flat T)
@@ -92,3 +95,49 @@ gather-count zero c z b B = refl
 gather-count (suc f) c none b B = refl
 gather-count (suc f) c (at j p) b B =
     gather-count f c (choose c (round c b B .below)) (round c b B .pivot) (round c b B .below) ∙ round-count c b B
+
+-- ---- columns
+column-all : (c : ℕ) (A B : List (List ℤ)) (z : Choice) → All Within A → All Within B → passColumn c A B z .over ≡ false
+    → All Within (passColumn c A B z .above) × All Within (passColumn c A B z .below)
+unfolding passColumn
+column-all c A B none a b e = (a, b)
+column-all c A [] (at j p) a b e = (a, tt)
+column-all c A (r ∷ B) (at j p) a b e =
+    let g : Gathered = gather p c (at j p) r B in
+    let d : (g .over ≡ false) × (each (reduced c (g .pivot)) A .over ≡ false) = unmarked (g .over) (each (reduced c (g .pivot)) A .over) e in
+    let h : All Within (g .pivot ∷ g .below) = gather-all p c (at j p) r B b (d .0) in
+    (all-append Within (each (reduced c (g .pivot)) A .table) (g .pivot ∷ []) .1 (each-all A (stepping Above c (g .pivot)) a (d .1), (h .0, tt)), h .1)
+
+columns-all : (d c : ℕ) (A B : List (List ℤ)) → All Within A → All Within B → passColumns d c A B .over ≡ false → All Within (passColumns d c A B .table)
+unfolding passColumns
+columns-all zero c A B a b e = all-append Within A B .1 (a, b)
+columns-all (suc d) c A B a b e =
+    let x : Passed = passColumn c A B (choose c B) in
+    let h : (x .over ≡ false) × (passColumns d (suc c) (x .above) (x .below) .over ≡ false) =
+    unmarked (x .over) (passColumns d (suc c) (x .above) (x .below) .over) e in
+    let s : All Within (x .above) × All Within (x .below) = column-all c A B (choose c B) a b (h .0) in
+    columns-all d (suc c) (x .above) (x .below) (s .0) (s .1) (h .1)
+
+pub eliminate-all : (w : ℕ) (T : List (List ℤ)) → All Within T → eliminate w T .over ≡ false → All Within (eliminate w T .table)
+unfolding eliminate
+eliminate-all w T a e = columns-all w 0 [] T tt a e
+
+column-count : (c : ℕ) (A B : List (List ℤ)) (z : Choice) → length (passColumn c A B z .above) + length (passColumn c A B z .below) ≡ length A + length B
+unfolding passColumn
+column-count c A B none = refl
+column-count c A [] (at j p) = refl
+column-count c A (r ∷ B) (at j p) =
+    let g : Gathered = gather p c (at j p) r B in
+    let a : List (List ℤ) = each (reduced c (g .pivot)) A .table in
+    omega (arith, length-append a (g .pivot ∷ []), each-count (reduced c (g .pivot)) A, gather-count p c (at j p) r B)
+
+columns-count : (d c : ℕ) (A B : List (List ℤ)) → length (passColumns d c A B .table) ≡ length A + length B
+unfolding passColumns
+columns-count zero c A B = length-append A B
+columns-count (suc d) c A B =
+    let x : Passed = passColumn c A B (choose c B) in
+    columns-count d (suc c) (x .above) (x .below) ∙ column-count c A B (choose c B)
+
+pub eliminate-count : (w : ℕ) (T : List (List ℤ)) → length (eliminate w T .table) ≡ length T
+unfolding eliminate
+eliminate-count w T = columns-count w 0 [] T ∙ zero-add (length T)

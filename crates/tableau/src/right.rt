@@ -1,16 +1,21 @@
 ghost use mathlib.Core.Path.{_≡_};
+ghost use mathlib.Core.List.{_++_};
 ghost use Prim.Native.Nat.{_*_, _≤_};
-ghost use lib.ListN.{length};
-ghost use Rattle.lattice.specs.Rows.{chop};
+ghost use lib.ListN.{length, drop};
+ghost use Rattle.lattice.specs.Rows.{neg, chop};
 ghost use Rattle.lattice.specs.Span.{All};
-ghost use Rattle.tableau.specs.Halves.{Leads, wantedOf, ownStep, Swept, Righted};
+ghost use Rattle.tableau.specs.Halves.{Leads, wantedOf, ownStep, Swept, Righted, Findable, foundOf};
+ghost use Rattle.tableau.specs.Buffers.{solutionOf, startAfter};
 ghost use Rattle.tableau.specs.Steps.{Stops};
 ghost use Rattle.tableau.specs.Within.{Within};
 use crate::Solution;
 use crate::rows::Way;
+use crate::rows::negate;
 use crate::rows::step;
 use lattice::all_zero;
+use lattice::copy;
 use lattice::lead;
+use problem::Problem;
 
 // Which rows are taken from the right side: those whose lead lies in the first m columns, or the others.
 pub(crate) enum Half {
@@ -61,7 +66,7 @@ fn sweep(v: &mut [i64], t: &[i64], rows: usize, m: usize, half: Half) -> bool
     false
 }
 
-// The right side v by the rows of a form: the last numbers of v are then the starting list, where one is found.
+// The right side v by the rows of a form. The numbers of v from m on are then the starting list, where one is found.
 pub(crate) fn right_side(v: &mut [i64], t: &[i64], rows: usize, m: usize) -> Solution
     requires { ⌜ (length (now t) ≡ rows * length (now v)) × All Leads (chop rows (length (now v)) (now t)) ⌝ }
     requires { ⌜ Within (now t) × Within (now v) ⌝ }
@@ -78,4 +83,31 @@ pub(crate) fn right_side(v: &mut [i64], t: &[i64], rows: usize, m: usize) -> Sol
         return Solution::Over;
     }
     Solution::Found
+}
+
+// Puts −b into the first numbers of v.
+fn turn_over(v: &mut [i64], rights: &[i64])
+    requires { ⌜ (length (now rights) ≤ length (now v)) × Within (now rights) ⌝ }
+    ensures { λ _. ⌜ now (v .exit) ≡ neg (now (rights .entry)) ++ drop (length (now (rights .entry))) (now (v .entry)) ⌝ }
+{
+    let m = rights.len();
+    copy(&mut v[..m], rights);
+    negate(&mut v[..m]);
+}
+
+// Solves a formed table for the right sides b, in the list v of zeros; a starting list goes to start.
+pub(crate) fn find(v: &mut [i64], t: &[i64], p: Problem, rights: &[i64], start: &mut [i64]) -> Solution
+    requires { ⌜ Findable p (now v) (now t) (now rights) (now start) ⌝ }
+    ensures { λ r. ⌜ (r ≡ solutionOf (foundOf p (now (t .entry)) (now (rights .entry)))) × (now (start .exit) ≡ startAfter (foundOf p (now (t .entry)) (now (rights .entry))) (now (start .entry))) ⌝ }
+{
+    let m = p.rows;
+    turn_over(v, rights);
+    match right_side(v, t, p.columns, m) {
+        Solution::Over => Solution::Over,
+        Solution::None => Solution::None,
+        Solution::Found => {
+            copy(start, &v[m..]);
+            Solution::Found
+        }
+    }
 }
