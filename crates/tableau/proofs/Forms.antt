@@ -5,6 +5,8 @@
 --   formed         so it is, where no number beyond ±M was met
 --   solved-is      the right side of that form is the solution
 --   solved-over, solved-form   a form past the limit; the form of a solution
+--   table-.., form-.., answer-over, start-kept   what the answer and the buffers are, by the mark
+--   findable       what the right side asks of the form
 -- Assumes nothing.
 use mathlib.Core.Path.{_≡_, refl, sym, _∙_, ap, ap₂, subst}
 use mathlib.Core.Bool.{Bool, true, false, cond, _&&_, _||_, false≢true}
@@ -34,8 +36,9 @@ use Rattle.tableau.specs.TableLaws.{tableau-length, tableau-independent}
 use Rattle.tableau.specs.FormLaws.{Eliminated, eliminated}
 use Rattle.tableau.specs.Within.{Within}
 use Rattle.tableau.specs.Steps.{Stops, StopsRun}
-use Rattle.tableau.specs.Buffers.{Formable, Solvable, matrixOf, formOf, formAfter, solvedOf, solutionOf, tableauAfter, startAfter}
-use Rattle.tableau.specs.Halves.{Leads, foundOf}
+use Rattle.tableau.specs.Buffers.{Formable, Solvable, matrixOf, formOf, formAfter, solvedOf, answerOf, solutionOf, tableauAfter, startOf, startAfter}
+use Rattle.tableau.specs.Halves.{Leads, Findable, foundOf}
+use Rattle.tableau.specs.declared.Solution.the-variants.{Over}
 use Rattle.tableau.proofs.Staying.{flat-all, all-flat, eliminate-all, eliminate-count}
 use Rattle.tableau.proofs.Tableaus.{tableau-within}
 
@@ -190,3 +193,39 @@ unfolding solve
 solved-over p a b e =
     ap (λ (o : Bool). rightSide (length (matrixOf p a)) (formOf p a .table) o (neg b ++ zeros (p .columns)) .over) e
     ∙ right-over (length (matrixOf p a)) (formOf p a .table) (neg b ++ zeros (p .columns))
+
+-- ---- the buffers
+pub table-over : (p : Problem) (a b t : List ℤ) → solvedOf p a b .over ≡ true → tableauAfter (solvedOf p a b) t ≡ zeros (length t)
+table-over p a b t e = ap (λ (o : Bool). cond o (zeros (length t)) (flat (solvedOf p a b .form))) e
+
+pub table-kept : (p : Problem) (a b t : List ℤ) → solvedOf p a b .over ≡ false → tableauAfter (solvedOf p a b) t ≡ flat (formOf p a .table)
+table-kept p a b t e = ap (λ (o : Bool). cond o (zeros (length t)) (flat (solvedOf p a b .form))) e ∙ ap flat (solved-form p a b)
+
+pub form-over : (p : Problem) (a t : List ℤ) → formOf p a .over ≡ true → formAfter (formOf p a) t ≡ zeros (length t)
+form-over p a t e = ap (λ (o : Bool). cond o (zeros (length t)) (flat (formOf p a .table))) e
+
+pub form-kept : (p : Problem) (a t : List ℤ) → formOf p a .over ≡ false → formAfter (formOf p a) t ≡ flat (formOf p a .table)
+form-kept p a t e = ap (λ (o : Bool). cond o (zeros (length t)) (flat (formOf p a .table))) e
+
+pub answer-over : (x : Solved) → x .over ≡ true → solutionOf x ≡ Over
+answer-over x e = ap (λ (o : Bool). cond o Over (answerOf (x .found))) e
+
+pub start-kept : (x : Solved) (s : List ℤ) → x .over ≡ true → startAfter x s ≡ s
+start-kept x s e = ap (λ (o : Bool). cond o s (startOf (x .found) s)) e
+
+zeros-take : (k n : ℕ) → k ≤ n → take k (zeros n) ≡ zeros k
+zeros-take zero n h = refl
+zeros-take (suc k) zero h = absurd (omega arith)
+zeros-take (suc k) (suc n) h = ap (λ (l : List ℤ). pos 0 ∷ l) (zeros-take k n (omega arith))
+
+pub findable : {p : Problem} {t a b s u : List ℤ} (n : ℕ) → Solvable p t a b s → p .rows + p .columns ≤ n → length u ≡ length t → Formed p (formOf p a) u
+    → Findable p (take (p .rows + p .columns) (zeros n)) u b s
+findable {p} {t} {a} {b} {s} {u} n h l e f = record {
+  zero = zeros-take (p .rows + p .columns) n l;
+  table = e ∙ h .form .table;
+  leads = f .leads;
+  within = f .small;
+  right = h .right;
+  small = span-within maxRight b (lit≤ tt) (h .small);
+  start = h .start;
+}

@@ -96,7 +96,13 @@ fn turn_over(v: &mut [i64], rights: &[i64])
 }
 
 // Solves a formed table for the right sides b, in the list v of zeros; a starting list goes to start.
-pub(crate) fn find(v: &mut [i64], t: &[i64], p: Problem, rights: &[i64], start: &mut [i64]) -> Solution
+pub(crate) fn find(
+    v: &mut [i64],
+    t: &[i64],
+    p: Problem,
+    rights: &[i64],
+    start: &mut [i64],
+) -> Solution
     requires { ⌜ Findable p (now v) (now t) (now rights) (now start) ⌝ }
     ensures { λ r. ⌜ (r ≡ solutionOf (foundOf p (now (t .entry)) (now (rights .entry)))) × (now (start .exit) ≡ startAfter (foundOf p (now (t .entry)) (now (rights .entry))) (now (start .entry))) ⌝ }
 {

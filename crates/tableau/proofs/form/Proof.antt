@@ -44,8 +44,7 @@ same-length c = search needs
 returns : tie.Need-returns
 returns c =
     let n = c .before .before .before .before .before in
-    let e = sym (told n .answer) ∙ c .before .before .before .if1 .taken in
-    (
+    let e = sym (told n .answer) ∙ c .before .before .before .if1 .taken in (
       sym e,
       c .before .wipe .ensures ∙ ap zeros (c .before .before .before .before .before .eliminate .kept .0 ∙ c .before .before .before .before .before .before .before .before .before .fill .kept .0) ∙ sym (ap (λ (b : Bool). cond b (zeros (length (c .before .before .before .before .before .before .before .before .before .before .before .args .t .now))) (flat (formOf (c .before .before .before .before .before .before .before .before .before .before .before .args .p) (c .before .before .before .before .before .before .before .before .before .before .before .args .coefficients .now) .table))) e),
     )
@@ -56,8 +55,7 @@ same-length-2 c = search needs
 returns-2 : tie.Need-returns-2
 returns-2 c =
     let n = c .before .before in
-    let e = sym (told n .answer) ∙ c .if1 .left in
-    (
+    let e = sym (told n .answer) ∙ c .if1 .left in (
       sym e,
       told n .left (c .if1 .left) ∙ sym (ap (λ (b : Bool). cond b (zeros (length (c .before .before .before .before .before .before .before .before .args .t .now))) (flat (formOf (c .before .before .before .before .before .before .before .before .args .p) (c .before .before .before .before .before .before .before .before .args .coefficients .now) .table))) e),
     )

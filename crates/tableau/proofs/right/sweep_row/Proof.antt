@@ -37,8 +37,7 @@ wanted-requires c κs = search needs
 
 step-requires : tie.Need-step-requires
 step-requires c κs =
-    let a = c .before .before .before .before .args in
-    (
+    let a = c .before .before .before .before .args in (
       subst (λ (i : ℕ). Pivot (length (a .v .now)) i (a .row .now)) (sym (c .before .before .before .lead .ensures))
           (subst (λ (n : ℕ). Pivot n (Rows.lead (a .row .now)) (a .row .now)) (c .before .before .before .before .pre .0 .0) (lead-pivot (c .before .before .before .before .pre .0 .1) (c .before .before .before .before .pre .1 .0))),
       c .before .before .before .before .pre .1 .1,
