@@ -2,6 +2,7 @@
 --   flat-append, flat-chop, chop-flat   rows put end to end; a list cut into rows is that list; rows put end to end and cut are those rows
 --   chop-rows, length-chop              the rows have the width; there are as many as asked for
 --   chop-split, chop-take               the first a rows, and b more
+--   length-flat, front-rows, front-rest rows in one list: how long it is; the rows in front of a list, and that list
 --   chop-row, chop-set                  row j of a table; row j replaced
 --   row-number                          a number of row j, in the list
 --   in-table, row-in-table              where a number and a row of a table lie
@@ -75,6 +76,25 @@ chop-take zero w n t h = refl
 chop-take (suc k) w n t h =
     let e : w + k * w ≤ n = omega (arith, suc-mul k w) in
     ap₂ _∷_ (take-take w n t (omega arith)) (ap (chop k w) (drop-take w n t) ∙ chop-take k w (n - w) (drop w t) (omega arith))
+
+pub length-flat : (w : ℕ) (T : List (List ℤ)) → All (Len w) T → length (flat T) ≡ length T * w
+length-flat w [] a = sym (zero-mul w)
+length-flat w (r ∷ T) a = omega (arith, length-append r (flat T), length-flat w T (a .1), a .0, suc-mul (length T) w)
+
+-- rows in front of a list
+module _ (k w : ℕ) (T : List (List ℤ)) (l : List ℤ) (a : All (Len w) T) (e : length T ≡ k) where
+  rows-end : length (flat T) ≡ k * w
+  rows-end = length-flat w T a ∙ ap (λ (n : ℕ). n * w) e
+
+  pub front-rows : chop k w (flat T ++ l) ≡ T
+  front-rows =
+      sym (chop-take k w (k * w) (flat T ++ l) (omega arith))
+      ∙ ap (chop k w) (take-at (flat T) l (k * w) rows-end)
+      ∙ ap (λ (n : ℕ). chop n w (flat T)) (sym e)
+      ∙ chop-flat w T a
+
+  pub front-rest : drop (k * w) (flat T ++ l) ≡ l
+  front-rest = drop-at (flat T) l (k * w) rows-end
 
 -- the first of k rows, at the code's k − 1
 pub chop-next : (k w : ℕ) (t : List ℤ) → 0 < k → chop k w t ≡ take w t ∷ chop (k - 1) w (drop w t)

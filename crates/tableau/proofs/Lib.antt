@@ -5,3 +5,9 @@ pub mod Choosing
 pub mod Lifting
 pub mod Rounds
 pub mod Turns
+pub mod Staying
+pub mod Passing
+pub mod Tableaus
+pub mod Sweeping
+pub mod Answers
+pub mod Forms

@@ -13,3 +13,6 @@ pub mod Within
 pub mod Steps
 pub mod Choices
 pub mod Tails
+pub mod Columns
+pub mod Buffers
+pub mod Halves

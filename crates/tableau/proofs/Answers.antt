@@ -1,0 +1,139 @@
+-- Laws of what the right side answers.
+--   righted-over, -none, -late, -found   a number beyond ±M in the first half; the first m numbers not all 0; one in the second half; none
+--   solution-.., start-..                what an answer says of the mark, and of the buffer of the starting list
+--   work-wide, list-.., found-is         the list (−b, then zeros) that the right side starts with
+-- Assumes nothing.
+use mathlib.Core.Path.{_≡_, refl, sym, _∙_, ap, ap₂, subst}
+use mathlib.Core.Bool.{Bool, true, false, cond, _||_}
+use mathlib.Core.List.{List, _++_}
+use Prim.Native.Nat.{ℕ, _+_}
+use native.Mathlib.Omega.{arith}
+use lib.IntN.{ℤ, pos}
+use lib.ListN.{length, take, drop, length-append, length-replicate, replicate-append-replicate}
+use lib.Seq.{drop-at}
+use Rattle.whole.specs.Lists.{zeros}
+use Rattle.lattice.specs.Rows.{neg, allZero, chop}
+use Rattle.lattice.specs.RowLaws.{length-neg}
+use Rattle.problem.specs.declared.Problem.{Problem}
+use Rattle.tableau.specs.Elimination.{Left}
+use Rattle.tableau.specs.RightSide as RightSide
+use Rattle.tableau.specs.RightSide.{none, some, Solved, sweep, leading, remaining, basis, afterLeading, rightSide}
+use Rattle.tableau.specs.Buffers.{answerOf, solutionOf, startOf, startAfter}
+use Rattle.tableau.specs.Within.{Within, within-append, within-neg, within-zeros}
+use Rattle.tableau.specs.Halves.{Righted, Findable, foundOf}
+use Rattle.tableau.specs.declared.Solution.{Solution}
+use Rattle.tableau.specs.declared.Solution.the-variants.{Over, None, Found}
+
+over-found : Over ≡ Found → ⊥
+over-found e = let z : _≡_ {A = ℕ} 0 1 = cc in omega arith
+
+none-found : None ≡ Found → ⊥
+none-found e = let z : _≡_ {A = ℕ} 0 1 = cc in omega arith
+
+module _ (m : ℕ) (T : List (List ℤ)) (v : List ℤ) where
+  abbrev first : Left
+  first = sweep (leading m T) v
+
+  abbrev second : Left
+  second = sweep (remaining m T) (first .row)
+
+  -- by what the test of the first m numbers says, and the marks of the two halves
+  abbrev by : Bool → Bool → Bool → Solved
+  by z o p =
+      cond z (record { form = T; found = some (drop m (second .row)) (basis m T); over = false || (o || p) })
+      (record { form = T; found = none; over = false || o })
+
+  is-by : rightSide m T false v ≡ by (allZero (take m (first .row))) (first .over) (second .over)
+  unfolding rightSide
+  is-by = refl
+
+  pub righted-over : (u : List ℤ) → first .over ≡ true → Righted m T v Over u
+  righted-over u e = record {
+    answer = sym (ap solutionOf is-by ∙ ap (λ (o : Bool). solutionOf (by (allZero (take m (first .row))) o (second .over))) e ∙ go (allZero (take m (first .row))));
+    start = λ f. absurd (over-found f);
+  }
+    where
+      go : (z : Bool) → solutionOf (by z true (second .over)) ≡ Over
+      go true = refl
+      go false = refl
+
+  pub righted-none : (u : List ℤ) → first .over ≡ false → allZero (take m (first .row)) ≡ false → Righted m T v None u
+  righted-none u e z = record {
+    answer = sym (ap solutionOf is-by ∙ ap₂ (λ (a o : Bool). solutionOf (by a o (second .over))) z e);
+    start = λ f. absurd (none-found f);
+  }
+
+  pub righted-late : (u : List ℤ) → first .over ≡ false → allZero (take m (first .row)) ≡ true → second .over ≡ true → Righted m T v Over u
+  righted-late u e z f = record {
+    answer = sym (ap solutionOf is-by ∙ ap₂ (λ (a o : Bool). solutionOf (by a o (second .over))) z e ∙ ap (λ (p : Bool). solutionOf (by true false p)) f);
+    start = λ f. absurd (over-found f);
+  }
+
+  pub righted-found : (u : List ℤ) → first .over ≡ false → allZero (take m (first .row)) ≡ true → second .over ≡ false → u ≡ second .row → Righted m T v Found u
+  righted-found u e z f r = record {
+    answer = sym (ap solutionOf is-by ∙ ap₂ (λ (a o : Bool). solutionOf (by a o (second .over))) z e ∙ ap (λ (p : Bool). solutionOf (by true false p)) f);
+    start = λ _.
+        ap (λ (x : Solved). x .found) is-by
+        ∙ ap (λ (a : Bool). by a (first .over) (second .over) .found) z
+        ∙ ap (λ (l : List ℤ). some (drop m l) (basis m T)) (sym r);
+  }
+
+-- ---- what an answer says of the solution
+over-none : None ≡ Over → ⊥
+over-none e = let z : _≡_ {A = ℕ} 0 1 = cc in omega arith
+
+is-over : (o : Bool) (f : RightSide.Found) → cond o Over (answerOf f) ≡ Over → o ≡ true
+is-over true f e = refl
+is-over false none e = absurd (over-none e)
+is-over false (some v N) e = absurd (over-found (sym e))
+
+pub solution-over : (x : Solved) → Over ≡ solutionOf x → x .over ≡ true
+solution-over x e = is-over (x .over) (x .found) (sym e)
+
+not-over : (o : Bool) (f : RightSide.Found) (r : Solution) → (r ≡ Over → ⊥) → r ≡ cond o Over (answerOf f) → o ≡ false
+not-over true f r n e = absurd (n e)
+not-over false f r n e = refl
+
+pub solution-none : (x : Solved) → None ≡ solutionOf x → x .over ≡ false
+solution-none x e = not-over (x .over) (x .found) None over-none e
+
+pub solution-found : (x : Solved) → Found ≡ solutionOf x → x .over ≡ false
+solution-found x e = not-over (x .over) (x .found) Found (λ f. over-found (sym f)) e
+
+start-by : (o : Bool) (f : RightSide.Found) (s : List ℤ) → None ≡ cond o Over (answerOf f) → cond o s (startOf f s) ≡ s
+start-by true f s e = refl
+start-by false none s e = refl
+start-by false (some v N) s e = absurd (none-found e)
+
+pub start-over : (x : Solved) (s : List ℤ) → Over ≡ solutionOf x → startAfter x s ≡ s
+start-over x s e = ap (λ (o : Bool). cond o s (startOf (x .found) s)) (solution-over x e)
+
+pub start-none : (x : Solved) (s : List ℤ) → None ≡ solutionOf x → startAfter x s ≡ s
+start-none x s e = start-by (x .over) (x .found) s e
+
+pub start-found : (x : Solved) (s v : List ℤ) (N : List (List ℤ)) → Found ≡ solutionOf x → x .found ≡ some v N → startAfter x s ≡ v
+start-found x s v N e f = ap₂ (λ (o : Bool) (g : RightSide.Found). cond o s (startOf g s)) (solution-found x e) f
+
+-- ---- the list (−b, then zeros)
+zeros-rest : (m n : ℕ) → drop m (zeros (m + n)) ≡ zeros n
+zeros-rest m n = ap (drop m) (sym (replicate-append-replicate m n (pos 0))) ∙ drop-at (zeros m) (zeros n) m (length-replicate m (pos 0))
+
+module _ {p : Problem} {v t b s : List ℤ} (h : Findable p v t b s) where
+  pub work-wide : length v ≡ p .rows + p .columns
+  work-wide = ap length (h .zero) ∙ length-replicate (p .rows + p .columns) (pos 0)
+
+  module _ {u : List ℤ} (e : u ≡ neg b ++ drop (length b) v) where
+    list-is : u ≡ neg b ++ zeros (p .columns)
+    list-is = e ∙ ap₂ (λ (i : ℕ) (l : List ℤ). neg b ++ drop i l) (h .right) (h .zero) ∙ ap (λ (l : List ℤ). neg b ++ l) (zeros-rest (p .rows) (p .columns))
+
+    pub list-wide : length u ≡ p .rows + p .columns
+    list-wide =
+        ap length list-is
+        ∙ length-append (neg b) (zeros (p .columns))
+        ∙ ap₂ _+_ (length-neg b ∙ h .right) (length-replicate (p .columns) (pos 0))
+
+    pub list-small : Within u
+    list-small = subst Within (sym list-is) (within-append (neg b) (zeros (p .columns)) (within-neg b (h .small)) (within-zeros (p .columns)))
+
+    pub found-is : rightSide (p .rows) (chop (p .columns) (length u) t) false u ≡ foundOf p t b
+    found-is = ap₂ (λ (i : ℕ) (l : List ℤ). rightSide (p .rows) (chop (p .columns) i t) false l) list-wide list-is

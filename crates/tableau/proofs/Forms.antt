@@ -1,0 +1,231 @@
+-- Laws of the form and the solution of a problem, as they lie in the lent buffers.
+--   span-within    numbers within a limit no larger than M
+--   form-stops     what elimination of the filled table answers and leaves is the form
+--   Formed         what stands in the tableau's buffer then: the form's rows, each with a lead above 0, within ±M
+--   formed         so it is, where no number beyond ±M was met
+--   solved-is      the right side of that form is the solution
+--   solved-over, solved-form   a form past the limit; the form of a solution
+--   table-.., form-.., answer-over, start-kept   what the answer and the buffers are, by the mark
+--   findable       what the right side asks of the form
+-- Assumes nothing.
+use mathlib.Core.Path.{_≡_, refl, sym, _∙_, ap, ap₂, subst}
+use mathlib.Core.Bool.{Bool, true, false, cond, _&&_, _||_, false≢true}
+use mathlib.Core.List.{List, [], _∷_, _++_, map}
+use mathlib.Core.Logic.{⊎-elim}
+use Prim.Native.Nat.{ℕ, zero, suc, _+_, _*_, _<_, _≤_}
+use native.Mathlib.Nat.{eq-or-lt-of-le, le-of-suc-le-suc, le-trans}
+use native.Mathlib.Omega.{arith}
+use borrow.Author.Tests.{leb-true, le-ltb}
+use lib.Dec.{leb, lit≤}
+use lib.IntN.{ℤ, pos, negsuc, natAbs}
+use lib.ListN.{length, take, drop}
+use Rattle.whole.specs.Lists.{entry, zeros}
+use Rattle.whole.specs.Tests.{spans, every}
+use Rattle.whole.specs.Integers.{Positive, positive}
+use Rattle.lattice.specs.Rows.{neg, allZero, lead, flat, chop}
+use Rattle.lattice.specs.Span.{All, Len, Independent}
+use Rattle.lattice.specs.Hermite.{Echelon, done, skip, step, width, indent, rows, Hermite}
+use Rattle.lattice.specs.FlatLaws.{flat-chop, chop-flat, length-chop}
+use Rattle.problem.specs.Limits.{M, maxCoefficient, maxRight, anyBeyond}
+use Rattle.problem.specs.Checks.{allSpan}
+use Rattle.problem.specs.declared.Problem.{Problem}
+use Rattle.tableau.specs.Table.{tableauFrom, tableau}
+use Rattle.tableau.specs.Elimination.{Left, Run, eliminate}
+use Rattle.tableau.specs.RightSide.{none, some, Solved, sweep, leading, remaining, basis, rightSide, form, solve}
+use Rattle.tableau.specs.TableLaws.{tableau-length, tableau-independent}
+use Rattle.tableau.specs.FormLaws.{Eliminated, eliminated}
+use Rattle.tableau.specs.Within.{Within}
+use Rattle.tableau.specs.Steps.{Stops, StopsRun}
+use Rattle.tableau.specs.Buffers.{Formable, Solvable, matrixOf, formOf, formAfter, solvedOf, answerOf, solutionOf, tableauAfter, startOf, startAfter}
+use Rattle.tableau.specs.Halves.{Leads, Findable, foundOf}
+use Rattle.tableau.specs.declared.Solution.the-variants.{Over}
+use Rattle.tableau.proofs.Staying.{flat-all, all-flat, eliminate-all, eliminate-count}
+use Rattle.tableau.proofs.Tableaus.{tableau-within}
+
+-- ---- numbers within a limit
+both : (a b : Bool) → a && b ≡ true → (a ≡ true) × (b ≡ true)
+both true b e = (refl, e)
+both false b e = absurd (false≢true e)
+
+every-at : (n : ℕ) (f : ℕ → Bool) (i : ℕ) → i < n → every n f ≡ true → f i ≡ true
+unfolding every
+every-at zero f i l e = absurd (omega arith)
+every-at (suc n) f i l e =
+    let d : (every n f ≡ true) × (f n ≡ true) = both (every n f) (f n) e in
+    ⊎-elim (λ p. rw p (d .1)) (λ p. every-at n f i p (d .0)) (eq-or-lt-of-le (le-of-suc-le-suc l))
+
+numbers-within : (l : List ℤ) → ((i : ℕ) → i < length l → natAbs (entry i l) ≤ M) → Within l
+unfolding anyBeyond
+numbers-within [] f = refl
+numbers-within (x ∷ l) f = rw (le-ltb M (natAbs x) (f 0 (omega arith))) (numbers-within l (λ i h. f (suc i) (omega arith)))
+
+pub span-within : (k : ℕ) (l : List ℤ) → k ≤ M → allSpan k l ≡ true → Within l
+span-within k l h e =
+    numbers-within l (λ i p. le-trans (leb-true (natAbs (entry i l)) k (every-at (length l) (λ j. spans k (entry j l)) i p e)) h)
+
+-- ---- the tableau
+count-from : (k j n : ℕ) (A : List (List ℤ)) → length (tableauFrom k j n A) ≡ k
+unfolding tableauFrom
+count-from zero j n A = refl
+count-from (suc k) j n A = ap suc (count-from k (suc j) n A)
+
+tableau-count : (n : ℕ) (A : List (List ℤ)) → length (tableau n A) ≡ n
+unfolding tableau
+tableau-count n A = count-from n 0 n A
+
+-- ---- the leads of a Hermite form
+lead-skip : (r : List ℤ) → Leads r → Leads (pos 0 ∷ r)
+unfolding lead
+lead-skip r h = h
+
+skip-leads : (T : List (List ℤ)) → All Leads T → All Leads (indent T)
+skip-leads [] a = tt
+skip-leads (r ∷ T) a = (lead-skip r (a .0), skip-leads T (a .1))
+
+skip-wide : (w : ℕ) (T : List (List ℤ)) → All (Len w) T → All (Len (suc w)) (indent T)
+skip-wide w [] a = tt
+skip-wide w (r ∷ T) a = (ap suc (a .0), skip-wide w T (a .1))
+
+lead-first : {p : ℤ} (r : List ℤ) → Positive p → Leads (p ∷ r)
+unfolding lead
+lead-first r (positive k) = positive k
+
+hermite-leads : (H : Echelon) → Hermite H → All Leads (rows H)
+hermite-leads done h = tt
+hermite-leads (skip H) h = skip-leads (rows H) (hermite-leads H h)
+hermite-leads (step p r H) h = (lead-first r (h .0), skip-leads (rows H) (hermite-leads H (h .3)))
+
+hermite-wide : (H : Echelon) → Hermite H → All (Len (width H)) (rows H)
+hermite-wide done h = tt
+hermite-wide (skip H) h = skip-wide (width H) (rows H) (hermite-wide H h)
+hermite-wide (step p r H) h = (ap suc (h .1), skip-wide (width H) (rows H) (hermite-wide H (h .3)))
+
+-- ---- the form
+pub record Formed (p : Problem) (F : Run) (t : List ℤ) : Type 0 where
+  pub rows : chop (p .columns) (p .rows + p .columns) t ≡ F .table
+  pub leads : All Leads (chop (p .columns) (p .rows + p .columns) t)
+  pub small : Within t
+
+module _ {p : Problem} {t a : List ℤ} (h : Formable p t a) where
+  abbrev n : ℕ
+  n = p .columns
+
+  abbrev w : ℕ
+  w = p .rows + p .columns
+
+  abbrev A : List (List ℤ)
+  A = matrixOf p a
+
+  count : length A ≡ p .rows
+  count = length-chop (p .rows) (p .columns) a
+
+  matrix-within : All Within A
+  matrix-within =
+      all-flat A (rw (flat-chop (p .rows) (p .columns) a (h .matrix)) (span-within maxCoefficient a (lit≤ tt) (h .small)))
+
+  pub table-within : Within (flat (tableau n A))
+  table-within = tableau-within n A matrix-within
+
+  table-wide : All (Len w) (tableau n A)
+  table-wide = subst (λ (i : ℕ). All (Len (i + n)) (tableau n A)) count (tableau-length n A)
+
+  table-rows : chop n w (flat (tableau n A)) ≡ tableau n A
+  table-rows = ap (λ (i : ℕ). chop i w (flat (tableau n A))) (sym (tableau-count n A)) ∙ chop-flat w (tableau n A) table-wide
+
+  form-is : eliminate w (tableau n A) ≡ formOf p a
+  unfolding form
+  form-is = ap (λ (i : ℕ). eliminate (i + n) (tableau n A)) (sym count)
+
+  pub form-stops : {u v : List ℤ} {r : Bool} → u ≡ flat (tableau n A) → StopsRun (eliminate w (chop n w u)) r v → StopsRun (formOf p a) r v
+  form-stops {u} {v} {r} e s = subst (λ (x : Run). StopsRun x r v) (ap (λ (l : List ℤ). eliminate w (chop n w l)) e ∙ ap (eliminate w) table-rows ∙ form-is) s
+
+  hermite : Eliminated w (tableau n A)
+  hermite = eliminated w (tableau n A) table-wide (subst (λ (i : ℕ). Independent (i + n) (tableau n A)) count (tableau-independent n A))
+
+  form-rows : formOf p a .table ≡ rows (hermite .form)
+  form-rows = ap (λ (x : Run). x .table) (sym form-is) ∙ hermite .is
+
+  form-wide : All (Len w) (formOf p a .table)
+  form-wide = subst (All (Len w)) (sym form-rows) (subst (λ (i : ℕ). All (Len i) (rows (hermite .form))) (hermite .wide) (hermite-wide (hermite .form) (hermite .hermite)))
+
+  form-count : length (formOf p a .table) ≡ n
+  form-count = ap (λ (x : Run). length (x .table)) (sym form-is) ∙ eliminate-count w (tableau n A) ∙ tableau-count n A
+
+  pub formed : {v : List ℤ} → formOf p a .over ≡ false → v ≡ flat (formOf p a .table) → Formed p (formOf p a) v
+  formed {v} o e =
+      let c : chop n w v ≡ formOf p a .table =
+      ap (chop n w) e ∙ ap (λ (i : ℕ). chop i w (flat (formOf p a .table))) (sym form-count) ∙ chop-flat w (formOf p a .table) form-wide in
+      record {
+        rows = c;
+        leads = subst (All Leads) (sym (c ∙ form-rows)) (hermite-leads (hermite .form) (hermite .hermite));
+        small =
+            subst Within (sym e)
+            (flat-all (formOf p a .table)
+            (subst (λ (x : Run). All Within (x .table)) form-is
+            (eliminate-all w (tableau n A) (all-flat (tableau n A) table-within) (ap (λ (x : Run). x .over) form-is ∙ o))));
+      }
+
+  -- ---- the solution
+  pub solved-is : {v : List ℤ} (b : List ℤ) → formOf p a .over ≡ false → Formed p (formOf p a) v → solvedOf p a b ≡ foundOf p v b
+  unfolding solve
+  solved-is {v} b o f =
+      ap (λ (i : ℕ). rightSide i (formOf p a .table) (formOf p a .over) (neg b ++ zeros n)) count
+      ∙ ap₂ (λ (T : List (List ℤ)) (x : Bool). rightSide (p .rows) T x (neg b ++ zeros n)) (sym (f .rows)) o
+
+either : (P : Solved → Type 0) (z : Bool) (x y : Solved) → P x → P y → P (cond z x y)
+either P true x y a b = a
+either P false x y a b = b
+
+right-form : (m : ℕ) (T : List (List ℤ)) (o : Bool) (v : List ℤ) → rightSide m T o v .form ≡ T
+unfolding rightSide
+right-form m T o v = either (λ (x : Solved). x .form ≡ T) (allZero (take m (sweep (leading m T) v .row))) _ _ refl refl
+
+right-over : (m : ℕ) (T : List (List ℤ)) (v : List ℤ) → rightSide m T true v .over ≡ true
+unfolding rightSide
+right-over m T v = either (λ (x : Solved). x .over ≡ true) (allZero (take m (sweep (leading m T) v .row))) _ _ refl refl
+
+pub solved-form : (p : Problem) (a b : List ℤ) → solvedOf p a b .form ≡ formOf p a .table
+unfolding solve
+solved-form p a b = right-form (length (matrixOf p a)) (formOf p a .table) (formOf p a .over) (neg b ++ zeros (p .columns))
+
+pub solved-over : (p : Problem) (a b : List ℤ) → formOf p a .over ≡ true → solvedOf p a b .over ≡ true
+unfolding solve
+solved-over p a b e =
+    ap (λ (o : Bool). rightSide (length (matrixOf p a)) (formOf p a .table) o (neg b ++ zeros (p .columns)) .over) e
+    ∙ right-over (length (matrixOf p a)) (formOf p a .table) (neg b ++ zeros (p .columns))
+
+-- ---- the buffers
+pub table-over : (p : Problem) (a b t : List ℤ) → solvedOf p a b .over ≡ true → tableauAfter (solvedOf p a b) t ≡ zeros (length t)
+table-over p a b t e = ap (λ (o : Bool). cond o (zeros (length t)) (flat (solvedOf p a b .form))) e
+
+pub table-kept : (p : Problem) (a b t : List ℤ) → solvedOf p a b .over ≡ false → tableauAfter (solvedOf p a b) t ≡ flat (formOf p a .table)
+table-kept p a b t e = ap (λ (o : Bool). cond o (zeros (length t)) (flat (solvedOf p a b .form))) e ∙ ap flat (solved-form p a b)
+
+pub form-over : (p : Problem) (a t : List ℤ) → formOf p a .over ≡ true → formAfter (formOf p a) t ≡ zeros (length t)
+form-over p a t e = ap (λ (o : Bool). cond o (zeros (length t)) (flat (formOf p a .table))) e
+
+pub form-kept : (p : Problem) (a t : List ℤ) → formOf p a .over ≡ false → formAfter (formOf p a) t ≡ flat (formOf p a .table)
+form-kept p a t e = ap (λ (o : Bool). cond o (zeros (length t)) (flat (formOf p a .table))) e
+
+pub answer-over : (x : Solved) → x .over ≡ true → solutionOf x ≡ Over
+answer-over x e = ap (λ (o : Bool). cond o Over (answerOf (x .found))) e
+
+pub start-kept : (x : Solved) (s : List ℤ) → x .over ≡ true → startAfter x s ≡ s
+start-kept x s e = ap (λ (o : Bool). cond o s (startOf (x .found) s)) e
+
+zeros-take : (k n : ℕ) → k ≤ n → take k (zeros n) ≡ zeros k
+zeros-take zero n h = refl
+zeros-take (suc k) zero h = absurd (omega arith)
+zeros-take (suc k) (suc n) h = ap (λ (l : List ℤ). pos 0 ∷ l) (zeros-take k n (omega arith))
+
+pub findable : {p : Problem} {t a b s u : List ℤ} (n : ℕ) → Solvable p t a b s → p .rows + p .columns ≤ n → length u ≡ length t → Formed p (formOf p a) u
+    → Findable p (take (p .rows + p .columns) (zeros n)) u b s
+findable {p} {t} {a} {b} {s} {u} n h l e f = record {
+  zero = zeros-take (p .rows + p .columns) n l;
+  table = e ∙ h .form .table;
+  leads = f .leads;
+  within = f .small;
+  right = h .right;
+  small = span-within maxRight b (lit≤ tt) (h .small);
+  start = h .start;
+}

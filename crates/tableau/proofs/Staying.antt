@@ -1,0 +1,143 @@
+-- What the steps keep: rows within ±M, where they mark no number beyond ±M; and the count of rows.
+--   flat-all, all-flat   rows within ±M, and the list of them
+--   each-all, round-all, gather-all   each row's step, a round and gathering keep rows within ±M
+--   eliminate-all        so does the whole elimination
+--   gather-count, eliminate-count   gathering and elimination keep the count of rows
+-- Assumes nothing.
+use mathlib.Core.Path.{_≡_, refl, sym, _∙_, ap}
+use mathlib.Core.Bool.{Bool, true, false, _||_, false≢true}
+use mathlib.Core.List.{List, [], _∷_, _++_}
+use Prim.Native.Nat.{ℕ, zero, suc, _+_}
+use native.Mathlib.Nat.{zero-add}
+use native.Mathlib.Omega.{arith}
+use lib.IntN.{ℤ, pos, negsuc}
+use lib.ListN.{length, getD, set, length-set, length-append}
+use Rattle.whole.specs.Lists.{entry}
+use Rattle.lattice.specs.Rows.{flat}
+use Rattle.lattice.specs.Span.{All, all-append}
+use Rattle.problem.specs.Limits.{anyBeyond}
+use Rattle.tableau.specs.Elimination.{Left, each, reduced, Choice, none, at, choose, Gathered, exchange, signed, clear, round, gather, Passed, passColumn, passColumns, eliminate}
+use Rattle.tableau.specs.Within.{Within, within-append, within-left, within-right, within-neg}
+use Rattle.tableau.specs.declared.rows.Way.the-variants.{Below, Above}
+use Rattle.tableau.proofs.Walking.{Step, stepping, each-count}
+
+pub flat-all : (T : List (List ℤ)) → All Within T → Within (flat T)
+unfolding anyBeyond
+flat-all [] a = refl
+flat-all (r ∷ T) a = within-append r (flat T) (a .0) (flat-all T (a .1))
+
+pub all-flat : (T : List (List ℤ)) → Within (flat T) → All Within T
+all-flat [] h = tt
+all-flat (r ∷ T) h = (within-left r (flat T) h, all-flat T (within-right r (flat T) h))
+
+unmarked : (a b : Bool) → a || b ≡ false → (a ≡ false) × (b ≡ false)
+unmarked true b e = absurd (false≢true (sym e))
+unmarked false b e = (refl, e)
+
+pub each-all : {f : List ℤ → Left} (B : List (List ℤ)) → Step f → All Within B → each f B .over ≡ false → All Within (each f B .table)
+unfolding each
+each-all {f} [] s a e = tt
+each-all {f} (r ∷ B) s a e =
+    let d : (f r .over ≡ false) × (each f B .over ≡ false) = unmarked (f r .over) (each f B .over) e in
+    (s .holds r (a .0) (d .0), each-all B s (a .1) (d .1))
+
+row-all : (B : List (List ℤ)) (j : ℕ) (b : List ℤ) → Within b → All Within B → Within (getD B j b)
+row-all [] j b h a = h
+row-all (r ∷ B) zero b h a = a .0
+row-all (r ∷ B) (suc j) b h a = row-all B j b h (a .1)
+
+set-all : (B : List (List ℤ)) (j : ℕ) (b : List ℤ) → Within b → All Within B → All Within (set B j b)
+set-all [] j b h a = tt
+set-all (r ∷ B) zero b h a = (h, a .1)
+set-all (r ∷ B) (suc j) b h a = (a .0, set-all B j b h (a .1))
+
+exchange-all : (z : Choice) (b : List ℤ) (B : List (List ℤ)) → All Within (b ∷ B) → All Within (exchange z b B .0 ∷ exchange z b B .1)
+unfolding exchange
+exchange-all none b B a = a
+exchange-all (at zero p) b B a = a
+exchange-all (at (suc j) p) b B a = (row-all B j b (a .0) (a .1), set-all B j b (a .0) (a .1))
+
+signed-all : (z : ℤ) (r : List ℤ) → Within r → Within (signed z r)
+signed-all (pos n) r h = h
+signed-all (negsuc n) r h = within-neg r h
+
+pub round-all : (c : ℕ) (b : List ℤ) (B : List (List ℤ)) → All Within (b ∷ B) → round c b B .over ≡ false → All Within (round c b B .pivot ∷ round c b B .below)
+unfolding round clear
+round-all c b B a e =
+    let z : Choice = choose c (b ∷ B) in
+    let x : List ℤ × List (List ℤ) = exchange z b B in
+    let h : All Within (x .0 ∷ x .1) = exchange-all z b B a in
+    (signed-all (entry c (x .0)) (x .0) (h .0), each-all (x .1) (stepping Below c (signed (entry c (x .0)) (x .0))) (h .1) e)
+
+pub gather-all : (f c : ℕ) (z : Choice) (b : List ℤ) (B : List (List ℤ)) → All Within (b ∷ B) → gather f c z b B .over ≡ false
+    → All Within (gather f c z b B .pivot ∷ gather f c z b B .below)
+unfolding gather
+gather-all zero c z b B a e = a
+gather-all (suc f) c none b B a e = a
+gather-all (suc f) c (at j p) b B a e =
+    let x : Gathered = round c b B in
+    let d : (x .over ≡ false) × (gather f c (choose c (x .below)) (x .pivot) (x .below) .over ≡ false) = unmarked (x .over) (gather f c (choose c (x .below)) (x .pivot) (x .below) .over) e in
+    gather-all f c (choose c (x .below)) (x .pivot) (x .below) (round-all c b B a (d .0)) (d .1)
+
+exchange-count : (z : Choice) (b : List ℤ) (B : List (List ℤ)) → length (exchange z b B .1) ≡ length B
+unfolding exchange
+exchange-count none b B = refl
+exchange-count (at zero p) b B = refl
+exchange-count (at (suc j) p) b B = length-set B j b
+
+round-count : (c : ℕ) (b : List ℤ) (B : List (List ℤ)) → length (round c b B .below) ≡ length B
+unfolding round clear
+round-count c b B = each-count _ (exchange (choose c (b ∷ B)) b B .1) ∙ exchange-count (choose c (b ∷ B)) b B
+
+pub gather-count : (f c : ℕ) (z : Choice) (b : List ℤ) (B : List (List ℤ)) → length (gather f c z b B .below) ≡ length B
+unfolding gather
+gather-count zero c z b B = refl
+gather-count (suc f) c none b B = refl
+gather-count (suc f) c (at j p) b B =
+    gather-count f c (choose c (round c b B .below)) (round c b B .pivot) (round c b B .below) ∙ round-count c b B
+
+-- ---- columns
+column-all : (c : ℕ) (A B : List (List ℤ)) (z : Choice) → All Within A → All Within B → passColumn c A B z .over ≡ false
+    → All Within (passColumn c A B z .above) × All Within (passColumn c A B z .below)
+unfolding passColumn
+column-all c A B none a b e = (a, b)
+column-all c A [] (at j p) a b e = (a, tt)
+column-all c A (r ∷ B) (at j p) a b e =
+    let g : Gathered = gather p c (at j p) r B in
+    let d : (g .over ≡ false) × (each (reduced c (g .pivot)) A .over ≡ false) = unmarked (g .over) (each (reduced c (g .pivot)) A .over) e in
+    let h : All Within (g .pivot ∷ g .below) = gather-all p c (at j p) r B b (d .0) in
+    (all-append Within (each (reduced c (g .pivot)) A .table) (g .pivot ∷ []) .1 (each-all A (stepping Above c (g .pivot)) a (d .1), (h .0, tt)), h .1)
+
+columns-all : (d c : ℕ) (A B : List (List ℤ)) → All Within A → All Within B → passColumns d c A B .over ≡ false → All Within (passColumns d c A B .table)
+unfolding passColumns
+columns-all zero c A B a b e = all-append Within A B .1 (a, b)
+columns-all (suc d) c A B a b e =
+    let x : Passed = passColumn c A B (choose c B) in
+    let h : (x .over ≡ false) × (passColumns d (suc c) (x .above) (x .below) .over ≡ false) =
+    unmarked (x .over) (passColumns d (suc c) (x .above) (x .below) .over) e in
+    let s : All Within (x .above) × All Within (x .below) = column-all c A B (choose c B) a b (h .0) in
+    columns-all d (suc c) (x .above) (x .below) (s .0) (s .1) (h .1)
+
+pub eliminate-all : (w : ℕ) (T : List (List ℤ)) → All Within T → eliminate w T .over ≡ false → All Within (eliminate w T .table)
+unfolding eliminate
+eliminate-all w T a e = columns-all w 0 [] T tt a e
+
+column-count : (c : ℕ) (A B : List (List ℤ)) (z : Choice) → length (passColumn c A B z .above) + length (passColumn c A B z .below) ≡ length A + length B
+unfolding passColumn
+column-count c A B none = refl
+column-count c A [] (at j p) = refl
+column-count c A (r ∷ B) (at j p) =
+    let g : Gathered = gather p c (at j p) r B in
+    let a : List (List ℤ) = each (reduced c (g .pivot)) A .table in
+    omega (arith, length-append a (g .pivot ∷ []), each-count (reduced c (g .pivot)) A, gather-count p c (at j p) r B)
+
+columns-count : (d c : ℕ) (A B : List (List ℤ)) → length (passColumns d c A B .table) ≡ length A + length B
+unfolding passColumns
+columns-count zero c A B = length-append A B
+columns-count (suc d) c A B =
+    let x : Passed = passColumn c A B (choose c B) in
+    columns-count d (suc c) (x .above) (x .below) ∙ column-count c A B (choose c B)
+
+pub eliminate-count : (w : ℕ) (T : List (List ℤ)) → length (eliminate w T .table) ≡ length T
+unfolding eliminate
+eliminate-count w T = columns-count w 0 [] T ∙ zero-add (length T)

@@ -1,0 +1,144 @@
+-- `tableau::elimination::pass` meets its contract: the rows from row k on are gathered, and the pivot is taken from the rows above.
+-- Assumes nothing.
+use mathlib.Core.Path.{_≡_, sym, _∙_, ap, ap₂, subst}
+use mathlib.Core.Bool.{true, false, true≢false}
+use mathlib.Core.List.{List, _++_}
+use Prim.Native.Nat.{ℕ, _+_, _-_, _*_, _≤_}
+use native.Mathlib.Omega.{arith}
+use borrow.Rule.Slice.PartMut.{putMid}
+use lib.IntN.{ℤ}
+use lib.ListN.{length, take, drop, length-append}
+use lib.Seq.{length-take-le, take-at, drop-at}
+use Rattle.lattice.proofs.Parts.{tail-is, tail-back}
+use Rattle.tableau.specs.Elimination.{Gathered}
+use Rattle.tableau.specs.Within.{Within, within-take}
+use Rattle.tableau.specs.Steps.{StopsRun, Pivot, eachOf}
+use Rattle.tableau.specs.Columns.{passedOf, tableOf}
+use Rattle.tableau.specs.declared.rows.Way.the-variants.{Above}
+use Rattle.tableau.specs.Tails.{Gathers, gatheringOf}
+use Rattle.tableau.proofs.Passing.{tail-of, room-of, rows-of, pivot-of, passed-over, passed-stops}
+use borrow.Author.Needs.{needs}
+use Rattle.tableau.proofs.elimination.pass.Statement.{statement}
+use Rattle.tableau.proofs.elimination.pass.Tie as tie
+
+-- what gathering answers and leaves
+told :
+    (c : tie.After-gather) →
+    let a = c .before .before .before .args in
+    Gathers (gatheringOf (a .rows - a .k) (length (a .pivot .now)) (a .c) (drop (a .k * length (a .pivot .now)) (a .t .now))) (c .gather .result) (c .gather .last .0) (c .gather .last .1 .1 .0)
+told c =
+    let a = c .before .before .before .args in
+    rw (tail-is (a .k * length (a .pivot .now)) (a .t .now)) at (c .gather .ensures)
+
+-- once that has met no number beyond M
+module _ (c : tie.Else1) where
+  abbrev s : tie.Start
+  s = c .before .before .before .before .before .before
+
+  abbrev t-of : List ℤ
+  t-of = s .args .t .now
+
+  abbrev at : ℕ
+  at = s .args .k * length (s .args .pivot .now)
+
+  abbrev u : List ℤ
+  u = c .before .before .before .gather .last .0
+
+  room : at ≤ length t-of
+  room = room-of (s .pre .0)
+
+  unmarked : gatheringOf (s .args .rows - s .args .k) (length (s .args .pivot .now)) (s .args .c) (drop at t-of) .over ≡ false
+  unmarked = sym (told (c .before .before .before) .answer) ∙ c .if1 .left
+
+  back-is : putMid at (length t-of - at) t-of u ≡ take at t-of ++ u
+  back-is = tail-back at t-of u room
+
+  top-is : take at (putMid at (length t-of - at) t-of u) ≡ take at t-of
+  top-is = ap (take at) back-is ∙ take-at (take at t-of) u at (length-take-le at t-of room)
+
+mul-at : tie.Need-mul-at
+mul-at c = omega (arith, room-of (c .pre .0))
+
+mul-gather : tie.Need-mul-gather
+mul-gather c = omega (arith, room-of (c .pre .0))
+
+sub-gather : tie.Need-sub-gather
+sub-gather c = room-of (c .pre .0)
+
+part-gather-start : tie.Need-part-gather-start
+part-gather-start c = omega (arith, room-of (c .pre .0))
+
+part-gather-end : tie.Need-part-gather-end
+part-gather-end c = search needs
+
+sub-gather-2 : tie.Need-sub-gather-2
+sub-gather-2 c = omega (arith, c .before .pre .0 .most)
+
+gather-requires : tie.Need-gather-requires
+gather-requires c κs = rw (tail-is (c .before .before .args .k * length (c .before .before .args .pivot .now)) (c .before .before .args .t .now)) (tail-of (c .before .before .pre .0) (c .before .before .pre .1 .0), c .before .before .pre .1 .1)
+
+same-length : tie.Need-same-length
+same-length c = search needs
+
+same-length-2 : tie.Need-same-length-2
+same-length-2 c = search needs
+
+returns : tie.Need-returns
+returns c =
+    let r = c .before .before .before in
+    record {
+      answer = sym (passed-over (c .before .before .before .before .before .before .pre .0) (c .before .before .before .before .before .before .pre .1 .0) (c .before .before .before .before .before .before .pre .1 .1) (sym (told r .answer) ∙ c .if1 .taken));
+      left = λ e. absurd (true≢false e);
+    }
+
+slice-relend-prefix-each : tie.Need-slice-relend-prefix-each
+slice-relend-prefix-each c = rw (back-is c) (omega (arith, length-append (take (at c) (t-of c)) (u c), length-take-le (at c) (t-of c) (room c)))
+
+slice-aggregate-each : tie.Need-slice-aggregate-each
+slice-aggregate-each c = sym (ap length (top-is (c .before)) ∙ length-take-le (at (c .before)) (t-of (c .before)) (room (c .before)))
+
+each-requires : tie.Need-each-requires
+each-requires c κs =
+    let n = c .before .before in (
+      ap length (top-is n) ∙ length-take-le (at n) (t-of n) (room n) ∙ ap (λ (i : ℕ). c .before .before .before .before .before .before .before .before .args .k * i) (sym (c .before .before .before .before .before .gather .kept .1 .1 .0)),
+      (
+        subst (λ (r : List ℤ). Pivot (length r) (c .before .before .before .before .before .before .before .before .args .c) r) (sym (told (n .before .before .before) .row (n .if1 .left)))
+            (pivot-of (rows-of (c .before .before .before .before .before .before .before .before .pre .0) (c .before .before .before .before .before .before .before .before .pre .1 .0) (c .before .before .before .before .before .before .before .before .pre .1 .1)) (unmarked n)),
+        subst Within (sym (top-is n)) (within-take (at n) (t-of n) (c .before .before .before .before .before .before .before .before .pre .0 .small)),
+      ),
+    )
+
+same-length-3 : tie.Need-same-length-3
+same-length-3 c = search needs
+
+same-length-4 : tie.Need-same-length-4
+same-length-4 c = search needs
+
+returns-2 : tie.Need-returns-2
+returns-2 c =
+    let n = c .before .before .before .before in
+    let g = told (n .before .before .before) in
+    subst (λ (l : List ℤ). StopsRun (tableOf (passedOf (s n .args .rows) (length (s n .args .pivot .now)) (s n .args .c) (s n .args .k) (t-of n))) (c .before .each .result) (c .before .each .last .0 ++ l)) (sym (ap (drop (at n)) (back-is n) ∙ drop-at (take (at n) (t-of n)) (u n) (at n) (length-take-le (at n) (t-of n) (room n))))
+    (passed-stops (c .before .before .before .before .before .before .before .before .before .before .pre .0) (c .before .before .before .before .before .before .before .before .before .before .pre .1 .0) (c .before .before .before .before .before .before .before .before .before .before .pre .1 .1) (unmarked n) (g .row (n .if1 .left)) (g .left (n .if1 .left))
+    (subst (λ (l : List ℤ). StopsRun (eachOf Above (c .before .before .before .before .before .before .before .before .before .before .args .c) (c .before .before .before .before .before .before .before .gather .last .1 .1 .0) (c .before .before .before .before .before .before .before .before .before .before .args .k) l) (c .before .each .result) (c .before .each .last .0)) (top-is n) (c .before .each .ensures)))
+
+pub pass-spec : {M : Type 1} → statement M
+pass-spec =
+    tie.close
+    (tie.spec
+    mul-at
+    mul-gather
+    sub-gather
+    part-gather-start
+    part-gather-end
+    sub-gather-2
+    gather-requires
+    same-length
+    same-length-2
+    returns
+    slice-relend-prefix-each
+    slice-aggregate-each
+    each-requires
+    same-length-3
+    same-length-4
+    returns-2)

@@ -1,0 +1,233 @@
+-- `tableau::elimination::pass_all` meets its contract: what the columns left make of the present table is what all columns make of the
+-- first. Assumes nothing.
+use mathlib.Core.Path.{_≡_, refl, sym, _∙_, ap, ap₂, subst}
+use mathlib.Core.Bool.{true, false, true≢false}
+use mathlib.Core.List.{List}
+use Prim.Native.Nat.{ℕ, _+_, _-_, _*_, _<_, _≤_}
+use native.Mathlib.Omega.{arith}
+use borrow.Author.Needs.{needs}
+use lib.IntN.{ℤ}
+use lib.ListN.{length, take, drop}
+use Rattle.lattice.specs.Rows.{chop}
+use Rattle.lattice.proofs.Parts.{tail-is}
+use Rattle.tableau.specs.Elimination.{Run, Passed, none, at, choose, passColumns, eliminate}
+use Rattle.tableau.specs.Choices.{choiceOf}
+use Rattle.tableau.specs.Tails.{Picked}
+use Rattle.tableau.specs.Columns.{Standing, aboveOf, belowOf, passedOf, tableOf}
+use Rattle.tableau.specs.Steps.{StopsRun}
+use Rattle.tableau.proofs.Passing.{columns-over, columns-on, columns-skip, tail-of, room-of, passed-above, passed-below, passed-on, skipped-on, starts, starts-all, picked-of, ends-columns, ends-rows}
+use Rattle.tableau.proofs.elimination.pass_all.Statement.{statement}
+use Rattle.tableau.proofs.elimination.pass_all.Tie as tie
+
+record Inv (t₀ : List ℤ) (rows w : ℕ) (t pivot : List ℤ) (k c : ℕ) : Type 0 where
+  same : length t ≡ length t₀
+  wide : length pivot ≡ w
+  past : c ≤ w
+  stands : Standing rows w c k t
+  rest : passColumns (w - c) c (aboveOf w k t) (belowOf rows w k t) ≡ eliminate w (chop rows w t₀)
+
+abbrev Inv-loop : tie.InvT-loop
+Inv-loop t₀ rows pivot₀ w k₀ c₀ t pivot k c = Inv t₀ rows w t pivot k c
+
+abbrev μ-loop : tie.MeasureT-loop
+μ-loop t₀ rows pivot₀ w k₀ c₀ t pivot k c = w - c
+
+-- the choice in the column
+chosen :
+    (c : tie.After-choose Inv-loop μ-loop) →
+    let l = c .before .before .before .before .before .loop in
+    let a = c .before .before .before .before .before .before .args in
+    choiceOf (c .choose .result) ≡ choose (l .c) (belowOf (a .rows) (length (a .pivot .now)) (l .k) (l .t))
+chosen c =
+    let l = c .before .before .before .before .before .loop in
+    let a = c .before .before .before .before .before .before .args in
+    let w : ℕ = length (a .pivot .now) in
+    c .choose .ensures ∙ ap (λ (v : List ℤ). choose (l .c) (chop (a .rows - l .k) w v)) (tail-is (l .k * w) (l .t))
+
+picked :
+    (c : tie.After-known-told Inv-loop μ-loop) →
+    let l = c .before .before .before .before .before .before .before .before .loop in
+    let a = c .before .before .before .before .before .before .before .before .before .args in
+    let w : ℕ = length (a .pivot .now) in
+    Picked (a .rows - l .k) w (l .c) (drop (l .k * w) (l .t)) (c .before .j .given .0 .0)
+picked c =
+    let m = c .before .before .before .before .before .before in
+    let l = m .before .before .loop in
+    picked-of (tail-of (l .inv .stands) (m .before .loop-test .taken)) (omega (arith, l .inv .stands .most, m .if1 .left))
+    (sym (chosen (c .before .before .before)) ∙ ap choiceOf (c .before .j .given .1))
+
+told :
+    (c : tie.After-pass Inv-loop μ-loop) →
+    let m = c .before .before .before .before .before .before .before .before .before .before .before in
+    let a = m .before .args in
+    StopsRun (tableOf (passedOf (a .rows) (length (a .pivot .now)) (m .loop .c) (m .loop .k) (m .loop .t))) (c .pass .result) (c .pass .last .0)
+told c =
+    let m = c .before .before .before .before .before .before .before .before .before .before .before in
+    rw (m .loop .inv .wide) at (c .pass .ensures)
+
+loop-holds : tie.Need-loop-holds Inv-loop μ-loop
+loop-holds c =
+    record {
+      same = refl;
+      wide = refl;
+      past = omega arith;
+      stands = starts (c .pre .0) (c .pre .1 .0) (c .pre .1 .1);
+      rest = starts-all (c .args .rows) (length (c .args .pivot .now)) (c .args .t .now);
+    }
+
+same-length : tie.Need-same-length Inv-loop μ-loop
+same-length c = c .before .before .loop .inv .same
+
+same-length-2 : tie.Need-same-length-2 Inv-loop μ-loop
+same-length-2 c = c .before .before .loop .inv .wide
+
+returns : tie.Need-returns Inv-loop μ-loop
+returns c = ends-rows (length (c .before .before .before .args .pivot .now) - c .before .before .loop .c) (c .before .before .loop .inv .stands) (c .before .before .loop .inv .rest) (c .if1 .taken)
+
+mul-at : tie.Need-mul-at Inv-loop μ-loop
+mul-at c = omega (arith, room-of (c .before .before .loop .inv .stands))
+
+mul-choose : tie.Need-mul-choose Inv-loop μ-loop
+mul-choose c = omega (arith, room-of (c .before .before .loop .inv .stands))
+
+sub-choose : tie.Need-sub-choose Inv-loop μ-loop
+sub-choose c = room-of (c .before .before .loop .inv .stands)
+
+part-choose-start : tie.Need-part-choose-start Inv-loop μ-loop
+part-choose-start c = omega (arith, room-of (c .before .before .before .loop .inv .stands))
+
+part-choose-end : tie.Need-part-choose-end Inv-loop μ-loop
+part-choose-end c = search needs
+
+sub-choose-2 : tie.Need-sub-choose-2 Inv-loop μ-loop
+sub-choose-2 c = omega (arith, c .before .before .before .before .loop .inv .stands .most)
+
+choose-requires : tie.Need-choose-requires Inv-loop μ-loop
+choose-requires c κs =
+    let l = c .before .before .before .before .loop in
+    let w : ℕ = length (c .before .before .before .before .before .args .pivot .now) in
+    (ap length (tail-is (l .k * w) (l .t)) ∙ tail-of (l .inv .stands) (c .before .before .before .loop-test .taken) .wide, c .before .before .before .loop-test .taken)
+
+enum-told : tie.Need-enum-told Inv-loop μ-loop
+enum-told c = search needs
+
+add-c : tie.Need-add-c Inv-loop μ-loop
+add-c c = omega (arith, c .before .before .before .before .before .before .loop-test .taken)
+
+loop-less : tie.Need-loop-less Inv-loop μ-loop
+loop-less c = omega (arith, c .before .before .before .before .before .before .loop-test .taken)
+
+loop-again : tie.Need-loop-again Inv-loop μ-loop
+loop-again c =
+    let l = c .before .before .before .before .before .before .before .loop in
+    let e = sym (chosen (c .before .before)) ∙ ap choiceOf (c .enum-told .given .1) in
+    let w : ℕ = length (c .before .before .before .before .before .before .before .before .args .pivot .now) in
+    let d : w - (l .c + 1) ≡ w - l .c - 1 = omega arith in
+    record {
+      same = l .inv .same;
+      wide = l .inv .wide;
+      past = omega (arith, c .before .before .before .before .before .before .loop-test .taken);
+      stands = skipped-on (l .inv .stands) e;
+      rest = rw d (sym (columns-skip (w - l .c) (l .c) (aboveOf w (l .k) (l .t)) (belowOf (c .before .before .before .before .before .before .before .before .args .rows) w (l .k) (l .t)) (omega (arith, c .before .before .before .before .before .before .loop-test .taken)) e) ∙ l .inv .rest);
+    }
+
+enum-known-j : tie.Need-enum-known-j Inv-loop μ-loop
+enum-known-j c = search needs
+
+pass-requires : tie.Need-pass-requires Inv-loop μ-loop
+pass-requires c κs =
+    let l = c .before .before .before .before .before .before .before .before .before .before .loop in
+    rw (l .inv .wide) (l .inv .stands, (c .before .before .before .before .before .before .before .before .before .loop-test .taken, picked (c .before .before)))
+
+same-length-3 : tie.Need-same-length-3 Inv-loop μ-loop
+same-length-3 c = c .before .before .before .pass .kept .0 ∙ c .before .before .before .before .before .before .before .before .before .before .before .before .before .before .loop .inv .same
+
+same-length-4 : tie.Need-same-length-4 Inv-loop μ-loop
+same-length-4 c = c .before .before .before .pass .kept .1 .1 .0 ∙ c .before .before .before .before .before .before .before .before .before .before .before .before .before .before .loop .inv .wide
+
+returns-2 : tie.Need-returns-2 Inv-loop μ-loop
+returns-2 c =
+    let l = c .before .before .before .before .before .before .before .before .before .before .before .before .before .before .loop in
+    let w : ℕ = length (c .before .before .before .before .before .before .before .before .before .before .before .before .before .before .before .args .pivot .now) in
+    record {
+      answer =
+          sym
+          (ap (λ (x : Run). x .over) (sym (l .inv .rest))
+          ∙ columns-over (w - l .c) (l .c) (aboveOf w (l .k) (l .t)) (belowOf (c .before .before .before .before .before .before .before .before .before .before .before .before .before .before .before .args .rows) w (l .k) (l .t)) (omega (arith, c .before .before .before .before .before .before .before .before .before .before .before .before .before .loop-test .taken))
+          (sym (told (c .before .before .before) .answer) ∙ c .if2 .taken));
+      left = λ e. absurd (true≢false e);
+    }
+
+add-k : tie.Need-add-k Inv-loop μ-loop
+add-k c = omega (arith, c .before .before .before .before .before .before .before .before .before .before .before .before .before .before .loop .inv .stands .most, c .before .before .before .before .before .before .before .before .before .before .before .before .if1 .left)
+
+add-c-2 : tie.Need-add-c-2 Inv-loop μ-loop
+add-c-2 c = omega (arith, c .before .before .before .before .before .before .before .before .before .before .before .before .before .loop-test .taken)
+
+loop-less-2 : tie.Need-loop-less-2 Inv-loop μ-loop
+loop-less-2 c = omega (arith, c .before .before .before .before .before .before .before .before .before .before .before .before .before .loop-test .taken)
+
+loop-again-2 : tie.Need-loop-again-2 Inv-loop μ-loop
+loop-again-2 c =
+    let l = c .before .before .before .before .before .before .before .before .before .before .before .before .before .before .loop in
+    let n = c .before .before .before in
+    let w : ℕ = length (c .before .before .before .before .before .before .before .before .before .before .before .before .before .before .before .args .pivot .now) in
+    let d : w - (l .c + 1) ≡ w - l .c - 1 = omega arith in
+    let o = sym (told n .answer) ∙ c .if2 .left in
+    let s = told n .left (c .if2 .left) in
+    let g = picked (n .before .before .before) in
+    let f = c .before .before .before .before .before .before .before .before .before .before .before .before .before .loop-test .taken in
+    record {
+      same = c .before .before .before .pass .kept .0 ∙ l .inv .same;
+      wide = c .before .before .before .pass .kept .1 .1 .0 ∙ l .inv .wide;
+      past = omega (arith, f);
+      stands = passed-on (l .inv .stands) f g o s (c .before .before .before .pass .kept .0);
+      rest =
+          rw d
+          (ap₂ (passColumns (w - l .c - 1) (l .c + 1)) (passed-above (l .inv .stands) f g o s (c .before .before .before .pass .kept .0)) (passed-below (l .inv .stands) f g o s (c .before .before .before .pass .kept .0))
+          ∙ sym (columns-on (w - l .c) (l .c) (aboveOf w (l .k) (l .t)) (belowOf (c .before .before .before .before .before .before .before .before .before .before .before .before .before .before .before .args .rows) w (l .k) (l .t)) (omega (arith, f)) o)
+          ∙ l .inv .rest);
+    }
+
+same-length-5 : tie.Need-same-length-5 Inv-loop μ-loop
+same-length-5 c = c .before .loop .inv .same
+
+same-length-6 : tie.Need-same-length-6 Inv-loop μ-loop
+same-length-6 c = c .before .loop .inv .wide
+
+returns-3 : tie.Need-returns-3 Inv-loop μ-loop
+returns-3 c = ends-columns (length (c .before .before .args .pivot .now) - c .before .loop .c) (c .before .loop .inv .stands) (c .before .loop .inv .rest) (omega (arith, c .loop-test .left))
+
+pub pass-all-spec : {M : Type 1} → statement M
+pass-all-spec =
+    tie.close
+    (tie.spec
+    Inv-loop
+    μ-loop
+    loop-holds
+    same-length
+    same-length-2
+    returns
+    mul-at
+    mul-choose
+    sub-choose
+    part-choose-start
+    part-choose-end
+    sub-choose-2
+    choose-requires
+    enum-told
+    add-c
+    loop-less
+    loop-again
+    enum-known-j
+    pass-requires
+    same-length-3
+    same-length-4
+    returns-2
+    add-k
+    add-c-2
+    loop-less-2
+    loop-again-2
+    same-length-5
+    same-length-6
+    returns-3)

@@ -1,0 +1,165 @@
+-- `tableau::solve` meets its contract: the form, and the right side of it, unless a number beyond M was met. Assumes nothing.
+use mathlib.Core.Path.{_≡_, refl, sym, _∙_, ap, ap₂, subst}
+use mathlib.Core.Bool.{Bool, true, false}
+use mathlib.Core.List.{List}
+use Prim.Native.Nat.{ℕ, _+_, _*_, _≤_}
+use native.Mathlib.Omega.{arith}
+use lib.IntN.{ℤ}
+use lib.ListN.{length}
+use lib.Seq.{length-take-le}
+use Rattle.whole.specs.Lists.{zeros}
+use Rattle.lattice.specs.Rows.{flat}
+use Rattle.tableau.specs.RightSide.{Solved}
+use Rattle.tableau.specs.Buffers.{formOf, solvedOf, solutionOf, startAfter}
+use Rattle.tableau.specs.Halves.{foundOf}
+use Rattle.tableau.proofs.Forms.{Formed, formed, findable, solved-is, solved-over, table-over, table-kept, form-over, form-kept, answer-over, start-kept}
+use Rattle.tableau.proofs.Answers.{solution-over, solution-none, solution-found}
+use borrow.Author.Needs.{needs}
+use Rattle.tableau.proofs.solve.Statement.{statement}
+use Rattle.tableau.proofs.solve.Tie as tie
+
+-- the solution that the definition gives
+abbrev X : tie.Start → Solved
+X s = solvedOf (s .args .p) (s .args .coefficients .now) (s .args .rights .now)
+
+-- once the form stands
+module _ (c : tie.Else1) where
+  abbrev s-of : tie.Start
+  s-of = c .before .before .before .before
+
+  unmarked : formOf (s-of .args .p) (s-of .args .coefficients .now) .over ≡ false
+  unmarked = sym (c .before .before .form .ensures .0) ∙ c .if1 .left
+
+  form-is : c .before .before .form .last .0 ≡ flat (formOf (s-of .args .p) (s-of .args .coefficients .now) .table)
+  form-is = c .before .before .form .ensures .1 ∙ form-kept (s-of .args .p) (s-of .args .coefficients .now) (s-of .args .t .now) unmarked
+
+  stands : Formed (s-of .args .p) (formOf (s-of .args .p) (s-of .args .coefficients .now)) (c .before .before .form .last .0)
+  stands = formed (s-of .pre .form) unmarked form-is
+
+  same : X s-of ≡ foundOf (s-of .args .p) (c .before .before .form .last .0) (s-of .args .rights .now)
+  same = solved-is (s-of .pre .form) (s-of .args .rights .now) unmarked stands
+
+-- what the right side answers and leaves
+told : (c : tie.After-find) → c .find .result ≡ solutionOf (X (s-of (c .before .before .before .before .before)))
+told c = c .find .ensures .0 ∙ ap solutionOf (sym (same (c .before .before .before .before .before)))
+
+started :
+    (c : tie.After-find) →
+    let s = s-of (c .before .before .before .before .before) in
+    c .find .last .1 .1 .1 .1 .0 ≡ startAfter (X s) (s .args .start .now)
+started c =
+    let n = c .before .before .before .before .before in
+    c .find .ensures .1 ∙ ap (λ (x : Solved). startAfter x (s-of n .args .start .now)) (sym (same n))
+
+form-requires : tie.Need-form-requires
+form-requires c κs = search needs
+
+same-length : tie.Need-same-length
+same-length c = search needs
+
+returns : tie.Need-returns
+returns c =
+    let s = c .before .before .before .before in
+    let o : X s .over ≡ true = solved-over (s .args .p) (s .args .coefficients .now) (s .args .rights .now) (sym (c .before .before .form .ensures .0) ∙ c .if1 .taken) in (
+      sym (answer-over (X s) o),
+      (
+        c .before .before .form .ensures .1 ∙ form-over (s .args .p) (s .args .coefficients .now) (s .args .t .now) (sym (c .before .before .form .ensures .0) ∙ c .if1 .taken) ∙ sym (table-over (s .args .p) (s .args .coefficients .now) (s .args .rights .now) (s .args .t .now) o),
+        sym (start-kept (X s) (s .args .start .now) o),
+      ),
+    )
+
+add-w : tie.Need-add-w
+add-w c = search needs
+
+array-borrow-prefix-v : tie.Need-array-borrow-prefix-v
+array-borrow-prefix-v c = search needs
+
+slice-aggregate-find : tie.Need-slice-aggregate-find
+slice-aggregate-find c = sym (length-take-le (c .before .before .before .before .before .before .args .p .rows + c .before .before .before .before .before .before .args .p .columns) _ (omega (arith, c .before .before .before .before .before .before .pre .form .columns, c .before .before .before .before .before .before .pre .form .rows)))
+
+find-requires : tie.Need-find-requires
+find-requires c κs = findable 96 (c .before .before .before .before .before .before .before .before .pre) (omega (arith, c .before .before .before .before .before .before .before .before .pre .form .columns, c .before .before .before .before .before .before .before .before .pre .form .rows)) (c .before .before .before .before .before .before .form .kept .0) (stands (c .before .before .before .before))
+
+enum-told : tie.Need-enum-told
+enum-told c = search needs
+
+wipe-requires : tie.Need-wipe-requires
+wipe-requires c κs = search needs
+
+enum-told-2 : tie.Need-enum-told-2
+enum-told-2 c = search needs
+
+enum-told-3 : tie.Need-enum-told-3
+enum-told-3 c = search needs
+
+same-length-2 : tie.Need-same-length-2
+same-length-2 c = search needs
+
+same-length-3 : tie.Need-same-length-3
+same-length-3 c = search needs
+
+returns-2 : tie.Need-returns-2
+returns-2 c =
+    let m = c .before .before .before .before .before .before .before in
+    let n = m .before .before .before .before .before in
+    let s = s-of n in
+    let e = sym (c .before .before .before .enum-told .given .1) ∙ told m in (
+      e,
+      (
+        c .before .wipe .ensures ∙ ap zeros (c .before .before .before .before .before .before .before .before .before .before .before .before .before .before .form .kept .0) ∙ sym (table-over (s .args .p) (s .args .coefficients .now) (s .args .rights .now) (s .args .t .now) (solution-over (X s) e)),
+        started m,
+      ),
+    )
+
+same-length-4 : tie.Need-same-length-4
+same-length-4 c = search needs
+
+same-length-5 : tie.Need-same-length-5
+same-length-5 c = search needs
+
+returns-3 : tie.Need-returns-3
+returns-3 c =
+    let m = c .before .before .before .before in
+    let n = m .before .before .before .before .before in
+    let s = s-of n in
+    let e = sym (c .enum-told2 .given .1) ∙ told m in
+    (e, (form-is n ∙ sym (table-kept (s .args .p) (s .args .coefficients .now) (s .args .rights .now) (s .args .t .now) (solution-none (X s) e)), started m))
+
+same-length-6 : tie.Need-same-length-6
+same-length-6 c = search needs
+
+same-length-7 : tie.Need-same-length-7
+same-length-7 c = search needs
+
+returns-4 : tie.Need-returns-4
+returns-4 c =
+    let m = c .before .before .before .before in
+    let n = m .before .before .before .before .before in
+    let s = s-of n in
+    let e = sym (c .enum-told3 .given .1) ∙ told m in
+    (e, (form-is n ∙ sym (table-kept (s .args .p) (s .args .coefficients .now) (s .args .rights .now) (s .args .t .now) (solution-found (X s) e)), started m))
+
+pub solve-spec : {M : Type 1} → statement M
+solve-spec =
+    tie.close
+    (tie.spec
+    form-requires
+    same-length
+    returns
+    add-w
+    array-borrow-prefix-v
+    slice-aggregate-find
+    find-requires
+    enum-told
+    wipe-requires
+    enum-told-2
+    enum-told-3
+    same-length-2
+    same-length-3
+    returns-2
+    same-length-4
+    same-length-5
+    returns-3
+    same-length-6
+    same-length-7
+    returns-4)
