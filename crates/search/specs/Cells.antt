@@ -9,20 +9,18 @@
 --   pick-pack          what was packed is picked again
 -- Assumes nothing.
 use mathlib.Core.Path.{_≡_, refl, sym, _∙_, ap}
-use mathlib.Core.Logic.{_⊎_, inl, inr, ⊎-elim}
-use mathlib.Core.Bool.{Bool, true, false}
+use mathlib.Core.Logic.{⊎-elim}
 use mathlib.Core.List.{List, [], _∷_}
 use Prim.Native.Nat.{ℕ, zero, suc, _+_, _*_, _<_, _≤_}
 use native.Mathlib.Omega.{arith}
 use native.Mathlib.Numerals.{add-one}
-use borrow.Author.Tests.{ltb-true, ltb-false}
-use lib.Dec.{ltb}
 use lib.IntN.{ℤ, pos}
 use lib.ListN.{length, getD, set, drop, length-set, List·getD-eq-default}
 use lib.Seq.{getD-set-same, getD-set-other, ext-getD, drop-cons}
 use Rattle.whole.specs.Lists.{entry}
 use Rattle.settling.specs.declared.Cell.{Cell}
 use Rattle.settling.specs.Columns.{Columns}
+use Rattle.settling.specs.Parts.{lt-or-ge}
 
 abbrev pub cellAt : List ℤ → ℕ → Cell
 cellAt l j = record { lower = entry (4 * j) l; upper = entry (4 * j + 1) l; goal = entry (4 * j + 2) l; value = entry (4 * j + 3) l }
@@ -59,13 +57,6 @@ unfolding pick
 pick-at zero k l j h = absurd (omega arith)
 pick-at (suc n) k l zero h = ap (λ (i : ℕ). entry i l) (omega arith)
 pick-at (suc n) k l (suc j) h = pick-at n (k + 4) l j (omega arith) ∙ ap (λ (i : ℕ). entry i l) (omega arith)
-
-pub lt-or-ge : (x k : ℕ) → (x < k) ⊎ (k ≤ x)
-lt-or-ge x k = go (ltb x k) refl
-  where
-    go : (t : Bool) → ltb x k ≡ t → (x < k) ⊎ (k ≤ x)
-    go true e = inl (ltb-true x k e)
-    go false e = inr (ltb-false x k e)
 
 pick-any : (n k : ℕ) (l : List ℤ) → length l ≡ 4 * n → (j : ℕ) → entry j (pick n k l) ≡ entry (4 * j + k) l
 pick-any n k l h j =

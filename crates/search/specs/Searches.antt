@@ -28,6 +28,7 @@ use Rattle.settling.specs.declared.Move.{Move}
 use Rattle.settling.specs.declared.Part.{Part}
 use Rattle.settling.specs.declared.Step.the-variants.{Rest}
 use Rattle.settling.specs.Columns.{Columns}
+use Rattle.settling.specs.Parts.{lt-or-ge}
 use Rattle.settling.specs.Moves.{moves, singles, pairs, changes}
 use Rattle.settling.specs.Measures.{below}
 use Rattle.settling.specs.Steps.{insert, rankFrom, ranking, rankedAt, largerAt, improves, firstMove, firstColumn, stepAt}
@@ -35,7 +36,7 @@ use Rattle.settling.specs.Sizes.{Sized, measureOf, isRankedOf}
 use Rattle.settling.specs.Views.{vectors, Viewed, rows-length}
 use Rattle.search.specs.declared.Best.{Best}
 use Rattle.search.specs.declared.Search.{Search}
-use Rattle.search.specs.Cells.{cellAt, columnsOf, valuesOf, cell-at, lt-or-ge}
+use Rattle.search.specs.Cells.{cellAt, columnsOf, valuesOf, cell-at}
 use Rattle.search.specs.Rankings.{ranking-below, ranking-in, ranking-falls}
 use Rattle.search.specs.Scans.{best, scan, scan-append, scan-first}
 use Rattle.search.specs.Blocking.{Proper, weak, unchanged, blocked}

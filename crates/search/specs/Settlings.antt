@@ -27,6 +27,7 @@ use Rattle.settling.specs.declared.Part.the-variants.{Bounds, Goals}
 use Rattle.settling.specs.declared.Step.{Step}
 use Rattle.settling.specs.declared.Step.the-variants.{Rest, Take}
 use Rattle.settling.specs.Columns.{Columns}
+use Rattle.settling.specs.Parts.{lt-or-ge}
 use Rattle.settling.specs.Measures.{distance}
 use Rattle.settling.specs.Moves.{pair, signPairs, singles, pairsWith, pairs, moves, changes, moved}
 use Rattle.settling.specs.Steps.{partOf, isAllowed, passes, passesAt, measureAt, improves, orElse, firstMove, firstColumn, ranking, stepAt, stepOf, nextStep}
@@ -35,7 +36,6 @@ use Rattle.settling.specs.Sizes.{inside-small}
 use Rattle.settling.specs.Views.{vectors, OfBasis, rows-length, moved-length}
 use Rattle.settling.specs.Ready.{cols, Ready}
 use Rattle.search.specs.Blocking.{and-true, every-at}
-use Rattle.search.specs.Cells.{lt-or-ge}
 use Rattle.search.specs.Scans.{signs}
 
 -- ---- the moves

@@ -4,7 +4,6 @@
 --   turnOf, turnOver       the part that is reached, and its step; of columns, and of packed cells
 --   Turnable B l b         the search for a step of the part that is reached is sound
 --   Laid B v lo hi gs l    the packed cells l are those lists
---   part-..                the first numbers of a buffer, lent and put back
 --   inside-is              the packed columns lie in their bounds where the columns do
 --   laid-pack              packing lays the lists so
 --   laid-turnable, -turn   a turn over them can be made, and is that of the lists
@@ -12,14 +11,13 @@
 use mathlib.Core.Path.{_≡_, refl, sym, _∙_, ap, subst}
 use mathlib.Core.Logic.{⊎-elim}
 use mathlib.Core.Bool.{Bool, true, false, not, cond, _||_, false≢true}
-use mathlib.Core.List.{List, _++_}
+use mathlib.Core.List.{List}
 use Prim.Native.Nat.{ℕ, zero, suc, _+_, _*_, _<_, _≤_}
 use native.Mathlib.Omega.{arith}
 use borrow.Author.Tests.{eqb-true, eqb-false, not-true}
 use lib.Dec.{eqb}
 use lib.IntN.{ℤ, pos, natAbs}
-use lib.ListN.{length, take, drop, length-take, length-append}
-use lib.Seq.{take-at}
+use lib.ListN.{length}
 use lib.Signed.{leZ}
 use Rattle.whole.specs.Lists.{entry}
 use Rattle.whole.specs.Tests.{isZero, every}
@@ -37,7 +35,7 @@ use Rattle.settling.specs.Sizes.{Sized, distanceOf, inside-small, inside-above}
 use Rattle.settling.specs.Ready.{cols, Ready}
 use Rattle.search.specs.declared.Search.{Search}
 use Rattle.search.specs.declared.Turn.{Turn}
-use Rattle.search.specs.Cells.{cellAt, cellOf, columnsOf, valuesOf, pack, length-pack, pack-columns, pack-values, cell-at, lt-or-ge}
+use Rattle.search.specs.Cells.{cellAt, cellOf, columnsOf, valuesOf, pack, length-pack, pack-columns, pack-values, cell-at}
 use Rattle.search.specs.Blocking.{Proper, every-at}
 use Rattle.search.specs.Searches.{columnsIn, valuesIn, Packed, Searchable}
 
@@ -69,19 +67,6 @@ pub record Turnable (B : Basis) (l b : List ℤ) : Type 0 where
   pub long : length l ≡ 4 * B .columns
   pub near : Packed Bounds l
   pub sound : (p : Part) → p ≡ partIf (insideOf (B .columns) l) → Sound (search p B) l b
-
--- ---- the first w numbers of a buffer t, lent and put back
-pub part-length : (w : ℕ) (t : List ℤ) → w ≤ length t → w ≡ length (take w t)
-part-length w t h = sym (length-take w t ∙ omega arith)
-
-pub part-room : (k w : ℕ) (t : List ℤ) → k ≤ w → w ≤ length t → k ≤ length (take w t)
-part-room k w t h g = omega (arith, part-length w t g)
-
-pub part-back : (w : ℕ) (u t : List ℤ) → length u ≡ w → take w (u ++ drop w t) ≡ u
-part-back w u t h = take-at u (drop w t) w h
-
-pub part-fits : (w : ℕ) (u t : List ℤ) → length u ≡ w → w ≤ length (u ++ drop w t)
-part-fits w u t h = omega (arith, length-append u (drop w t))
 
 -- ---- the packed cells
 pub inside-is : (n : ℕ) (l : List ℤ) → length l ≡ 4 * n → insideOf n l ≡ inBounds (columnsOf n l) (valuesOf n l)

@@ -10,3 +10,5 @@ pub mod Strides
 pub mod Sizes
 pub mod Views
 pub mod Ready
+pub mod Parts
+pub mod Seats

@@ -4,7 +4,7 @@
 --   Room q              a measure whose cross products with another one fit
 --   measureOf p c       the measure of the column c; `passesOf`, `isRankedOf` .. are the same for the other tests
 --   distance-under ..   the three cases of the distance
---   inside-small        a value in bounds is no larger than they are; `inside-above` nor 0, where the lower bound is 1 or more
+--   between, inside-small   a value in bounds is no larger than they are; `inside-above` nor 0, where the lower bound is 1 or more
 --   measure-room        the measure of a sized column has room
 --   allowed-sized       a value that a move may leave in part p can be measured there; `sized-near` one that can be measured is near
 -- Assumes nothing.
@@ -83,7 +83,7 @@ distance-small lo hi x = go (ltZ x lo) (ltZ hi x)
     go false false = omega arith
 
 -- ---- values in bounds
-between : (k : ℕ) (lo hi y : ℤ) → natAbs lo ≤ k → natAbs hi ≤ k → ltZ y lo ≡ false → ltZ hi y ≡ false → natAbs y ≤ k
+pub between : (k : ℕ) (lo hi y : ℤ) → natAbs lo ≤ k → natAbs hi ≤ k → ltZ y lo ≡ false → ltZ hi y ≡ false → natAbs y ≤ k
 between k lo (pos h) (pos y) a b e f = omega (arith, ltb-false h y f)
 between k lo (negsuc h) (pos y) a b e f = absurd (true≢false f)
 between k (pos l) hi (negsuc y) a b e f = absurd (true≢false e)

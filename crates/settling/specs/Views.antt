@@ -5,6 +5,7 @@
 --   Viewed B l         they lie in the slice, and no number of it lies beyond ±M
 --   OfBasis r o        the move o adds or takes away vectors of the first r
 --   rows-length        there are as many as the view says
+--   vectors-is, -drop  vector s, and those from s on
 --   vectors-at         the number at column j of vector s
 --   unit-small, sum-small, change-small   how large a signed number, the sum of two, and so what a move adds can be
 --   moved-length, -at  the values after a move
@@ -16,7 +17,7 @@ use native.Mathlib.Nat.{mul-le-mul}
 use native.Mathlib.Omega.{arith}
 use lib.IntN.{ℤ, pos, natAbs, _+ℤ_, _*ℤ_, +ℤ-assoc}
 use lib.ListN.{length, getD, take, drop}
-use lib.Seq.{getD-drop, getD-take}
+use lib.Seq.{getD-drop, getD-take, drop-cons, drop-drop}
 use Rattle.whole.specs.Lists.{entry}
 use Rattle.whole.proofs.Signed.{abs-add, abs-mul}
 use Rattle.lattice.specs.Rows.{plus}
@@ -55,6 +56,26 @@ rows-at zero n w l s j h k = absurd (omega arith)
 rows-at (suc r) n w l zero j h k = getD-take n l j (pos 0) k ∙ ap (λ (i : ℕ). entry i l) (omega arith)
 rows-at (suc r) n w l (suc s) j h k =
     rows-at r n w (drop w l) s j (omega arith) k ∙ getD-drop w l (s * w + j) (pos 0) ∙ ap (λ (i : ℕ). entry i l) (omega arith)
+
+rows-vector : (r n w : ℕ) (l : List ℤ) (s : ℕ) → s < r → vector (rowsOf r n w l) s ≡ take n (drop (s * w) l)
+unfolding rowsOf
+rows-vector zero n w l s h = absurd (omega arith)
+rows-vector (suc r) n w l zero h = ap (λ (k : ℕ). take n (drop k l)) none
+  where
+    none : 0 ≡ 0 * w
+    none = omega arith
+rows-vector (suc r) n w l (suc s) h =
+    rows-vector r n w (drop w l) s (omega arith) ∙ ap (take n) (drop-drop (s * w) w l ∙ ap (λ (k : ℕ). drop k l) more)
+  where
+    more : w + s * w ≡ suc s * w
+    more = omega arith
+
+pub vectors-is : (B : Basis) (l : List ℤ) (s : ℕ) → s < B .vectors → vector (vectors B l) s ≡ take (B .columns) (drop (s * B .stride) l)
+vectors-is B l s h = rows-vector (B .vectors) (B .columns) (B .stride) l s h
+
+-- the vectors from s on
+pub vectors-drop : (B : Basis) (l : List ℤ) (s : ℕ) → s < B .vectors → drop s (vectors B l) ≡ vector (vectors B l) s ∷ drop (suc s) (vectors B l)
+vectors-drop B l s h = drop-cons (vectors B l) s [] (omega (arith, rows-length (B .vectors) (B .columns) (B .stride) l))
 
 pub vectors-at : (B : Basis) (l : List ℤ) (s j : ℕ) → s < B .vectors → j < B .columns → entry j (vector (vectors B l) s) ≡ entry (s * B .stride + j) l
 vectors-at B l s j h k = rows-at (B .vectors) (B .columns) (B .stride) l s j h k

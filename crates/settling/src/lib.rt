@@ -9,6 +9,8 @@ use whole::magnitude;
 pub mod measures;
 pub mod moves;
 
+pub mod seating;
+
 // What a column is to come to when it is seated: a number, or its present value.
 pub enum Wish {
     Unset,

@@ -6,7 +6,8 @@ use native.Mathlib.Omega.{arith}
 use borrow.Author.Needs.{needs}
 use lib.IntN.{ℤ}
 use lib.ListN.{length}
-use Rattle.search.specs.Turns.{part-room, Laid, Turnable, turnOver, part-length, part-back, part-fits, laid-pack, laid-turnable, laid-turn}
+use Rattle.settling.specs.Parts.{part-room, part-length, part-back, part-fits}
+use Rattle.search.specs.Turns.{Laid, Turnable, turnOver, laid-pack, laid-turnable, laid-turn}
 use Rattle.search.proofs.next_turn.Statement.{statement}
 use Rattle.search.proofs.next_turn.Tie as tie
 

@@ -1,0 +1,270 @@
+-- Seating, a vector at a time.
+--   listed lo hi gs         the columns of three lists
+--   gapAt C v c             "the ideal of c less the present value there", by the goals
+--   seatByGoals, seatWhole  the addition for one row, and seating over a view, by the goals
+--   Placeable, Addable      lists of equal length, with numbers small enough for a gap and for an addition
+--   isSeated, valuesAfter   whether the list is seated, and the values then: the seated list, or where a value came to lie beyond ±M the list as it was
+--   Led r                   the row has a lead above 0, and so a column for it
+--   Seatable B v ..         what seating needs: lists that are ready, and a basis of such rows
+--   ideal-small             an ideal lies in bounds
+--   gap-small, quotient-small, product-small   how large a gap is, how often a row is then added, and what that adds
+--   seat-end, -far, -on     seating from vector s on: no vector is left; an addition leaves a value beyond ±M; it does not
+--   placeable, row-..       the lists, and each row of the basis, can be used for an addition; `still-seatable` and again after it
+--   none-beyond, beyond-..  a walk over a list that looks for a value beyond ±M
+-- Assumes nothing.
+use mathlib.Core.Path.{_≡_, refl, sym, _∙_, ap}
+use mathlib.Core.Logic.{⊎-elim}
+use mathlib.Core.Bool.{Bool, true, false, cond, _||_, true≢false}
+use mathlib.Core.List.{List, [], _∷_}
+use Prim.Native.Nat.{ℕ, zero, suc, _+_, _*_, _-_, _/_, _<_, _≤_}
+use native.Mathlib.Nat.{div-mul-le-self, mul-le-mul, mul-le-mul-left}
+use native.Mathlib.Omega.{arith}
+use native.Mathlib.Numerals.{add-one}
+use borrow.Author.Tests.{ltb-false, ltb-true}
+use lib.Dec.{ltb}
+use lib.IntN.{ℤ, pos, negsuc, natAbs, _+ℤ_, _-ℤ_, _*ℤ_}
+use lib.ListN.{length, take, drop, length-take, length-drop, drop-of-length-le, List·getD-eq-default}
+use lib.Seq.{drop-cons}
+use lib.Signed.{ltZ, _<ℤ_}
+use Rattle.whole.specs.Lists.{entry}
+use Rattle.whole.specs.Integers.{_⊖_, ⊖-pos, ⊖-negsuc, rep, diff-rel}
+use Rattle.whole.specs.Quotient.{floorQuotient, nearestQuotient}
+use Rattle.whole.proofs.Signed.{abs-add, abs-mul}
+use Rattle.lattice.specs.Rows.{lead}
+use Rattle.problem.specs.Limits.{M, maxBound, maxGoal, beyond, anyBeyond}
+use Rattle.settling.specs.declared.Basis.{Basis}
+use Rattle.settling.specs.declared.Wish.{Wish}
+use Rattle.settling.specs.Columns.{Columns}
+use Rattle.settling.specs.Ideals.{into, wished, ideal}
+use Rattle.settling.specs.Moves.{vector}
+use Rattle.settling.specs.Seating.{goalWishes, idealAt, seatOne, Seated, seated, far, seat}
+use Rattle.settling.specs.Parts.{lt-or-ge}
+use Rattle.settling.specs.Sizes.{between, abs-less}
+use Rattle.settling.specs.Views.{vectors, rows-length, vectors-is, vectors-drop, vectors-at}
+use Rattle.settling.specs.Ready.{cols, Ready}
+
+abbrev pub listed : List ℤ → List ℤ → List ℤ → Columns
+listed lo hi gs = record { count = length lo; lower = lo; upper = hi; goals = gs }
+
+abbrev pub gapAt : Columns → List ℤ → ℕ → ℤ
+gapAt C v c = idealAt (goalWishes C) C v c -ℤ entry c v
+
+abbrev pub seatByGoals : Columns → List ℤ → List ℤ → List ℤ
+seatByGoals C r v = seatOne (goalWishes C) C r v
+
+abbrev pub seatWhole : Basis → List ℤ → List ℤ → List ℤ → List ℤ → List ℤ → Seated
+seatWhole B lo hi gs l v = seat (goalWishes (cols B lo hi gs)) (cols B lo hi gs) (vectors B l) v
+
+abbrev pub isSeated : Seated → Bool
+isSeated (seated v) = true
+isSeated far = false
+
+abbrev pub valuesAfter : Seated → List ℤ → List ℤ
+valuesAfter (seated v) u = v
+valuesAfter far u = u
+
+pub record Placeable (v lo hi gs : List ℤ) : Type 0 where
+  pub lower-long : length lo ≡ length v
+  pub upper-long : length hi ≡ length v
+  pub goals-long : length gs ≡ length v
+  pub values-small : (j : ℕ) → natAbs (entry j v) ≤ M
+  pub lower-small : (j : ℕ) → natAbs (entry j lo) ≤ maxBound
+  pub upper-small : (j : ℕ) → natAbs (entry j hi) ≤ maxBound
+  pub goals-small : (j : ℕ) → natAbs (entry j gs) ≤ maxGoal
+
+pub record Addable (v r : List ℤ) : Type 0 where
+  pub long : length r ≡ length v
+  pub values-small : (j : ℕ) → natAbs (entry j v) ≤ M
+  pub row-small : (j : ℕ) → natAbs (entry j r) ≤ M
+
+pub record Led (r : List ℤ) : Type 0 where
+  pub inside : lead r < length r
+  pub above : pos 0 <ℤ entry (lead r) r
+
+pub record Seatable (B : Basis) (v lo hi gs l : List ℤ) : Type 0 where
+  pub ready : Ready B v lo hi gs l
+  pub led : (s : ℕ) → s < B .vectors → Led (vector (vectors B l) s)
+
+-- ---- sizes
+pub ideal-small : (lo hi : ℤ) (w : Wish) (x : ℤ) → natAbs lo ≤ maxBound → natAbs hi ≤ maxBound → natAbs (ideal lo hi w x) ≤ maxBound
+unfolding ideal
+ideal-small lo hi w x a b = go (wished w x)
+  where
+    go : (y : ℤ) → natAbs (into lo hi y) ≤ maxBound
+    go y = pick (ltZ y lo) (ltZ hi y) refl refl
+      where
+        pick : (s t : Bool) → ltZ y lo ≡ s → ltZ hi y ≡ t → natAbs (cond s lo (cond t hi y)) ≤ maxBound
+        pick true t e f = a
+        pick false true e f = b
+        pick false false e f = between maxBound lo hi y a b e f
+
+-- for a whole part k of e by twice p, and d
+above-small : (d p k : ℕ) → 0 < p → k * (2 * p) ≤ 2 * d + p → k ≤ d + 1
+above-small d p k h e = go (ltb (d + 1) k) refl
+  where
+    go : (t : Bool) → ltb (d + 1) k ≡ t → k ≤ d + 1
+    go true f =
+        let l : d + 2 ≤ k = omega (arith, ltb-true (d + 1) k f) in
+        let m : (d + 2) * (2 * p) ≤ k * (2 * p) = mul-le-mul l (omega arith) in
+        let n : d * 1 ≤ d * p = mul-le-mul-left d h in
+        absurd (omega arith)
+    go false f = ltb-false (d + 1) k f
+
+below-small : (d p k : ℕ) → 0 < p → k * (2 * p) < 2 * d → k < d
+below-small d p k h e = let n : k * 1 ≤ k * p = mul-le-mul-left k h in omega arith
+
+-- a sum below 0 of a number and one that is not below 0
+under : (n b a : ℕ) (x y z : ℤ) → x ≡ 0 ⊖ suc n → y ≡ b ⊖ 0 → z ≡ 0 ⊖ suc a → x +ℤ y ≡ z → suc a ≤ suc n
+under n b a x y z ex ey ez = rw (ex, ey, ez) (simp diff-rel (omega arith))
+
+sum-under : (x : ℤ) (b a : ℕ) → x +ℤ pos b ≡ negsuc a → suc a ≤ natAbs x
+sum-under (pos n) b a e = let z : _≡_ {A = ℕ} 0 1 = cc in absurd (omega arith)
+sum-under (negsuc n) b a e = under n b a (negsuc n) (pos b) (negsuc a) (⊖-negsuc n) (⊖-pos b) (⊖-negsuc a) e
+
+pub quotient-small : (d p : ℤ) → pos 0 <ℤ p → natAbs (nearestQuotient d p) ≤ natAbs d + 1
+quotient-small d (negsuc p) h = absurd (h .lt)
+quotient-small d (pos zero) h = absurd (h .lt)
+quotient-small d (pos (suc p)) h = go (pos 2 *ℤ d +ℤ pos (suc p)) refl
+  where
+    go : (e : ℤ) → pos 2 *ℤ d +ℤ pos (suc p) ≡ e → natAbs (floorQuotient e (pos (2 * suc p))) ≤ natAbs d + 1
+    go (pos a) f =
+        above-small (natAbs d) (suc p) (a / (2 * suc p)) (omega arith)
+        (omega (arith, div-mul-le-self a (2 * suc p), ap natAbs f, abs-add (pos 2 *ℤ d) (pos (suc p)), abs-mul (pos 2) d))
+    go (negsuc a) f =
+        omega (
+          arith,
+          below-small (natAbs d) (suc p) (a / (2 * suc p)) (omega arith) (omega (arith, div-mul-le-self a (2 * suc p), sum-under (pos 2 *ℤ d) (suc p) a f, abs-mul (pos 2) d)),
+        )
+
+pub twice-above : (p : ℤ) → pos 0 <ℤ p → pos 0 <ℤ (pos 2 *ℤ p)
+twice-above p = rw (rep p) (simp diff-rel (omega arith))
+
+pub gap-small : (C : Columns) (v : List ℤ) (c : ℕ) → natAbs (entry c (C .lower)) ≤ maxBound → natAbs (entry c (C .upper)) ≤ maxBound → natAbs (entry c v) ≤ M
+    → natAbs (gapAt C v c) ≤ M + maxBound
+gap-small C v c a b h =
+    omega (arith, abs-less (idealAt (goalWishes C) C v c) (entry c v), ideal-small (entry c (C .lower)) (entry c (C .upper)) (goalWishes C c) (entry c v) a b)
+
+pub product-small : (x q y : ℤ) → natAbs x ≤ M → natAbs q ≤ M + maxBound + 1 → natAbs y ≤ M
+    → (natAbs (q *ℤ y) < 9223372036854775808) × (natAbs (x +ℤ q *ℤ y) < 9223372036854775808)
+product-small x q y a b d =
+    let m : natAbs (q *ℤ y) ≤ (M + maxBound + 1) * M = rw abs-mul (mul-le-mul b d) in
+    (omega arith, omega (arith, abs-add x (q *ℤ y)))
+
+-- ---- seating from vector s on
+module _ (w : ℕ → Wish) (C : Columns) (B : Basis) (l v : List ℤ) (s : ℕ) where
+  pub seat-end : B .vectors ≤ s → seat w C (drop s (vectors B l)) v ≡ seated v
+  unfolding seat
+  seat-end h = ap (λ (N : List (List ℤ)). seat w C N v) (drop-of-length-le (vectors B l) {i = s} (omega (arith, rows-length (B .vectors) (B .columns) (B .stride) l)))
+
+  step : s < B .vectors → seat w C (drop s (vectors B l)) v ≡ seat w C (vector (vectors B l) s ∷ drop (suc s) (vectors B l)) v
+  step h = ap (λ (N : List (List ℤ)). seat w C N v) (vectors-drop B l s h)
+
+  pub seat-far : s < B .vectors → anyBeyond (seatOne w C (vector (vectors B l) s) v) ≡ true → seat w C (drop s (vectors B l)) v ≡ far
+  unfolding seat
+  seat-far h e = step h ∙ ap (λ (t : Bool). cond t far (seat w C (drop (suc s) (vectors B l)) (seatOne w C (vector (vectors B l) s) v))) e
+
+  pub seat-on :
+      s < B .vectors → anyBeyond (seatOne w C (vector (vectors B l) s) v) ≡ false
+      → seat w C (drop s (vectors B l)) v ≡ seat w C (drop (s + 1) (vectors B l)) (seatOne w C (vector (vectors B l) s) v)
+  unfolding seat
+  seat-on h e =
+      step h ∙ ap (λ (t : Bool). cond t far (seat w C (drop (suc s) (vectors B l)) (seatOne w C (vector (vectors B l) s) v))) e
+      ∙ ap (λ (k : ℕ). seat w C (drop k (vectors B l)) (seatOne w C (vector (vectors B l) s) v)) (sym (add-one s))
+
+-- ---- a walk over a list
+module _ (r : List ℤ) (i : ℕ) where
+  split : i < length r → anyBeyond (drop i r) ≡ (beyond (entry i r) || anyBeyond (drop (i + 1) r))
+  unfolding anyBeyond
+  split h = ap anyBeyond (drop-cons r i (pos 0) h) ∙ ap (λ (k : ℕ). beyond (entry i r) || anyBeyond (drop k r)) (sym (add-one i))
+
+  pub beyond-at : i < length r → beyond (entry i r) ≡ true → anyBeyond (drop i r) ≡ true
+  beyond-at h e = split h ∙ ap (λ (t : Bool). t || anyBeyond (drop (i + 1) r)) e
+
+  pub beyond-on : i < length r → beyond (entry i r) ≡ false → anyBeyond (drop i r) ≡ anyBeyond (drop (i + 1) r)
+  beyond-on h e = split h ∙ ap (λ (t : Bool). t || anyBeyond (drop (i + 1) r)) e
+
+  pub beyond-end : length r ≤ i → anyBeyond (drop i r) ≡ false
+  unfolding anyBeyond
+  beyond-end h = ap anyBeyond (drop-of-length-le r {i = i} h)
+
+-- where none is found, each number lies within ±M
+pub none-beyond : (r : List ℤ) → anyBeyond r ≡ false → (j : ℕ) → natAbs (entry j r) ≤ M
+unfolding anyBeyond
+none-beyond [] e j = omega arith
+none-beyond (x ∷ r) e j = go (beyond x) refl e j (none-beyond r)
+  where
+    go : (t : Bool) → beyond x ≡ t → (t || anyBeyond r) ≡ false → (j : ℕ) → (anyBeyond r ≡ false → (j : ℕ) → natAbs (entry j r) ≤ M) → natAbs (entry j (x ∷ r)) ≤ M
+    go true f g j ih = absurd (true≢false g)
+    go false f g zero ih = ltb-false M (natAbs x) f
+    go false f g (suc j) ih = ih g j
+
+-- ---- the rows of a basis that can be seated
+module _ (B : Basis) (v lo hi gs l : List ℤ) (q : Seatable B v lo hi gs l) where
+  pub placeable : Placeable v lo hi gs
+  placeable =
+      let r = q .ready in
+      record {
+        lower-long = r .lower-long ∙ sym (r .values-long);
+        upper-long = r .upper-long ∙ sym (r .values-long);
+        goals-long = r .goals-long ∙ sym (r .values-long);
+        values-small = r .values-small;
+        lower-small = r .lower-small;
+        upper-small = r .upper-small;
+        goals-small = r .goals-small;
+      }
+
+  -- after an addition that left no value beyond ±M
+  pub still-seatable : (u : List ℤ) → length u ≡ length v → anyBeyond u ≡ false → Seatable B u lo hi gs l
+  still-seatable u h e =
+      let r = q .ready in
+      record {
+        ready = record {
+          few = r .few;
+          basis = r .basis;
+          values-long = h ∙ r .values-long;
+          lower-long = r .lower-long;
+          upper-long = r .upper-long;
+          goals-long = r .goals-long;
+          values-small = none-beyond u e;
+          lower-small = r .lower-small;
+          upper-small = r .upper-small;
+          goals-small = r .goals-small;
+          goal-above = r .goal-above;
+        };
+        led = q .led;
+      }
+
+  module _ (s : ℕ) (h : s < B .vectors) where
+    abbrev row : List ℤ
+    row = vector (vectors B l) s
+
+    some : 0 < B .columns
+    some =
+        omega (
+          arith,
+          q .led s h .inside,
+          ap length (vectors-is B l s h),
+          length-take (B .columns) (drop (s * B .stride) l),
+        )
+
+    pub row-end : s * B .stride + B .columns ≤ length l
+    row-end = omega (arith, some, q .ready .basis .lies s (B .columns - 1) h (omega (arith, some)))
+
+    pub row-is : take (s * B .stride + B .columns - s * B .stride) (drop (s * B .stride) l) ≡ row
+    row-is = ap (λ (k : ℕ). take k (drop (s * B .stride) l)) same ∙ sym (vectors-is B l s h)
+      where
+        same : s * B .stride + B .columns - s * B .stride ≡ B .columns
+        same = omega arith
+
+    row-length : length row ≡ B .columns
+    row-length = ap length (vectors-is B l s h) ∙ length-take (B .columns) (drop (s * B .stride) l) ∙ omega (arith, length-drop (s * B .stride) l, row-end)
+
+    row-small : (j : ℕ) → natAbs (entry j row) ≤ M
+    row-small j =
+        ⊎-elim
+        (λ g. rw (vectors-at B l s j h g) (q .ready .basis .small (s * B .stride + j)))
+        (λ g. rw (List·getD-eq-default row (pos 0) {n = j} (omega (arith, row-length))) (omega arith))
+        (lt-or-ge j (B .columns))
+
+    pub row-addable : Addable v row
+    row-addable = record { long = row-length ∙ sym (q .ready .values-long); values-small = q .ready .values-small; row-small = row-small }

@@ -1,0 +1,136 @@
+ghost use mathlib.Core.Path.{_≡_};
+ghost use mathlib.Core.Bool.{cond};
+ghost use Prim.Native.Nat.{_+_, _<_, _≤_};
+ghost use lib.IntN.{pos, natAbs, _+ℤ_, _*ℤ_};
+ghost use lib.ListN.{length};
+ghost use lib.Signed.{_<ℤ_};
+ghost use Rattle.whole.specs.Quotient.{nearestQuotient};
+ghost use Rattle.lattice.specs.Rows.{plus};
+ghost use Rattle.problem.specs.Limits.{M, maxBound, anyBeyond};
+ghost use Rattle.settling.specs.Ready.{cols};
+ghost use Rattle.settling.specs.Seating.{seated, far, goalWishes};
+ghost use Rattle.settling.specs.Seating as Seating;
+ghost use Rattle.settling.specs.Seats.{listed, gapAt, seatByGoals, seatWhole, isSeated, valuesAfter, Addable, Placeable, Led, Seatable};
+ghost use Rattle.settling.specs.Views.{vectors};
+use crate::Basis;
+use crate::goal_wish;
+use crate::ideal;
+use lattice::copy;
+use lattice::lead;
+use problem::Problem;
+use whole::floor_quotient;
+use whole::magnitude;
+
+// d by p to the nearest, a half upwards.
+fn nearest_quotient(d: i64, p: i64) -> i64
+    requires { ⌜ (natAbs d ≤ M + maxBound) × (natAbs p ≤ M) × (pos 0 <ℤ p) ⌝ }
+    ensures { λ r. ⌜ r ≡ nearestQuotient d p ⌝ }
+{
+    floor_quotient(2 * d + p, 2 * p)
+}
+
+// x + q y.
+fn plus_product(x: i64, q: i64, y: i64) -> i64
+    requires { ⌜ (natAbs x ≤ M) × (natAbs q ≤ M + maxBound + 1) × (natAbs y ≤ M) ⌝ }
+    ensures { λ r. ⌜ r ≡ x +ℤ q *ℤ y ⌝ }
+{
+    x + q * y
+}
+
+// Adds q times a row to the values.
+fn add_row(values: &mut [i64], row: &[i64], q: i64)
+    requires { ⌜ Addable (now values) (now row) × (natAbs q ≤ M + maxBound + 1) ⌝ }
+    ensures { λ _. ⌜ now (values .exit) ≡ plus q (now (row .entry)) (now (values .entry)) ⌝ }
+{
+    let mut j = 0;
+    while j < row.len() {
+        let y = plus_product(values[j], q, row[j]);
+        values[j] = y;
+        j += 1;
+    }
+}
+
+// Whether some value lies beyond ±M.
+fn any_beyond(values: &[i64]) -> bool
+    ensures { λ r. ⌜ r ≡ anyBeyond (now (values .entry)) ⌝ }
+{
+    let mut j = 0;
+    while j < values.len() {
+        if Problem::MAX_NUMBER < magnitude(values[j]) {
+            return true;
+        }
+        j += 1;
+    }
+    false
+}
+
+// The ideal of column c less the present value there.
+fn gap_at(values: &[i64], lower: &[i64], upper: &[i64], goals: &[i64], c: usize) -> i64
+    requires { ⌜ Placeable (now values) (now lower) (now upper) (now goals) × (c < length (now values)) ⌝ }
+    ensures { λ r. ⌜ r ≡ gapAt (listed (now (lower .entry)) (now (upper .entry)) (now (goals .entry))) (now (values .entry)) c ⌝ }
+{
+    let x = values[c];
+    ideal(lower[c], upper[c], goal_wish(goals[c]), x) - x
+}
+
+// Adds a row so often that its lead column comes nearest to its ideal.
+fn seat_one(values: &mut [i64], lower: &[i64], upper: &[i64], goals: &[i64], row: &[i64])
+    requires { ⌜ Placeable (now values) (now lower) (now upper) (now goals) × Addable (now values) (now row) × Led (now row) ⌝ }
+    ensures { λ _. ⌜ now (values .exit) ≡ seatByGoals (listed (now (lower .entry)) (now (upper .entry)) (now (goals .entry))) (now (row .entry)) (now (values .entry)) ⌝ }
+{
+    let c = lead(row);
+    let d = gap_at(values, lower, upper, goals, c);
+    let q = nearest_quotient(d, row[c]);
+    add_row(values, row, q);
+}
+
+// Seats the values, vector by vector; false as soon as one lies beyond ±M.
+fn seat_all(
+    values: &mut [i64],
+    lower: &[i64],
+    upper: &[i64],
+    goals: &[i64],
+    basis: &[i64],
+    view: Basis,
+) -> bool
+    requires { ⌜ Seatable view (now values) (now lower) (now upper) (now goals) (now basis) ⌝ }
+    ensures { λ r. ⌜ cond r (seated (now (values .exit))) far ≡ seatWhole view (now (lower .entry)) (now (upper .entry)) (now (goals .entry)) (now (basis .entry)) (now (values .entry)) ⌝ }
+{
+    let r = view.vectors;
+    let n = view.columns;
+    let w = view.stride;
+    let mut s = 0;
+    while s < r {
+        let at = s * w;
+        let end = at + n;
+        seat_one(values, lower, upper, goals, &basis[at..end]);
+        if any_beyond(values) {
+            return false;
+        }
+        s += 1;
+    }
+    true
+}
+
+// Seats the values; false, and the values as they were, where one comes to lie beyond ±M. They are seated in a copy.
+pub fn seat(
+    values: &mut [i64],
+    lower: &[i64],
+    upper: &[i64],
+    goals: &[i64],
+    basis: &[i64],
+    view: Basis,
+) -> bool
+    requires { ⌜ Seatable view (now values) (now lower) (now upper) (now goals) (now basis) ⌝ }
+    ensures { λ r. ⌜ r ≡ isSeated (Seating.seat (goalWishes (cols view (now (lower .entry)) (now (upper .entry)) (now (goals .entry)))) (cols view (now (lower .entry)) (now (upper .entry)) (now (goals .entry))) (vectors view (now (basis .entry))) (now (values .entry))) ⌝ }
+    ensures { λ _. ⌜ now (values .exit) ≡ valuesAfter (Seating.seat (goalWishes (cols view (now (lower .entry)) (now (upper .entry)) (now (goals .entry)))) (cols view (now (lower .entry)) (now (upper .entry)) (now (goals .entry))) (vectors view (now (basis .entry))) (now (values .entry))) (now (values .entry)) ⌝ }
+{
+    let mut held = [0i64; Problem::MAX_COLUMNS];
+    let n = view.columns;
+    copy(&mut held[..n], values);
+    if !seat_all(&mut held[..n], lower, upper, goals, basis, view) {
+        return false;
+    }
+    copy(values, &held[..n]);
+    true
+}
