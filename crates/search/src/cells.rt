@@ -19,7 +19,7 @@ fn spread(cells: &mut [i64], list: &[i64], k: usize)
 }
 
 // Packs what a step knows of the columns: lower bound, upper bound, goal and value of each.
-pub fn pack(cells: &mut [i64], values: &[i64], lower: &[i64], upper: &[i64], goals: &[i64])
+pub(crate) fn pack(cells: &mut [i64], values: &[i64], lower: &[i64], upper: &[i64], goals: &[i64])
     requires { ⌜ (4 * length (now values) ≤ length (now cells)) × (4 * length (now lower) ≤ length (now cells)) × (4 * length (now upper) ≤ length (now cells)) × (4 * length (now goals) ≤ length (now cells)) ⌝ }
     ensures { λ _. ⌜ now (cells .exit) ≡ Cells.pack (now (values .entry)) (now (lower .entry)) (now (upper .entry)) (now (goals .entry)) (now (cells .entry)) ⌝ }
 {
@@ -30,7 +30,7 @@ pub fn pack(cells: &mut [i64], values: &[i64], lower: &[i64], upper: &[i64], goa
 }
 
 // Column j.
-pub fn cell_at(cells: &[i64], j: usize) -> Cell
+pub(crate) fn cell_at(cells: &[i64], j: usize) -> Cell
     requires { ⌜ 4 * j + 3 < length (now cells) ⌝ }
     ensures { λ r. ⌜ r ≡ cellAt (now (cells .entry)) j ⌝ }
 {

@@ -23,24 +23,24 @@ use settling::Step;
 use settling::measures::distance;
 use settling::moves::take_move;
 
-pub mod cells;
-pub mod ranking;
-pub mod scan;
+mod cells;
+mod ranking;
+mod scan;
 
 // What a search goes by.
-pub struct Search {
+struct Search {
     pub part: Part,
     pub view: Basis,
 }
 
 // The best place of the ranking so far, and its step.
-pub struct Best {
+struct Best {
     pub at: usize,
     pub step: Step,
 }
 
 // Two vectors of the basis.
-pub struct Pair {
+struct Pair {
     pub s: usize,
     pub t: usize,
 }
@@ -86,7 +86,7 @@ fn part_of(cells: &[i64], n: usize) -> Part
 }
 
 // A step, and the part that it belongs to.
-pub struct Turn {
+struct Turn {
     pub part: Part,
     pub step: Step,
 }
@@ -120,7 +120,7 @@ fn next_turn(
     requires { ⌜ Ready view (now values) (now lower) (now upper) (now goals) (now basis) ⌝ }
     ensures { λ r. ⌜ r ≡ turnOf (cols view (now (lower .entry)) (now (upper .entry)) (now (goals .entry))) (vectors view (now (basis .entry))) (now (values .entry)) ⌝ }
 {
-    let mut cells = [0i64; 192];
+    let mut cells = [0i64; 4 * Problem::MAX_COLUMNS];
     let used = 4 * view.columns;
     pack(&mut cells[..used], values, lower, upper, goals);
     turn_over(&cells[..used], basis, view)

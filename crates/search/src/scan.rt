@@ -215,7 +215,7 @@ fn pairs(search: Search, cells: &[i64], basis: &[i64], order: &[usize], z: Best)
 }
 
 // The first improving move of the first column of the order that has one.
-pub fn first_step(search: Search, cells: &[i64], basis: &[i64], order: &[usize]) -> Step
+pub(crate) fn first_step(search: Search, cells: &[i64], basis: &[i64], order: &[usize]) -> Step
     requires { ⌜ Setup search (now cells) (now basis) (now order) ⌝ }
     ensures { λ r. ⌜ r ≡ firstColumn (stepAt (search .part) (columnsIn search (now (cells .entry))) (vectors (search .view) (now (basis .entry))) (valuesIn search (now (cells .entry)))) (now (order .entry)) ⌝ }
 {

@@ -12,3 +12,4 @@ pub mod Views
 pub mod Ready
 pub mod Parts
 pub mod Seats
+pub mod StrideLaws

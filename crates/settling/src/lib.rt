@@ -8,8 +8,8 @@ use whole::magnitude;
 
 pub mod measures;
 pub mod moves;
-
 pub mod seating;
+pub mod strides;
 
 // What a column is to come to when it is seated: a number, or its present value.
 pub enum Wish {

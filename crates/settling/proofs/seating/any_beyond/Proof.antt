@@ -1,16 +1,14 @@
 -- `settling::seating::any_beyond` meets its contract: the loop leaves at the first value beyond ±M. Assumes nothing.
-use mathlib.Core.Path.{_≡_, sym, _∙_, ap, refl}
-use mathlib.Core.Bool.{Bool, true, false}
-use Prim.Native.Nat.{ℕ, _-_, _≤_}
+use mathlib.Core.Path.{_≡_, sym, _∙_, refl}
+use Prim.Native.Nat.{_-_, _≤_}
 use native.Mathlib.Omega.{arith}
 use borrow.Author.Needs.{needs}
 use borrow.Author.Tests.{lt-ltb, le-ltb}
-use lib.Dec.{ltb}
-use lib.IntN.{ℤ, natAbs}
+use lib.IntN.{natAbs}
 use lib.ListN.{length, drop}
 use Rattle.whole.specs.Lists.{entry}
 use Rattle.whole.proofs.Signed.{back}
-use Rattle.problem.specs.Limits.{M, beyond, anyBeyond}
+use Rattle.problem.specs.Limits.{M, anyBeyond}
 use Rattle.settling.specs.Seats.{beyond-at, beyond-on, beyond-end}
 use Rattle.settling.proofs.seating.any_beyond.Statement.{statement}
 use Rattle.settling.proofs.seating.any_beyond.Tie as tie

@@ -1,9 +1,7 @@
 -- `settling::seating::gap_at` meets its contract: an ideal lies in bounds, so that the difference fits. Assumes nothing.
-use mathlib.Core.Path.{_≡_, sym, _∙_, ap}
+use mathlib.Core.Path.{_≡_, _∙_, ap}
 use native.Mathlib.Omega.{arith}
-use Prim.Native.Nat.{_<_}
-use lib.IntN.{ℤ, natAbs, _-ℤ_}
-use lib.ListN.{length}
+use borrow.Author.Needs.{needs}
 use mir.Syntax.{w64}
 use mir.Val.{SFits, toZ, ofZ}
 use mir.Facts.{toZ-ofZ}
@@ -13,7 +11,6 @@ use Rattle.settling.specs.Columns.{Columns}
 use Rattle.settling.specs.Ideals as Ideals
 use Rattle.settling.specs.Seating.{goalWishes, idealAt}
 use Rattle.settling.specs.Seats.{listed, gapAt, gap-small}
-use borrow.Author.Needs.{needs}
 use Rattle.settling.proofs.seating.gap_at.Statement.{statement}
 use Rattle.settling.proofs.seating.gap_at.Tie as tie
 

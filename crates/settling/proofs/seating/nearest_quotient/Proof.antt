@@ -1,9 +1,9 @@
 -- `settling::seating::nearest_quotient` meets its contract: it rounds (2d + p) / 2p down. Assumes nothing.
-use mathlib.Core.Path.{_≡_, _∙_, ap}
+use mathlib.Core.Path.{_∙_, ap}
 use native.Mathlib.Omega.{arith}
-use lib.IntN.{ℤ, pos, natAbs, _+ℤ_, _*ℤ_}
+use lib.IntN.{ℤ, pos, _+ℤ_, _*ℤ_}
 use mir.Syntax.{w64}
-use mir.Val.{SFits, toZ, ofZ}
+use mir.Val.{SFits}
 use mir.Facts.{toZ-ofZ}
 use Rattle.whole.specs.Quotient.{floorQuotient}
 use Rattle.whole.proofs.Signed.{abs-add, abs-mul, sfits-abs, back}

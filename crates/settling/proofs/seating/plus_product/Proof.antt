@@ -1,7 +1,6 @@
 -- `settling::seating::plus_product` meets its contract: the product, and its sum with a value, are below 2 to the 63rd. Assumes nothing.
-use mathlib.Core.Path.{_≡_}
 use native.Mathlib.Omega.{arith}
-use lib.IntN.{ℤ, natAbs, _+ℤ_, _*ℤ_}
+use lib.IntN.{ℤ, _+ℤ_, _*ℤ_}
 use mir.Syntax.{w64}
 use mir.Val.{SFits}
 use mir.Facts.{toZ-ofZ}

@@ -1,16 +1,16 @@
 -- `settling::seating::seat` meets its contract: the copy is seated, and copied back only if it stays within ±M. Assumes nothing.
-use mathlib.Core.Path.{_≡_, refl, sym, _∙_, ap, subst}
-use mathlib.Core.Bool.{Bool, true, false, cond, not}
+use mathlib.Core.Path.{_≡_, sym, _∙_, ap, subst}
+use mathlib.Core.Bool.{Bool, true, false, cond}
 use mathlib.Core.List.{List, _++_}
-use Prim.Native.Nat.{ℕ, _≤_}
+use Prim.Native.Nat.{ℕ}
 use native.Mathlib.Omega.{arith}
 use borrow.Author.Tests.{not-true, not-false}
+use borrow.Author.Needs.{needs}
 use lib.IntN.{ℤ}
 use lib.ListN.{length, take, drop}
 use Rattle.settling.specs.Parts.{part-length, part-back, part-fits}
 use Rattle.settling.specs.Seating.{Seated, seated, far}
 use Rattle.settling.specs.Seats.{seatWhole, isSeated, valuesAfter, Seatable}
-use borrow.Author.Needs.{needs}
 use Rattle.settling.proofs.seating.seat.Statement.{statement}
 use Rattle.settling.proofs.seating.seat.Tie as tie
 

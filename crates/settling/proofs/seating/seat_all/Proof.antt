@@ -1,19 +1,17 @@
 -- `settling::seating::seat_all` meets its contract: what is left of the vectors, from the present values, gives the whole. Assumes nothing.
 use mathlib.Core.Path.{_≡_, refl, sym, _∙_, ap, subst}
-use mathlib.Core.Bool.{Bool, true, false, cond}
 use mathlib.Core.List.{List}
-use Prim.Native.Nat.{ℕ, _+_, _*_, _-_, _<_, _≤_}
+use Prim.Native.Nat.{ℕ, _+_, _*_, _-_, _≤_}
 use native.Mathlib.Omega.{arith}
 use borrow.Author.Needs.{needs}
 use lib.IntN.{ℤ}
 use lib.ListN.{length, take, drop}
 use Rattle.problem.specs.Limits.{anyBeyond}
 use Rattle.settling.specs.declared.Basis.{Basis}
-use Rattle.settling.specs.declared.Wish.{Wish}
 use Rattle.settling.specs.Columns.{Columns}
 use Rattle.settling.specs.Moves.{vector}
 use Rattle.settling.specs.Ready.{cols}
-use Rattle.settling.specs.Seating.{goalWishes, seatOne, Seated, seated, far}
+use Rattle.settling.specs.Seating.{goalWishes, seatOne}
 use Rattle.settling.specs.Seating as Seating
 use Rattle.settling.specs.Seats.{seatWhole, Addable, Led, Seatable, placeable, row-end, row-is, row-addable, still-seatable, seat-end, seat-far, seat-on}
 use Rattle.settling.specs.Views.{vectors}

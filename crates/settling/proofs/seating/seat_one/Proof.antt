@@ -1,9 +1,9 @@
 -- `settling::seating::seat_one` meets its contract: the row is added as often as the gap at its lead asks. Assumes nothing.
-use mathlib.Core.Path.{_≡_, sym, _∙_, ap, ap₂, subst}
-use Prim.Native.Nat.{ℕ, _+_, _<_, _≤_}
+use mathlib.Core.Path.{_≡_, _∙_, ap}
+use Prim.Native.Nat.{ℕ, _+_, _≤_}
 use native.Mathlib.Omega.{arith}
+use borrow.Author.Needs.{needs}
 use lib.IntN.{ℤ, natAbs}
-use lib.ListN.{length}
 use mir.Syntax.{w64}
 use mir.Val.{toZ, ofZ}
 use Rattle.whole.specs.Lists.{entry}
@@ -14,7 +14,6 @@ use Rattle.problem.specs.Limits.{M, maxBound}
 use Rattle.settling.specs.Columns.{Columns}
 use Rattle.settling.specs.Seating.{seatOne}
 use Rattle.settling.specs.Seats.{listed, gapAt, gap-small, quotient-small}
-use borrow.Author.Needs.{needs}
 use Rattle.settling.proofs.seating.seat_one.Statement.{statement}
 use Rattle.settling.proofs.seating.seat_one.Tie as tie
 

@@ -1,0 +1,79 @@
+-- Laws of strides, for the loops.
+--   StridesReady B d l          a list d with a number for each column of the view B of the basis l
+--   stride-none, -up, -all      the vectors from s on, where s counts down: none, one more, all
+--   Filled N d₀ d j             the first j numbers of d are strides, and it is as long as d₀
+--   filled-none, -on, -all      it holds at 0; at j + 1 once the stride is stored; and past the last column d is the list of strides
+-- Assumes nothing.
+use mathlib.Core.Path.{_≡_, refl, sym, _∙_, ap}
+use mathlib.Core.List.{List, []}
+use Prim.Native.Nat.{ℕ, zero, suc, _+_, _-_, _<_, _≤_}
+use native.Mathlib.Omega.{arith}
+use borrow.Author.Count.{below-more}
+use lib.IntN.{ℤ, natAbs}
+use lib.ListN.{length, getD, drop, set, length-set, drop-of-length-le}
+use lib.Seq.{getD-set-same, getD-set-other, ext-getD}
+use Rattle.whole.specs.Lists.{entry}
+use Rattle.whole.specs.Divisor.{divisor}
+use Rattle.settling.specs.declared.Basis.{Basis}
+use Rattle.settling.specs.Moves.{vector}
+use Rattle.settling.specs.Strides.{stride, stridesFrom, strides}
+use Rattle.settling.specs.Views.{vectors, Viewed, rows-length, vectors-drop}
+
+pub record StridesReady (B : Basis) (d : List ℕ) (l : List ℤ) : Type 0 where
+  pub long : length d ≡ B .columns
+  pub basis : Viewed B l
+
+-- ---- one column
+module _ (B : Basis) (l : List ℤ) (j : ℕ) where
+  pub stride-none : stride (drop (B .vectors) (vectors B l)) j ≡ 0
+  unfolding stride
+  stride-none =
+      ap (λ (N : List (List ℤ)). stride N j)
+      (drop-of-length-le (vectors B l) {i = B .vectors} (omega (arith, rows-length (B .vectors) (B .columns) (B .stride) l)))
+
+  pub stride-up :
+      (s : ℕ) → 0 < s → s ≤ B .vectors
+      → divisor (natAbs (entry j (vector (vectors B l) (s - 1)))) (stride (drop s (vectors B l)) j) ≡ stride (drop (s - 1) (vectors B l)) j
+  unfolding stride
+  stride-up s h k =
+      ap (λ (i : ℕ). divisor (natAbs (entry j (vector (vectors B l) (s - 1)))) (stride (drop i (vectors B l)) j)) up
+      ∙ sym (ap (λ (N : List (List ℤ)). stride N j) (vectors-drop B l (s - 1) (omega arith)))
+    where
+      up : s ≡ suc (s - 1)
+      up = omega arith
+
+-- ---- all columns
+pub record Filled (N : List (List ℤ)) (d₀ d : List ℕ) (j : ℕ) : Type 0 where
+  pub within : j ≤ length d₀
+  pub long : length d ≡ length d₀
+  pub done : (x : ℕ) → x < j → getD d x 0 ≡ stride N x
+
+pub filled-none : (N : List (List ℤ)) (d : List ℕ) → Filled N d d 0
+filled-none N d = record { within = omega arith; long = refl; done = λ x h. absurd (omega arith) }
+
+pub filled-on : (N : List (List ℤ)) (d₀ d : List ℕ) (j y : ℕ) → Filled N d₀ d j → j < length d₀ → y ≡ stride N j → Filled N d₀ (set d j y) (j + 1)
+filled-on N d₀ d j y f h e =
+    record {
+      within = omega arith;
+      long = length-set d j y ∙ f .long;
+      done = below-more (λ x. getD (set d j y) x 0 ≡ stride N x) j (λ x m. getD-set-other d j x y 0 (λ q. omega arith) ∙ f .done x m) (getD-set-same d j y 0 (omega (arith, f .long)) ∙ e);
+    }
+
+strides-length : (N : List (List ℤ)) (k j : ℕ) → length (stridesFrom N k j) ≡ k
+unfolding stridesFrom
+strides-length N zero j = refl
+strides-length N (suc k) j = ap suc (strides-length N k (suc j))
+
+strides-at : (N : List (List ℤ)) (k j x : ℕ) → x < k → getD (stridesFrom N k j) x 0 ≡ stride N (j + x)
+unfolding stridesFrom
+strides-at N zero j x h = absurd (omega arith)
+strides-at N (suc k) j zero h = ap (stride N) (omega arith)
+strides-at N (suc k) j (suc x) h = strides-at N k (suc j) x (omega arith) ∙ ap (stride N) (omega arith)
+
+pub filled-all : (N : List (List ℤ)) (n : ℕ) (d₀ d : List ℕ) (j : ℕ) → Filled N d₀ d j → length d₀ ≡ n → n ≤ j → d ≡ strides n N
+filled-all N n d₀ d j f h g =
+    ext-getD 0 d (strides n N) (f .long ∙ h ∙ sym (strides-length N n 0))
+    (λ x m. f .done x (omega (arith, f .long)) ∙ sym (strides-at N n 0 x (omega (arith, f .long)) ∙ ap (stride N) first))
+  where
+    first : {x : ℕ} → 0 + x ≡ x
+    first {x} = omega arith
