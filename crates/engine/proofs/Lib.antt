@@ -3,3 +3,4 @@ pub mod Readiness
 pub mod Leading
 pub mod Viewing
 pub mod Dots
+pub mod Forming

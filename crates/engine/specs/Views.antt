@@ -58,7 +58,7 @@ abbrev pub leadsAt : ℕ → ℕ → ℕ → List ℤ → Bool
 leadsAt w i m t = ltb (lead (take w (drop (i * w) t))) m
 
 -- ---- rows in a list
-flat-length : (w : ℕ) (T : List (List ℤ)) → All (Len w) T → length (flat T) ≡ length T * w
+pub flat-length : (w : ℕ) (T : List (List ℤ)) → All (Len w) T → length (flat T) ≡ length T * w
 flat-length w [] a = omega arith
 flat-length w (r ∷ T) a = omega (arith, length-append r (flat T), flat-length w T (a .1), a .0)
 
