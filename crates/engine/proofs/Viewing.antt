@@ -1,43 +1,47 @@
--- What the code finds of the basis in the tableau: how many rows lead, how the basis lies, and where it starts.
---   Viewing p t h B a   these numbers are right
---   few-leading         no more rows lead than there are columns
---   start-inside        the basis starts inside the tableau
---   viewed-basis        the vectors that the code sees are the basis
---   viewed-columns      and the columns are the problem's
---   viewed-ready        so what is placed is ready for them
+-- What the code finds of the basis in the tableau: its place.
+--   few-leading      no more rows lead than there are columns
+--   place-inside     the basis starts inside the tableau; tableau-small, which is small
+--   place-basis      the vectors that the code sees there are the basis
+--   place-columns    and the columns are the problem's
+--   place-over       so is what is made of them
+--   place-ready      so what is placed is ready for them
+--   place-led        and a basis with leads above 0 can be seated
 -- Assumes nothing.
 use mathlib.Core.Path.{_≡_, refl, sym, _∙_, ap, ap₂, subst}
 use mathlib.Core.Bool.{Bool, true, false, cond}
-use mathlib.Core.List.{List}
+use mathlib.Core.List.{List, []}
 use Prim.Native.Nat.{ℕ, suc, _+_, _*_, _-_, _<_, _≤_}
-use native.Mathlib.Nat.{mul-le-mul-right}
+use native.Mathlib.Nat.{mul-le-mul-right, add-le-add}
 use native.Mathlib.Omega.{arith}
 use borrow.Author.Tests.{ltb-true}
 use lib.Dec.{ltb}
 use lib.IntN.{ℤ}
 use lib.ListN.{length, take, drop, length-drop}
 use lib.Seq.{take-all}
+use Rattle.whole.specs.Integers.{positive-above}
+use Rattle.lattice.specs.Rows.{chop}
 use Rattle.lattice.specs.FlatLaws.{length-chop}
+use Rattle.lattice.specs.Span.{all-at}
+use Rattle.lattice.specs.Hermite.{Led}
+use Rattle.problem.specs.Limits.{maxColumns, maxRows}
 use Rattle.problem.specs.declared.Problem.{Problem}
 use Rattle.tableau.specs.RightSide.{leading}
 use Rattle.settling.specs.Columns.{Columns}
 use Rattle.settling.specs.Ready.{cols, Ready}
-use Rattle.settling.specs.Views.{vectors}
+use Rattle.settling.specs.Moves.{vector}
+use Rattle.settling.specs.Seats as Seats
+use Rattle.settling.specs.Views.{vectors, rows-length}
 use Rattle.settling.specs.declared.Basis.{Basis}
-use Rattle.engine.specs.Views.{width, basisView, basisStart, tableOf, basisOf, columnsOf, Parted, basis-in}
-use Rattle.engine.specs.Placed.{Placed}
-use Rattle.engine.proofs.Leading.{leading-few}
+use Rattle.engine.specs.Views.{width, basisView, basisStart, tableOf, basisOf, columnsOf, placeOf, Parted, basis-in}
+use Rattle.engine.specs.Placed.{Placed, LedBasis}
+use Rattle.engine.specs.declared.views.Place.{Place}
+use Rattle.engine.proofs.Leading.{leading-few, product-small}
 
-pub record Viewing (p : Problem) (t : List ℤ) (h : ℕ) (B : Basis) (a : ℕ) : Type 0 where
-  pub count : h ≡ length (leading (p .rows) (tableOf p t))
-  pub view : B ≡ basisView p h
-  pub start : a ≡ basisStart p h
+pub few-leading : (n m : ℕ) (t : List ℤ) (h : ℕ) → h ≡ length (leading m (chop n (m + n) t)) → h ≤ n
+few-leading n m t h e = omega (arith, leading-few m (chop n (m + n) t), length-chop n (m + n) t)
 
-pub few-leading : (p : Problem) (t : List ℤ) (h : ℕ) → h ≡ length (leading (p .rows) (tableOf p t)) → h ≤ p .columns
-few-leading p t h e = omega (arith, leading-few (p .rows) (tableOf p t), length-chop (p .columns) (width p) t)
-
-start-at : (p : Problem) (h : ℕ) → basisStart p h ≤ p .columns * width p
-start-at p h = go (ltb h (p .columns)) refl
+start-inside : (p : Problem) (h : ℕ) → basisStart p h ≤ p .columns * width p
+start-inside p h = go (ltb h (p .columns)) refl
   where
     go : (b : Bool) → ltb h (p .columns) ≡ b → cond b (h * width p + p .rows) (p .columns * width p) ≤ p .columns * width p
     go true e =
@@ -45,25 +49,44 @@ start-at p h = go (ltb h (p .columns)) refl
         omega (arith, l)
     go false e = omega arith
 
-pub start-inside : (p : Problem) (t : List ℤ) → Parted p t → (a h : ℕ) → a ≡ basisStart p h → a ≤ length t
-start-inside p t q a h e = omega (arith, start-at p h, q .long)
-
 -- from a place on
 tail : (t : List ℤ) (a : ℕ) → take (length t - a) (drop a t) ≡ drop a t
 tail t a = take-all (length t - a) (drop a t) (omega (arith, length-drop a t))
 
-module _ {p : Problem} {t : List ℤ} {h : ℕ} {B : Basis} {a : ℕ} (v : Viewing p t h B a) where
-  seen : take (length t - a) (drop a t) ≡ drop (basisStart p h) t
-  seen = tail t a ∙ ap (λ (i : ℕ). drop i t) (v .start)
+module _ (p : Problem) (t : List ℤ) (x : Place) (e : x ≡ placeOf p t) where
+  abbrev h : ℕ
+  h = length (leading (p .rows) (tableOf p t))
 
-  pub viewed-basis : Parted p t → vectors B (take (length t - a) (drop a t)) ≡ basisOf p t
-  viewed-basis q =
-      ap₂ vectors (v .view) seen
-      ∙ ap (λ (k : ℕ). vectors (basisView p k) (drop (basisStart p k) t)) (v .count)
-      ∙ basis-in p t q
+  pub place-inside : Parted p t → x .at ≤ length t
+  place-inside q = omega (arith, ap (λ (y : Place). y .at) e, start-inside p h, q .long)
 
-  pub viewed-columns : (lo hi gs : List ℤ) → cols B lo hi gs ≡ columnsOf p lo hi gs
-  viewed-columns lo hi gs = ap (λ (C : Basis). cols C lo hi gs) (v .view)
+  seen : take (length t - x .at) (drop (x .at) t) ≡ drop (basisStart p h) t
+  seen = tail t (x .at) ∙ ap (λ (y : Place). drop (y .at) t) e
 
-  pub viewed-ready : (x lo hi gs : List ℤ) → Placed p t x lo hi gs → Ready B x lo hi gs (take (length t - a) (drop a t))
-  viewed-ready x lo hi gs q = rw (v .view, seen) (q .ready h)
+  view : x .view ≡ basisView p h
+  view = ap (λ (y : Place). y .view) e
+
+  pub place-basis : Parted p t → vectors (x .view) (take (length t - x .at) (drop (x .at) t)) ≡ basisOf p t
+  place-basis q = ap₂ vectors view seen ∙ basis-in p t q
+
+  place-columns : (lo hi gs : List ℤ) → cols (x .view) lo hi gs ≡ columnsOf p lo hi gs
+  place-columns lo hi gs = ap (λ (C : Basis). cols C lo hi gs) view
+
+  -- what is made of the columns and the vectors that the code sees is made of the problem's and the basis
+  pub place-over : {A : Type 0} → Parted p t → (F : Columns → List (List ℤ) → A) (lo hi gs : List ℤ)
+      → F (cols (x .view) lo hi gs) (vectors (x .view) (take (length t - x .at) (drop (x .at) t))) ≡ F (columnsOf p lo hi gs) (basisOf p t)
+  place-over q F lo hi gs = ap₂ F (place-columns lo hi gs) (place-basis q)
+
+  pub place-ready : (v lo hi gs : List ℤ) → Placed p t v lo hi gs → Ready (x .view) v lo hi gs (take (length t - x .at) (drop (x .at) t))
+  place-ready v lo hi gs q = rw (view, seen) (q .ready h)
+
+  -- a vector that seating takes is one of the basis
+  pub place-led : Parted p t → LedBasis p t → (s : ℕ) → s < x .view .vectors → Seats.Led (vector (vectors (x .view) (take (length t - x .at) (drop (x .at) t))) s)
+  place-led q b s l =
+      let k : length (basisOf p t) ≡ x .view .vectors =
+      ap length (sym (place-basis q)) ∙ rows-length (x .view .vectors) (x .view .columns) (x .view .stride) (take (length t - x .at) (drop (x .at) t)) in
+      let d : Led (p .columns) (vector (basisOf p t) s) = all-at (Led (p .columns)) (basisOf p t) s [] (omega (arith, k)) (b .led) in
+      rw (place-basis q) (record { inside = omega (arith, d .wide, d .inside); above = positive-above (d .above) })
+
+pub tableau-small : (p : Problem) (t : List ℤ) → Parted p t → p .columns ≤ maxColumns → p .rows ≤ maxRows → length t ≤ 4608
+tableau-small p t q c r = omega (arith, q .long, product-small (p .columns) (width p) c (add-le-add r c))

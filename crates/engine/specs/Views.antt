@@ -1,6 +1,7 @@
 -- The basis as it lies in the tableau.
 --   basisView p h    how it lies there, where h rows lead in the first m columns
 --   basisStart p h   where its first number stands; the tableau's end where there is no vector
+--   Place            both together (declared in src/); placeOf p t, of the basis in the list t
 --   leadsAt w i m t  row i leads in the first m columns
 --   tableOf p t      the rows of a list of the tableau's length; basisOf p t, the basis among them
 --   Parted p t       the list has that length, no number beyond ±M, and its leading rows stand above the others
@@ -27,6 +28,7 @@ use Rattle.tableau.specs.RightSide.{leading, remaining, basis}
 use Rattle.settling.specs.Columns.{Columns}
 use Rattle.settling.specs.Views.{rowsOf, vectors}
 use Rattle.settling.specs.declared.Basis.{Basis}
+use Rattle.engine.specs.declared.views.Place.{Place}
 
 abbrev pub width : Problem → ℕ
 width p = p .rows + p .columns
@@ -52,6 +54,15 @@ pub record Parted (p : Problem) (t : List ℤ) : Type 0 where
   pub long : length t ≡ p .columns * width p
   pub small : (i : ℕ) → natAbs (entry i t) ≤ M
   pub split : leading (p .rows) (tableOf p t) ++ remaining (p .rows) (tableOf p t) ≡ tableOf p t
+
+abbrev pub placeBehind : ℕ → ℕ → ℕ → Place
+placeBehind n m h = record {
+  view = record { columns = n; vectors = n - h; stride = m + n };
+  at = cond (ltb h n) (h * (m + n) + m) (n * (m + n));
+}
+
+abbrev pub placeOf : Problem → List ℤ → Place
+placeOf p t = placeBehind (p .columns) (p .rows) (length (leading (p .rows) (tableOf p t)))
 
 -- row i of a list of rows of w numbers leads in the first m columns
 abbrev pub leadsAt : ℕ → ℕ → ℕ → List ℤ → Bool

@@ -4,12 +4,12 @@ ghost use lib.ListN.{length};
 ghost use Rattle.lattice.specs.Rows.{chop};
 ghost use Rattle.problem.specs.Limits.{maxColumns, maxRows};
 ghost use Rattle.tableau.specs.RightSide.{leading};
-ghost use Rattle.engine.specs.Views.{basisView, basisStart, leadsAt};
+ghost use Rattle.engine.specs.Views.{placeBehind, placeOf, leadsAt};
 use problem::Problem;
 use settling::Basis;
 
 // How many of n rows of m + n numbers lead in the first m columns.
-pub(crate) fn leading_rows(t: &[i64], n: usize, m: usize) -> usize
+fn leading_rows(t: &[i64], n: usize, m: usize) -> usize
     requires { ⌜ (n ≤ maxColumns) × (m ≤ maxRows) × (length (now t) ≡ n * (m + n)) ⌝ }
     ensures { λ r. ⌜ r ≡ length (leading m (chop n (m + n) (now (t .entry)))) ⌝ }
 {
@@ -25,29 +25,45 @@ pub(crate) fn leading_rows(t: &[i64], n: usize, m: usize) -> usize
     h
 }
 
-// How the basis lies behind h leading rows.
-pub(crate) fn basis_view(p: Problem, h: usize) -> Basis
-    requires { ⌜ (p .columns ≤ maxColumns) × (p .rows ≤ maxRows) × (h ≤ p .columns) ⌝ }
-    ensures { λ r. ⌜ r ≡ basisView p h ⌝ }
+// How the basis lies in the tableau, and where it starts.
+pub(crate) struct Place {
+    pub view: Basis,
+    pub at: usize,
+}
+
+// The place of the basis behind h leading rows.
+fn place_behind(n: usize, m: usize, h: usize) -> Place
+    requires { ⌜ (n ≤ maxColumns) × (m ≤ maxRows) × (h ≤ n) ⌝ }
+    ensures { λ r. ⌜ r ≡ placeBehind n m h ⌝ }
 {
-    Basis {
-        columns: p.columns,
-        vectors: p.columns - h,
-        stride: p.rows + p.columns,
+    let w = m + n;
+    let view = Basis {
+        columns: n,
+        vectors: n - h,
+        stride: w,
+    };
+    if h < n {
+        Place {
+            view: view,
+            at: h * w + m,
+        }
+    } else {
+        Place {
+            view: view,
+            at: n * w,
+        }
     }
 }
 
-// Where it starts in the tableau.
-pub(crate) fn basis_start(p: Problem, h: usize) -> usize
-    requires { ⌜ (p .columns ≤ maxColumns) × (p .rows ≤ maxRows) × (h ≤ p .columns) ⌝ }
-    ensures { λ r. ⌜ r ≡ basisStart p h ⌝ }
+// The place of the basis in the form of a problem.
+pub(crate) fn basis_place(t: &[i64], p: Problem) -> Place
+    requires { ⌜ (p .columns ≤ maxColumns) × (p .rows ≤ maxRows) × (length (now t) ≡ p .columns * (p .rows + p .columns)) ⌝ }
+    ensures { λ r. ⌜ r ≡ placeOf p (now (t .entry)) ⌝ }
 {
-    let w = p.rows + p.columns;
-    if h < p.columns {
-        h * w + p.rows
-    } else {
-        p.columns * w
-    }
+    let n = p.columns;
+    let m = p.rows;
+    let h = leading_rows(t, n, m);
+    place_behind(n, m, h)
 }
 
 // Whether row i leads in the first m columns.

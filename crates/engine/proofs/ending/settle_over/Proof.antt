@@ -1,96 +1,110 @@
-use lib.ListN.{take, drop}
-use Prim.Native.Nat.{_-_}
-use Rattle.settling.specs.Ready.{cols}
-use Rattle.settling.specs.Views.{vectors}
-use Rattle.engine.specs.Views.{columnsOf, basisOf}
-use native.Mathlib.Nat.{add-le-add}
-use lib.ListN.{length}
-use Prim.Native.Nat.{_+_}
-use Rattle.engine.proofs.Leading.{product-small}
+use mathlib.Core.Path.{_≡_, sym}
+use Rattle.settling.specs.Columns.{Columns}
+use Rattle.engine.specs.declared.views.Place.{Place}
+use Prim.Native.Nat.{ℕ}
 -- `engine::ending::settle_over` meets its contract: the part that it lends is the basis. Assumes nothing.
-use mathlib.Core.Path.{_≡_, refl, sym, _∙_, ap, ap₂}
-use Prim.Native.Nat.{ℕ, _≤_}
+use mathlib.Core.Path.{_∙_, ap}
+use Prim.Native.Nat.{_-_, _≤_}
+use Rattle.settling.specs.Ready.{Ready}
 use native.Mathlib.Omega.{arith}
-use Rattle.problem.specs.Limits.{maxColumns, maxRows}
+use lib.ListN.{length, take, drop}
 use Rattle.settling.specs.Settle as Settle
-use Rattle.engine.proofs.Viewing.{Viewing, few-leading, start-inside, viewed-basis, viewed-columns, viewed-ready}
+use Rattle.settling.specs.Strides as Strides
+use Rattle.engine.proofs.Viewing.{place-inside, place-over, place-ready, tableau-small}
 use borrow.Author.Needs.{needs}
 use Rattle.engine.proofs.ending.settle_over.Statement.{statement}
 use Rattle.engine.proofs.ending.settle_over.Tie as tie
 
 -- the basis starts inside the tableau, which is small
-inside : (c : tie.After-settle-arg) → c .before .basis-start .result ≤ length (c .before .before .before .before .args .tableau .now)
-inside c =
-    let s = c .before .before .before .before in
-    start-inside (s .args .p) (s .args .tableau .now) (s .pre .parted) (c .before .basis-start .result) (c .before .before .before .leading-rows .result) (c .before .basis-start .ensures)
+inside : (d : tie.After-basis-place) → d .basis-place .result .at ≤ length (d .before .before .args .tableau .now)
+inside d =
+    let s = d .before .before in
+    place-inside (s .args .p) (s .args .tableau .now) (d .basis-place .result) (d .basis-place .ensures) (s .pre .0 .parted)
 
-small : (c : tie.After-settle-arg) → length (c .before .before .before .before .args .tableau .now) ≤ 4608
-small c =
-    let s = c .before .before .before .before in
-    let w : s .args .p .rows + s .args .p .columns ≤ maxRows + maxColumns = add-le-add (s .pre .few-rows) (s .pre .ready 0 .few) in
-    omega (arith, s .pre .parted .long, product-small (s .args .p .columns) (s .args .p .rows + s .args .p .columns) (s .pre .ready 0 .few) w)
+small : (d : tie.After-basis-place) → length (d .before .before .args .tableau .now) ≤ 4608
+small d =
+    let s = d .before .before in
+    tableau-small (s .args .p) (s .args .tableau .now) (s .pre .0 .parted) (s .pre .0 .ready 0 .few) (s .pre .0 .few-rows)
 
-viewing : (c : tie.After-settle-arg2)
-    → Viewing (c .before .before .before .before .before .args .p) (c .before .before .before .before .before .args .tableau .now) (c .before .before .before .before .leading-rows .result)
-    (c .before .before .before .basis-view .result) (c .before .before .basis-start .result)
-viewing c = record {
-  count = c .before .before .before .before .leading-rows .ensures;
-  view = c .before .before .before .basis-view .ensures;
-  start = c .before .before .basis-start .ensures;
-}
+readied : (d : tie.After-basis-place)
+    → Ready (d .basis-place .result .view) (d .before .before .args .values .now) (d .before .before .args .lower .now) (d .before .before .args .upper .now) (d .before .before .args .goals .now)
+    (take (length (d .before .before .args .tableau .now) - d .basis-place .result .at) (drop (d .basis-place .result .at) (d .before .before .args .tableau .now)))
+readied d =
+    let s = d .before .before in
+    place-ready (s .args .p) (s .args .tableau .now) (d .basis-place .result) (d .basis-place .ensures) (s .args .values .now) (s .args .lower .now) (s .args .upper .now) (s .args .goals .now) (s .pre .0)
 
-leading-rows-requires : tie.Need-leading-rows-requires
-leading-rows-requires c κs = (c .pre .ready 0 .few, c .pre .few-rows, c .pre .parted .long)
+basis-place-requires : tie.Need-basis-place-requires
+basis-place-requires c κs =
+    let q = c .before .pre .0 in
+    (q .ready 0 .few, q .few-rows, q .parted .long)
 
-basis-view-requires : tie.Need-basis-view-requires
-basis-view-requires c κs =
-    let s = c .before in
-    (s .pre .ready 0 .few, s .pre .few-rows, few-leading (s .args .p) (s .args .tableau .now) (c .leading-rows .result) (c .leading-rows .ensures))
+mul-strides : tie.Need-mul-strides
+mul-strides c = omega (arith, inside (c .before .before), small (c .before .before))
 
-basis-start-requires : tie.Need-basis-start-requires
-basis-start-requires c κs =
-    let s = c .before .before in
-    (s .pre .ready 0 .few, s .pre .few-rows, few-leading (s .args .p) (s .args .tableau .now) (c .before .leading-rows .result) (c .before .leading-rows .ensures))
+sub-strides : tie.Need-sub-strides
+sub-strides c = inside (c .before .before)
+
+part-strides-start : tie.Need-part-strides-start
+part-strides-start c = omega (arith, inside (c .before .before))
+
+part-strides-end : tie.Need-part-strides-end
+part-strides-end c = search needs
+
+strides-requires : tie.Need-strides-requires
+strides-requires c κs =
+    let d = c .before .before .before in
+    let s = d .before .before in
+    record { long = s .pre .1 .long ∙ sym (ap (λ (x : Place). x .view .columns) (d .basis-place .ensures)); basis = readied d .basis }
 
 mul-settle : tie.Need-mul-settle
-mul-settle c = omega (arith, inside c, small c)
+mul-settle c =
+    let d = c .before .before .before .before .before .before .before in
+    omega (arith, inside d, small d)
 
 sub-settle : tie.Need-sub-settle
-sub-settle c = inside c
+sub-settle c = inside (c .before .before .before .before .before .before .before)
 
 part-settle-start : tie.Need-part-settle-start
-part-settle-start c = omega (arith, inside c)
+part-settle-start c = omega (arith, inside (c .before .before .before .before .before .before .before))
 
 part-settle-end : tie.Need-part-settle-end
 part-settle-end c = search needs
 
 settle-requires : tie.Need-settle-requires
-settle-requires c κs =
-    let s = c .before .before .before .before .before in
-    viewed-ready (viewing c) (s .args .values .now) (s .args .lower .now) (s .args .upper .now) (s .args .goals .now) (s .pre)
+settle-requires c κs = readied (c .before .before .before .before .before .before .before .before)
 
 same-length : tie.Need-same-length
 same-length c = search needs
 
+same-length-2 : tie.Need-same-length-2
+same-length-2 c = search needs
+
 returns : tie.Need-returns
 returns c =
-    let s = c .before .before .before .before .before .before .before in
-    let w = viewing (c .before .before) in
+    let d = c .before .before .before .before .before .before .before .before .before .before in
+    let s = d .before .before in
     let p = s .args .p in
-    let e : Settle.settle (p .limit) (cols (c .before .before .before .before .before .basis-view .result) (s .args .lower .now) (s .args .upper .now) (s .args .goals .now)) (vectors (c .before .before .before .before .before .basis-view .result) (take (length (s .args .tableau .now) - c .before .before .before .before .basis-start .result) (drop (c .before .before .before .before .basis-start .result) (s .args .tableau .now)))) (s .args .values .now) ≡ Settle.settle (p .limit) (columnsOf p (s .args .lower .now) (s .args .upper .now) (s .args .goals .now)) (basisOf p (s .args .tableau .now)) (s .args .values .now) = λ i. Settle.settle (p .limit) (viewed-columns w (s .args .lower .now) (s .args .upper .now) (s .args .goals .now) i) (viewed-basis w (s .pre .parted) i) (s .args .values .now) in
-    (c .before .settle .ensures .0 ∙ ap (λ (z : Settle.Settled). z .answer) e, c .before .settle .ensures .1 ∙ ap (λ (z : Settle.Settled). z .values) e)
+    let t = s .args .tableau .now in
+    let v = s .args .values .now in
+    let e = place-over p t (d .basis-place .result) (d .basis-place .ensures) (s .pre .0 .parted) (λ C N. Settle.settle (p .limit) C N v) (s .args .lower .now) (s .args .upper .now) (s .args .goals .now) in
+    let g = place-over p t (d .basis-place .result) (d .basis-place .ensures) (s .pre .0 .parted) (λ C N. Strides.strides (C .count) N) (s .args .lower .now) (s .args .upper .now) (s .args .goals .now) in
+    (c .before .settle .ensures .0 ∙ ap (λ (z : Settle.Settled). z .answer) e, (c .before .settle .ensures .1 ∙ ap (λ (z : Settle.Settled). z .values) e, c .before .before .before .before .before .before .strides .ensures ∙ g))
 
 pub settle-over-spec : {M : Type 1} → statement M
 settle-over-spec =
     tie.close
     (tie.spec
-    leading-rows-requires
-    basis-view-requires
-    basis-start-requires
+    basis-place-requires
+    mul-strides
+    sub-strides
+    part-strides-start
+    part-strides-end
+    strides-requires
     mul-settle
     sub-settle
     part-settle-start
     part-settle-end
     settle-requires
     same-length
+    same-length-2
     returns)
