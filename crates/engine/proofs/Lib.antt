@@ -4,3 +4,4 @@ pub mod Leading
 pub mod Viewing
 pub mod Dots
 pub mod Forming
+pub mod Finishing

@@ -17,6 +17,7 @@ use Rattle.lattice.specs.Rows.{flat, chop}
 use Rattle.lattice.specs.Sums.{sums}
 use Rattle.problem.specs.Limits.{anyBeyond}
 use Rattle.problem.specs.Checks.{Posed, firstCause}
+use Rattle.problem.specs.declared.Problem.{Problem}
 use Rattle.problem.specs.declared.Lent.{Lent}
 use Rattle.problem.specs.declared.Refusal.{Refusal}
 use Rattle.problem.specs.declared.Refusal.the-variants.{Elimination, NoWholeNumbers, Seating, Standing}
@@ -41,6 +42,20 @@ pub record Done : Type 0 where
   pub tableau : List ℤ
   pub values : List ℤ
   pub strides : List ℕ
+
+-- a call's arguments, as these
+abbrev pub posed : Problem → List ℤ → List ℤ → List ℤ → List ℤ → List ℤ → Posed
+posed p coefficients rights lower upper goals = record {
+  problem = p;
+  coefficients = coefficients;
+  rights = rights;
+  lower = lower;
+  upper = upper;
+  goals = goals;
+}
+
+abbrev pub buffers : List ℤ → List ℤ → List ℕ → Buffers
+buffers tableau values strides = record { tableau = tableau; values = values; strides = strides }
 
 -- ---- the problem's parts
 abbrev pub n : Posed → ℕ
@@ -92,10 +107,12 @@ onFound P T B (some start N) = onSeated P T N B (seat (goalWishes (columns P)) (
 abbrev pub solved : Posed → Solved
 solved P = solve (n P) (matrix P) (P .rights)
 
+-- past the checks: 7 and 8 as met, then 9
+abbrev pub assignFit : Posed → Buffers → Done
+assignFit P B = cond (solved P .over) (overLimit B) (onFound P (solved P .form) B (solved P .found))
+
 unfoldable pub assign : Posed → Buffers → Done
-assign P B =
-    onCheck (firstCause P (lentOf B)) B
-    (cond (solved P .over) (overLimit B) (onFound P (solved P .form) B (solved P .found)))
+assign P B = onCheck (firstCause P (lentOf B)) B (assignFit P B)
 
 -- ---- Continue
 -- 10: "list beyond ±M or failing a row" does not hold
@@ -105,9 +122,12 @@ stands P v = not (anyBeyond v) && every (m P) (λ i. isZero (entry i (sums (matr
 abbrev pub formed : Posed → Run
 formed P = form (n P) (matrix P)
 
-unfoldable pub continue : Posed → Buffers → Done
-continue P B =
-    onCheck (firstCause P (lentOf B)) B
-    (cond (stands P (B .values))
+-- past the checks: 10, then 7
+abbrev pub continueFit : Posed → Buffers → Done
+continueFit P B =
+    cond (stands P (B .values))
     (cond (formed P .over) (overLimit B) (settleOn P (formed P .table) (basis (m P) (formed P .table)) (B .values)))
-    (refused Standing (B .tableau) B))
+    (refused Standing (B .tableau) B)
+
+unfoldable pub continue : Posed → Buffers → Done
+continue P B = onCheck (firstCause P (lentOf B)) B (continueFit P B)

@@ -2,6 +2,7 @@
 pub mod Assign
 pub mod Views
 pub mod Placed
+pub mod Finish
 pub mod Standing
 pub mod Demand
 pub mod Satisfied
