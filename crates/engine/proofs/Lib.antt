@@ -5,3 +5,4 @@ pub mod Viewing
 pub mod Dots
 pub mod Forming
 pub mod Finishing
+pub mod Assigning

@@ -172,7 +172,7 @@ assign-satisfies P B w e = rw (assign-is P B w) (go (solved P .over) (rw (assign
 
 -- ---- Continue
 -- a basis is that of the form, whatever is found
-found-basis : (k : ℕ) (A : List (List ℤ)) (b s : List ℤ) (N : List (List ℤ)) → solve k A b .found ≡ some s N → N ≡ basis (length A) (form k A .table)
+pub found-basis : (k : ℕ) (A : List (List ℤ)) (b s : List ℤ) (N : List (List ℤ)) → solve k A b .found ≡ some s N → N ≡ basis (length A) (form k A .table)
 unfolding solve rightSide
 found-basis k A b s N e = go (allZero (take (length A) (w .row))) e
   where

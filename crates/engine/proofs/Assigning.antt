@@ -1,0 +1,166 @@
+-- What a whole assignment and a Continue come to, by what the tableau answers.
+--   done t x        a finished assignment with t in the tableau
+--   solved-form, solved-kept   the form that the right side goes through, and that it is not past the limit where the whole is not
+--   assign-over, -none, -found   a whole assignment past the limit, without whole numbers, and from a starting list on
+--   finishable      what is found can be finished
+--   assign-failed, -passed, continue-failed, -passed   by what the checks find
+--   continue-off, -over, -on     a Continue of a list that does not stand, past the limit, and over the form
+-- Assumes nothing.
+use mathlib.Core.Path.{_≡_, refl, sym, _∙_, ap, ap₂, subst}
+use mathlib.Core.Bool.{Bool, true, false, cond, _||_, true≢false}
+use mathlib.Core.List.{List, [], _∷_, _++_}
+use Prim.Native.Nat.{ℕ, _+_, _*_, _≤_}
+use native.Mathlib.Omega.{arith}
+use lib.IntN.{ℤ, natAbs}
+use lib.ListN.{length, take, drop}
+use Rattle.whole.specs.Lists.{entry, zeros}
+use Rattle.lattice.specs.Rows.{neg, allZero, flat}
+use Rattle.lattice.specs.Span.{All}
+use Rattle.lattice.specs.Hermite.{Led}
+use Rattle.lattice.specs.FlatLaws.{length-chop}
+use Rattle.problem.specs.Limits.{M}
+use Rattle.problem.specs.Checks.{Posed, firstCause}
+use Rattle.problem.specs.CheckLaws.{Passes, passes, fits}
+use Rattle.problem.specs.declared.Lent.{Lent}
+use Rattle.problem.specs.declared.Check.the-variants.{Passed, Failed}
+use Rattle.problem.specs.declared.Refusal.{Refusal}
+use Rattle.problem.specs.declared.Refusal.the-variants.{NoWholeNumbers, Standing}
+use Rattle.tableau.specs.Elimination.{Left}
+use Rattle.tableau.specs.RightSide.{sweep, leading, remaining, basis, Found, none, some, Solved, rightSide, form, solve}
+use Rattle.tableau.specs.Theorems.{problem-basis, solve-tells}
+use Rattle.tableau.specs.Buffers.{answerOf, solutionOf, startOf, startAfter, tableauAfter}
+use Rattle.tableau.specs.declared.Solution.the-variants.{Over, None, Found as Met}
+use Rattle.tableau.proofs.Answers.{solution-over, solution-none, solution-found, start-found}
+use Rattle.settling.specs.Seating.{Seated, seated, far, goalWishes, seat}
+use Rattle.engine.specs.Assign.{Buffers, Done, n, m, matrix, columns, lentOf, refused, overLimit, settleOn, onSeated, onFound, solved, assignFit, assign, stands, formed, continueFit, continue}
+use Rattle.engine.specs.Demand.{Within, within-sized}
+use Rattle.engine.specs.Satisfied.{found-basis}
+use Rattle.engine.specs.Views.{columnsOf, basisOf}
+use Rattle.engine.specs.Placed.{Placed, LedBasis, Stridable}
+use Rattle.engine.specs.Finish.{Finished, onSeat, finished, Finishable}
+use Rattle.engine.proofs.Forming.{Laid, laid-basis, laid-placed, start-small}
+
+abbrev pub done : List ℤ → Finished → Done
+done t x = record { answer = x .answer; tableau = t; values = x .values; strides = x .strides }
+
+-- ---- what the tableau answers
+never : {A : Type 0} → _≡_ {A = ℕ} 0 1 → A
+never e = absurd (omega arith)
+
+none-is : (x : Solved) → None ≡ solutionOf x → x .found ≡ none
+none-is x e = go (x .over) (x .found) e
+  where
+    go : (o : Bool) (f : Found) → None ≡ cond o Over (answerOf f) → f ≡ none
+    go true f e = never (cc)
+    go false none e = refl
+    go false (some v N) e = never (cc)
+
+pub record Some (x : Solved) : Type 0 where
+  pub start : List ℤ
+  pub vectors : List (List ℤ)
+  pub is : x .found ≡ some start vectors
+
+pub some-is : (x : Solved) → Met ≡ solutionOf x → Some x
+some-is x e = go (x .found) refl (x .over) e
+  where
+    go : (f : Found) → x .found ≡ f → (o : Bool) → Met ≡ cond o Over (answerOf f) → Some x
+    go f h true e = never (cc)
+    go none h false e = never (cc)
+    go (some v N) h false e = record { start = v; vectors = N; is = h }
+
+-- ---- the form behind the right side
+by-form : (T : List (List ℤ)) (t : Bool) (x y : Solved) → x .form ≡ T → y .form ≡ T → cond t x y .form ≡ T
+by-form T true x y e f = e
+by-form T false x y e f = f
+
+either : (a b : Bool) → a || b ≡ false → a ≡ false
+either true b e = absurd (true≢false e)
+either false b e = refl
+
+by-kept : (o a b : Bool) (t : Bool) (x y : Solved) → x .over ≡ o || a → y .over ≡ o || b → cond t x y .over ≡ false → o ≡ false
+by-kept o a b true x y e f h = either o a (sym e ∙ h)
+by-kept o a b false x y e f h = either o b (sym f ∙ h)
+
+module _ (P : Posed) where
+  pub solved-form : solved P .form ≡ formed P .table
+  unfolding solve rightSide
+  solved-form = by-form (formed P .table) (allZero (take (length (matrix P)) _)) _ _ refl refl
+
+  pub solved-kept : solved P .over ≡ false → formed P .over ≡ false
+  unfolding solve rightSide
+  solved-kept e = by-kept (formed P .over) _ _ (allZero (take (length (matrix P)) _)) _ _ refl refl e
+
+  module _ (B : Buffers) where
+    pub assign-over : Over ≡ solutionOf (solved P) → assignFit P B ≡ overLimit B
+    assign-over e = rw (solution-over (solved P) e) refl
+
+    pub assign-none : None ≡ solutionOf (solved P) → assignFit P B ≡ refused NoWholeNumbers (flat (solved P .form)) B
+    assign-none e = rw (solution-none (solved P) e, none-is (solved P) e) refl
+
+    seated-done : (T N : List (List ℤ)) (z : Seated) → onSeated P T N B z ≡ done (flat T) (onSeat (P .problem) (columns P) N (B .values) (B .strides) z)
+    unfolding settleOn
+    seated-done T N far = refl
+    seated-done T N (seated v) = refl
+
+-- ---- from the starting list on
+module _ (P : Posed) (B : Buffers) (w : Within P B) where
+  abbrev q : Passes P (lentOf B)
+  q = passes P (lentOf B) (w .passed)
+
+  module _ {t : List ℤ} (a : Laid P (lentOf B) q t) (x : Some (solved P)) where
+    same-basis : x .vectors ≡ basisOf (P .problem) t
+    same-basis =
+        found-basis (n P) (matrix P) (P .rights) (x .start) (x .vectors) (x .is)
+        ∙ ap (λ (k : ℕ). basis k (formed P .table)) (length-chop (m P) (n P) (P .coefficients))
+        ∙ sym (laid-basis P (lentOf B) q a)
+
+    pub assign-found : (s : List ℤ) → s ≡ x .start → solved P .over ≡ false
+        → assignFit P B ≡ done t (finished (P .problem) (P .lower) (P .upper) (P .goals) t s (B .values) (B .strides))
+    assign-found s e o =
+        rw (o, x .is) (seated-done P B (solved P .form) (x .vectors) (seat (goalWishes (columns P)) (columns P) (x .vectors) (x .start)))
+        ∙ ap (λ (T : List (List ℤ)). done (flat T) (onSeat (P .problem) (columns P) (x .vectors) (B .values) (B .strides) (seat (goalWishes (columns P)) (columns P) (x .vectors) (x .start)))) (solved-form P)
+        ∙ ap (λ (u : List ℤ). done u (onSeat (P .problem) (columns P) (x .vectors) (B .values) (B .strides) (seat (goalWishes (columns P)) (columns P) (x .vectors) (x .start)))) (sym (a .is))
+        ∙ ap₂ (λ (N : List (List ℤ)) (v : List ℤ). done t (onSeat (P .problem) (columns P) N (B .values) (B .strides) (seat (goalWishes (columns P)) (columns P) N v))) same-basis (sym e)
+
+    start-long : length (x .start) ≡ n P
+    start-long = (rw (x .is) at (solve-tells (n P) (matrix P) (P .rights) (within-sized P B w))) .long
+
+    pub finishable : (s : List ℤ) → s ≡ x .start → solved P .over ≡ false
+        → Finishable (P .problem) t s (P .lower) (P .upper) (P .goals) (B .values) (B .strides)
+    finishable s e o = record {
+      placed = laid-placed P (lentOf B) q a s (ap length e ∙ start-long) (λ j. rw e (start-small P (lentOf B) q (x .start) (x .vectors) o (x .is) j));
+      led = record {
+        led = rw (laid-basis P (lentOf B) q a) (subst (λ (k : ℕ). All (Led (n P)) (basis k (formed P .table))) (length-chop (m P) (n P) (P .coefficients)) (problem-basis (n P) (matrix P)));
+      };
+      values = fits P (lentOf B) q .values-long;
+      strides = record { long = fits P (lentOf B) q .strides-long };
+    }
+
+-- ---- what the checks find
+module _ (P : Posed) (B : Buffers) where
+  pub assign-failed : {why : Refusal} → firstCause P (lentOf B) ≡ Failed why → assign P B ≡ refused why (B .tableau) B
+  unfolding assign
+  assign-failed e = rw e refl
+
+  pub assign-passed : firstCause P (lentOf B) ≡ Passed → assign P B ≡ assignFit P B
+  unfolding assign
+  assign-passed e = rw e refl
+
+  pub continue-failed : {why : Refusal} → firstCause P (lentOf B) ≡ Failed why → continue P B ≡ refused why (B .tableau) B
+  unfolding continue
+  continue-failed e = rw e refl
+
+  pub continue-passed : firstCause P (lentOf B) ≡ Passed → continue P B ≡ continueFit P B
+  unfolding continue
+  continue-passed e = rw e refl
+
+  -- ---- Continue past the checks
+  pub continue-off : stands P (B .values) ≡ false → continueFit P B ≡ refused Standing (B .tableau) B
+  continue-off e = rw e refl
+
+  pub continue-over : stands P (B .values) ≡ true → formed P .over ≡ true → continueFit P B ≡ overLimit B
+  continue-over e o = rw (e, o) refl
+
+  pub continue-on : stands P (B .values) ≡ true → formed P .over ≡ false
+      → continueFit P B ≡ settleOn P (formed P .table) (basis (m P) (formed P .table)) (B .values)
+  continue-on e o = rw (e, o) refl
