@@ -4,7 +4,7 @@
 --   assign-over, -none, -found   a whole assignment past the limit, without whole numbers, and from a starting list on
 --   finishable      what is found can be finished
 --   assign-failed, -passed, continue-failed, -passed   by what the checks find
---   continue-off, -over, -on     a Continue of a list that does not stand, past the limit, and over the form
+--   continue-off, -over, -settled   a Continue of a list that does not stand, past the limit, and over the form
 -- Assumes nothing.
 use mathlib.Core.Path.{_≡_, refl, sym, _∙_, ap, ap₂, subst}
 use mathlib.Core.Bool.{Bool, true, false, cond, _||_, true≢false}
@@ -32,6 +32,8 @@ use Rattle.tableau.specs.Buffers.{answerOf, solutionOf, startOf, startAfter, ta
 use Rattle.tableau.specs.declared.Solution.the-variants.{Over, None, Found as Met}
 use Rattle.tableau.proofs.Answers.{solution-over, solution-none, solution-found, start-found}
 use Rattle.settling.specs.Seating.{Seated, seated, far, goalWishes, seat}
+use Rattle.settling.specs.Settle.{settle}
+use Rattle.settling.specs.Strides.{strides}
 use Rattle.engine.specs.Assign.{Buffers, Done, n, m, matrix, columns, lentOf, refused, overLimit, settleOn, onSeated, onFound, solved, assignFit, assign, stands, formed, continueFit, continue}
 use Rattle.engine.specs.Demand.{Within, within-sized}
 use Rattle.engine.specs.Satisfied.{found-basis}
@@ -161,6 +163,22 @@ module _ (P : Posed) (B : Buffers) where
   pub continue-over : stands P (B .values) ≡ true → formed P .over ≡ true → continueFit P B ≡ overLimit B
   continue-over e o = rw (e, o) refl
 
-  pub continue-on : stands P (B .values) ≡ true → formed P .over ≡ false
+  continue-on : stands P (B .values) ≡ true → formed P .over ≡ false
       → continueFit P B ≡ settleOn P (formed P .table) (basis (m P) (formed P .table)) (B .values)
   continue-on e o = rw (e, o) refl
+
+  -- settled over the basis of a list
+  abbrev pub settledIn : List ℤ → List (List ℤ) → Done
+  settledIn t N = record {
+    answer = settle (P .problem .limit) (columns P) N (B .values) .answer;
+    tableau = t;
+    values = settle (P .problem .limit) (columns P) N (B .values) .values;
+    strides = strides (n P) N;
+  }
+
+  pub continue-settled : (L : Lent) (q : Passes P L) {t : List ℤ} (a : Laid P L q t) → stands P (B .values) ≡ true → continueFit P B ≡ settledIn t (basisOf (P .problem) t)
+  unfolding settleOn
+  continue-settled L q {t} a e =
+      continue-on e (a .kept)
+      ∙ ap (λ (u : List ℤ). settledIn u (basis (m P) (formed P .table))) (sym (a .is))
+      ∙ ap (settledIn t) (sym (laid-basis P L q a))

@@ -6,3 +6,4 @@ pub mod Dots
 pub mod Forming
 pub mod Finishing
 pub mod Assigning
+pub mod Keeping

@@ -145,3 +145,69 @@ pub fn assign(
         ),
     }
 }
+
+// Continue for a problem that the checks have passed: 10, then 7, then settling.
+fn continue_fit(
+    p: Problem,
+    coefficients: &[i64],
+    rights: &[i64],
+    lower: &[i64],
+    upper: &[i64],
+    goals: &[i64],
+    tableau: &mut [i64],
+    values: &mut [i64],
+    strides: &mut [u64],
+) -> Answer
+    requires { ⌜ firstCause (posed p (now coefficients) (now rights) (now lower) (now upper) (now goals)) (lentOf (buffers (now tableau) (now values) (now strides))) ≡ Passed ⌝ }
+    ensures { λ r. ⌜ r ≡ continueFit (posed p (now (coefficients .entry)) (now (rights .entry)) (now (lower .entry)) (now (upper .entry)) (now (goals .entry))) (buffers (now (tableau .entry)) (now (values .entry)) (now (strides .entry))) .answer ⌝ }
+    ensures { λ _. ⌜ now (tableau .exit) ≡ continueFit (posed p (now (coefficients .entry)) (now (rights .entry)) (now (lower .entry)) (now (upper .entry)) (now (goals .entry))) (buffers (now (tableau .entry)) (now (values .entry)) (now (strides .entry))) .tableau ⌝ }
+    ensures { λ _. ⌜ now (values .exit) ≡ continueFit (posed p (now (coefficients .entry)) (now (rights .entry)) (now (lower .entry)) (now (upper .entry)) (now (goals .entry))) (buffers (now (tableau .entry)) (now (values .entry)) (now (strides .entry))) .values ⌝ }
+    ensures { λ _. ⌜ now (strides .exit) ≡ continueFit (posed p (now (coefficients .entry)) (now (rights .entry)) (now (lower .entry)) (now (upper .entry)) (now (goals .entry))) (buffers (now (tableau .entry)) (now (values .entry)) (now (strides .entry))) .strides ⌝ }
+{
+    if !stands(p, coefficients, rights, values) {
+        return Answer::Refused(Refusal::Standing);
+    }
+    if tableau::form(tableau, p, coefficients) {
+        return Answer::Refused(Refusal::Elimination);
+    }
+    settle_over(p, tableau, lower, upper, goals, values, strides)
+}
+
+// Document 01's Continue: settles the lent list, which has to satisfy the rows. It takes neither the right side nor seating.
+pub fn continue_from(
+    p: Problem,
+    coefficients: &[i64],
+    rights: &[i64],
+    lower: &[i64],
+    upper: &[i64],
+    goals: &[i64],
+    tableau: &mut [i64],
+    values: &mut [i64],
+    strides: &mut [u64],
+) -> Answer
+    ensures { λ r. ⌜ r ≡ Assign.continue (posed p (now (coefficients .entry)) (now (rights .entry)) (now (lower .entry)) (now (upper .entry)) (now (goals .entry))) (buffers (now (tableau .entry)) (now (values .entry)) (now (strides .entry))) .answer ⌝ }
+    ensures { λ _. ⌜ now (tableau .exit) ≡ Assign.continue (posed p (now (coefficients .entry)) (now (rights .entry)) (now (lower .entry)) (now (upper .entry)) (now (goals .entry))) (buffers (now (tableau .entry)) (now (values .entry)) (now (strides .entry))) .tableau ⌝ }
+    ensures { λ _. ⌜ now (values .exit) ≡ Assign.continue (posed p (now (coefficients .entry)) (now (rights .entry)) (now (lower .entry)) (now (upper .entry)) (now (goals .entry))) (buffers (now (tableau .entry)) (now (values .entry)) (now (strides .entry))) .values ⌝ }
+    ensures { λ _. ⌜ now (strides .exit) ≡ Assign.continue (posed p (now (coefficients .entry)) (now (rights .entry)) (now (lower .entry)) (now (upper .entry)) (now (goals .entry))) (buffers (now (tableau .entry)) (now (values .entry)) (now (strides .entry))) .strides ⌝ }
+{
+    let lent = Lent {
+        tableau: tableau.len(),
+        values: values.len(),
+        strides: strides.len(),
+    };
+    let check = first_cause(p, coefficients, rights, lower, upper, goals, lent);
+    match check {
+        Check::Failed(why) => Answer::Refused(why),
+        Check::Passed => continue_fit(
+            p,
+            coefficients,
+            rights,
+            lower,
+            upper,
+            goals,
+            tableau,
+            values,
+            strides,
+        ),
+    }
+}
