@@ -14,4 +14,3 @@ pub mod Choices
 pub mod Tails
 pub mod Columns
 pub mod Buffers
-pub mod Halves
