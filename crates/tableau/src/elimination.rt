@@ -13,7 +13,7 @@ use crate::gathering::Choice;
 use crate::gathering::choose;
 use crate::gathering::gather;
 use crate::rows::Way;
-use crate::rows::each;
+use crate::tables::each;
 
 // Column c with k rows done and the row j below them chosen: gathers, then takes the pivot from the rows above.
 fn pass(t: &mut [i64], rows: usize, pivot: &mut [i64], c: usize, k: usize, j: usize) -> bool

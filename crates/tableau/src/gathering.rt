@@ -12,8 +12,8 @@ ghost use Rattle.tableau.specs.Tails.{Tail, Picked, lowerFirst, Lifted, 
 ghost use Rattle.tableau.specs.Within.{Within};
 use crate::MAX_WIDTH;
 use crate::rows::Way;
-use crate::rows::each;
 use crate::rows::negate;
+use crate::tables::each;
 use lattice::copy;
 use whole::less;
 use whole::magnitude;

@@ -10,6 +10,7 @@ mod elimination;
 mod filling;
 mod gathering;
 mod rows;
+mod tables;
 
 use elimination::eliminate;
 use filling::fill;
