@@ -1,12 +1,9 @@
--- Laws of the form and the solution of a problem, as they lie in the lent buffers.
+-- Laws of the form of a problem, as it lies in the lent buffer.
 --   span-within    numbers within a limit no larger than M
 --   form-stops     what elimination of the filled table answers and leaves is the form
 --   Formed         what stands in the tableau's buffer then: the form's rows, each with a lead above 0, within ±M
 --   formed         so it is, where no number beyond ±M was met
---   solved-is      the right side of that form is the solution
---   solved-over, solved-form   a form past the limit; the form of a solution
---   table-.., form-.., answer-over, start-kept   what the answer and the buffers are, by the mark
---   findable       what the right side asks of the form
+--   form-over, form-kept   what the buffer holds, by the mark
 -- Assumes nothing.
 use mathlib.Core.Path.{_≡_, refl, sym, _∙_, ap, ap₂, subst}
 use mathlib.Core.Bool.{Bool, true, false, cond, _&&_, _||_, false≢true}
@@ -30,15 +27,13 @@ use Rattle.problem.specs.Limits.{M, maxCoefficient, maxRight, anyBeyond}
 use Rattle.problem.specs.Checks.{allSpan}
 use Rattle.problem.specs.declared.Problem.{Problem}
 use Rattle.tableau.specs.Table.{tableauFrom, tableau}
-use Rattle.tableau.specs.Elimination.{Left, Run, eliminate}
-use Rattle.tableau.specs.RightSide.{none, some, Solved, sweep, leading, remaining, basis, rightSide, form, solve}
+use Rattle.tableau.specs.Elimination.{Run, eliminate}
+use Rattle.tableau.specs.RightSide.{form}
 use Rattle.tableau.specs.TableLaws.{tableau-length, tableau-independent}
 use Rattle.tableau.specs.FormLaws.{Eliminated, eliminated}
 use Rattle.tableau.specs.Within.{Within}
-use Rattle.tableau.specs.Steps.{Stops, StopsRun}
-use Rattle.tableau.specs.Buffers.{Formable, Solvable, matrixOf, formOf, formAfter, solvedOf, answerOf, solutionOf, tableauAfter, startOf, startAfter}
-use Rattle.tableau.specs.Halves.{Leads, Findable, foundOf}
-use Rattle.tableau.specs.declared.Solution.the-variants.{Over}
+use Rattle.tableau.specs.Steps.{StopsRun, Leads}
+use Rattle.tableau.specs.Buffers.{Formable, matrixOf, formOf, formAfter}
 use Rattle.tableau.proofs.Staying.{flat-all, all-flat, eliminate-all, eliminate-count}
 use Rattle.tableau.proofs.Tableaus.{tableau-within}
 
@@ -116,7 +111,7 @@ module _ {p : Problem} {t a : List ℤ} (h : Formable p t a) where
   abbrev A : List (List ℤ)
   A = matrixOf p a
 
-  count : length A ≡ p .rows
+  pub count : length A ≡ p .rows
   count = length-chop (p .rows) (p .columns) a
 
   matrix-within : All Within A
@@ -165,67 +160,9 @@ module _ {p : Problem} {t a : List ℤ} (h : Formable p t a) where
             (eliminate-all w (tableau n A) (all-flat (tableau n A) table-within) (ap (λ (x : Run). x .over) form-is ∙ o))));
       }
 
-  -- ---- the solution
-  pub solved-is : {v : List ℤ} (b : List ℤ) → formOf p a .over ≡ false → Formed p (formOf p a) v → solvedOf p a b ≡ foundOf p v b
-  unfolding solve
-  solved-is {v} b o f =
-      ap (λ (i : ℕ). rightSide i (formOf p a .table) (formOf p a .over) (neg b ++ zeros n)) count
-      ∙ ap₂ (λ (T : List (List ℤ)) (x : Bool). rightSide (p .rows) T x (neg b ++ zeros n)) (sym (f .rows)) o
-
-either : (P : Solved → Type 0) (z : Bool) (x y : Solved) → P x → P y → P (cond z x y)
-either P true x y a b = a
-either P false x y a b = b
-
-right-form : (m : ℕ) (T : List (List ℤ)) (o : Bool) (v : List ℤ) → rightSide m T o v .form ≡ T
-unfolding rightSide
-right-form m T o v = either (λ (x : Solved). x .form ≡ T) (allZero (take m (sweep (leading m T) v .row))) _ _ refl refl
-
-right-over : (m : ℕ) (T : List (List ℤ)) (v : List ℤ) → rightSide m T true v .over ≡ true
-unfolding rightSide
-right-over m T v = either (λ (x : Solved). x .over ≡ true) (allZero (take m (sweep (leading m T) v .row))) _ _ refl refl
-
-pub solved-form : (p : Problem) (a b : List ℤ) → solvedOf p a b .form ≡ formOf p a .table
-unfolding solve
-solved-form p a b = right-form (length (matrixOf p a)) (formOf p a .table) (formOf p a .over) (neg b ++ zeros (p .columns))
-
-pub solved-over : (p : Problem) (a b : List ℤ) → formOf p a .over ≡ true → solvedOf p a b .over ≡ true
-unfolding solve
-solved-over p a b e =
-    ap (λ (o : Bool). rightSide (length (matrixOf p a)) (formOf p a .table) o (neg b ++ zeros (p .columns)) .over) e
-    ∙ right-over (length (matrixOf p a)) (formOf p a .table) (neg b ++ zeros (p .columns))
-
--- ---- the buffers
-pub table-over : (p : Problem) (a b t : List ℤ) → solvedOf p a b .over ≡ true → tableauAfter (solvedOf p a b) t ≡ zeros (length t)
-table-over p a b t e = ap (λ (o : Bool). cond o (zeros (length t)) (flat (solvedOf p a b .form))) e
-
-pub table-kept : (p : Problem) (a b t : List ℤ) → solvedOf p a b .over ≡ false → tableauAfter (solvedOf p a b) t ≡ flat (formOf p a .table)
-table-kept p a b t e = ap (λ (o : Bool). cond o (zeros (length t)) (flat (solvedOf p a b .form))) e ∙ ap flat (solved-form p a b)
-
+-- ---- the buffer
 pub form-over : (p : Problem) (a t : List ℤ) → formOf p a .over ≡ true → formAfter (formOf p a) t ≡ zeros (length t)
 form-over p a t e = ap (λ (o : Bool). cond o (zeros (length t)) (flat (formOf p a .table))) e
 
 pub form-kept : (p : Problem) (a t : List ℤ) → formOf p a .over ≡ false → formAfter (formOf p a) t ≡ flat (formOf p a .table)
 form-kept p a t e = ap (λ (o : Bool). cond o (zeros (length t)) (flat (formOf p a .table))) e
-
-pub answer-over : (x : Solved) → x .over ≡ true → solutionOf x ≡ Over
-answer-over x e = ap (λ (o : Bool). cond o Over (answerOf (x .found))) e
-
-pub start-kept : (x : Solved) (s : List ℤ) → x .over ≡ true → startAfter x s ≡ s
-start-kept x s e = ap (λ (o : Bool). cond o s (startOf (x .found) s)) e
-
-zeros-take : (k n : ℕ) → k ≤ n → take k (zeros n) ≡ zeros k
-zeros-take zero n h = refl
-zeros-take (suc k) zero h = absurd (omega arith)
-zeros-take (suc k) (suc n) h = ap (λ (l : List ℤ). pos 0 ∷ l) (zeros-take k n (omega arith))
-
-pub findable : {p : Problem} {t a b s u : List ℤ} (n : ℕ) → Solvable p t a b s → p .rows + p .columns ≤ n → length u ≡ length t → Formed p (formOf p a) u
-    → Findable p (take (p .rows + p .columns) (zeros n)) u b s
-findable {p} {t} {a} {b} {s} {u} n h l e f = record {
-  zero = zeros-take (p .rows + p .columns) n l;
-  table = e ∙ h .form .table;
-  leads = f .leads;
-  within = f .small;
-  right = h .right;
-  small = span-within maxRight b (lit≤ tt) (h .small);
-  start = h .start;
-}

@@ -8,6 +8,4 @@ pub mod Turns
 pub mod Staying
 pub mod Passing
 pub mod Tableaus
-pub mod Sweeping
-pub mod Answers
 pub mod Forms

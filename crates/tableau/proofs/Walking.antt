@@ -4,7 +4,7 @@
 --   starts, goes-on        it holds at first, and after a row that f does not mark
 --   stops, ends            at a row that f marks the answer is true; past the last row it is false, and the table is the definition's
 --   each-within, each-wide what `each` does not mark lies within ±M; the rows keep their length
---   stepping               the step by a pivot is such a step
+--   reduced-step, stepping the step by a pivot is such a step
 -- Assumes nothing.
 use mathlib.Core.Path.{_≡_, refl, sym, _∙_, ap, ap₂, subst}
 use mathlib.Core.Bool.{Bool, true, false, cond, _||_, or-true, false≢true}
@@ -157,7 +157,7 @@ lowered-step c r = record {
     go-2 true s q h e = h
     go-2 false s q h e = e
 
-reduced-step : (c : ℕ) (r : List ℤ) → Step (reduced c r)
+pub reduced-step : (c : ℕ) (r : List ℤ) → Step (reduced c r)
 unfolding reduced
 reduced-step c r = record { wide = λ s. length-plus _ r s; holds = λ s h e. e }
 

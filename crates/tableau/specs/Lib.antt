@@ -15,4 +15,3 @@ pub mod Choices
 pub mod Tails
 pub mod Columns
 pub mod Buffers
-pub mod Halves

@@ -5,17 +5,19 @@
 --   stepOf way c r     a row's step by the row r at column c: gathering's in the lower rows, or that in the rows above
 --   eachOf way c r k   that of each of k rows in one list
 --   Pivot w c r        r has w numbers within ±M, 0 before column c and above 0 there
+--   Leads r            r's first number other than 0 is above 0: it has one
+--   leftAfter x s      what a row's buffer s holds after the step x: all 0 where a number lies beyond ±M
 -- Assumes nothing.
 use mathlib.Core.Path.{_≡_}
-use mathlib.Core.Bool.{Bool, false}
+use mathlib.Core.Bool.{Bool, false, cond}
 use mathlib.Core.List.{List}
 use Prim.Native.Nat.{ℕ}
 use lib.IntN.{ℤ}
 use lib.ListN.{length}
-use Rattle.whole.specs.Lists.{entry}
+use Rattle.whole.specs.Lists.{entry, zeros}
 use Rattle.whole.specs.Quotient.{floorQuotient, gatheringQuotient}
 use Rattle.whole.specs.Integers.{Positive}
-use Rattle.lattice.specs.Rows.{ZeroTo, flat, chop}
+use Rattle.lattice.specs.Rows.{ZeroTo, lead, flat, chop}
 use Rattle.tableau.specs.Elimination.{Left, lowered, reduced, Run, each}
 use Rattle.tableau.specs.Within.{Within}
 use Rattle.tableau.specs.declared.rows.Way.{Way}
@@ -45,3 +47,9 @@ pub record Pivot (w c : ℕ) (r : List ℤ) : Type 0 where
   pub small : Within r
   pub front : ZeroTo c r
   pub lead : Positive (entry c r)
+
+abbrev pub Leads : List ℤ → Type 0
+Leads r = Positive (entry (lead r) r)
+
+abbrev pub leftAfter : Left → List ℤ → List ℤ
+leftAfter x s = cond (x .over) (zeros (length s)) (x .row)

@@ -8,12 +8,12 @@ ghost use Rattle.tableau.specs.Columns.{Standing, passedOf, tableOf};
 ghost use Rattle.tableau.specs.Steps.{StopsRun};
 ghost use Rattle.tableau.specs.Tails.{Picked};
 ghost use Rattle.tableau.specs.Within.{Within};
+use crate::MAX_WIDTH;
 use crate::gathering::Choice;
-use crate::gathering::MAX_WIDTH;
 use crate::gathering::choose;
 use crate::gathering::gather;
 use crate::rows::Way;
-use crate::rows::each;
+use crate::tables::each;
 
 // Column c with k rows done and the row j below them chosen: gathers, then takes the pivot from the rows above.
 fn pass(t: &mut [i64], rows: usize, pivot: &mut [i64], c: usize, k: usize, j: usize) -> bool

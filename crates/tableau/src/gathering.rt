@@ -10,11 +10,11 @@ ghost use Rattle.problem.specs.Limits.{maxRows, maxColumns};
 ghost use Rattle.tableau.specs.Choices.{choiceOf, Fewer};
 ghost use Rattle.tableau.specs.Tails.{Tail, Picked, lowerFirst, Lifted, Gathers, roundOf, gatheringOf};
 ghost use Rattle.tableau.specs.Within.{Within};
+use crate::MAX_WIDTH;
 use crate::rows::Way;
-use crate::rows::each;
 use crate::rows::negate;
+use crate::tables::each;
 use lattice::copy;
-use problem::Problem;
 use whole::less;
 use whole::magnitude;
 
@@ -61,9 +61,6 @@ pub(crate) fn choose(t: &[i64], rows: usize, w: usize, c: usize) -> Choice
     }
     z
 }
-
-// The most numbers that a row of a table can have.
-pub(crate) const MAX_WIDTH: usize = Problem::MAX_ROWS + Problem::MAX_COLUMNS;
 
 // Copies the first row of w numbers into the place of row j.
 fn lower_first(t: &mut [i64], w: usize, j: usize)

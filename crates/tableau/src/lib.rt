@@ -1,25 +1,40 @@
-// The tableau: a problem's table, its elimination and the right side. The definitions are in specs/.
+// The tableau: a problem's table and its elimination. The definitions are in specs/.
 ghost use mathlib.Core.Path.{_≡_};
-ghost use Rattle.tableau.specs.Buffers.{Formable, Solvable, formOf, formAfter, solvedOf, solutionOf, tableauAfter, startAfter};
+ghost use lib.ListN.{length};
+ghost use Rattle.tableau.specs.Elimination.{reduced};
+ghost use Rattle.tableau.specs.Steps.{Pivot, leftAfter};
+ghost use Rattle.tableau.specs.Within.{Within};
+ghost use Rattle.tableau.specs.Buffers.{Formable, formOf, formAfter};
 
 mod elimination;
 mod filling;
 mod gathering;
-mod right;
 mod rows;
+mod tables;
 
 use elimination::eliminate;
 use filling::fill;
-use gathering::MAX_WIDTH;
 use lattice::wipe;
 use problem::Problem;
-use right::find;
+use rows::Way;
+use rows::step;
 
-// What the right side finds: a number beyond M on the way, no whole numbers, or a starting list.
-pub enum Solution {
-    Over,
-    None,
-    Found,
+// The most numbers that a row of a table can have.
+pub const MAX_WIDTH: usize = Problem::MAX_ROWS + Problem::MAX_COLUMNS;
+
+// Takes the pivot, whose first number other than 0 is at c, from a row, so that its number there is reduced. Where a number beyond M is
+// left, the answer is true and the row is all 0.
+pub fn reduce(row: &mut [i64], pivot: &[i64], c: usize) -> bool
+    requires { ⌜ Pivot (length (now row)) c (now pivot) ⌝ }
+    requires { ⌜ Within (now row) ⌝ }
+    ensures { λ r. ⌜ r ≡ reduced c (now (pivot .entry)) (now (row .entry)) .over ⌝ }
+    ensures { λ _. ⌜ now (row .exit) ≡ leftAfter (reduced c (now (pivot .entry)) (now (row .entry))) (now (row .entry)) ⌝ }
+{
+    if step(row, pivot, c, Way::Above) {
+        wipe(row);
+        return true;
+    }
+    false
 }
 
 // The form of a problem's tableau in t. Where it is past the elimination limit, the answer is true and t is all 0.
@@ -36,33 +51,4 @@ pub fn form(t: &mut [i64], p: Problem, coefficients: &[i64]) -> bool
         return true;
     }
     false
-}
-
-// The form of a problem's tableau in t, and the starting list of its right side in start. Past the elimination limit t is all 0; start
-// changes only where a list is found.
-pub fn solve(
-    t: &mut [i64],
-    p: Problem,
-    coefficients: &[i64],
-    rights: &[i64],
-    start: &mut [i64],
-) -> Solution
-    requires { ⌜ Solvable p (now t) (now coefficients) (now rights) (now start) ⌝ }
-    ensures { λ r. ⌜ r ≡ solutionOf (solvedOf p (now (coefficients .entry)) (now (rights .entry))) ⌝ }
-    ensures { λ _. ⌜ now (t .exit) ≡ tableauAfter (solvedOf p (now (coefficients .entry)) (now (rights .entry))) (now (t .entry)) ⌝ }
-    ensures { λ _. ⌜ now (start .exit) ≡ startAfter (solvedOf p (now (coefficients .entry)) (now (rights .entry))) (now (start .entry)) ⌝ }
-{
-    if form(t, p, coefficients) {
-        return Solution::Over;
-    }
-    let mut v = [0i64; MAX_WIDTH];
-    let w = p.rows + p.columns;
-    match find(&mut v[..w], t, p, rights, start) {
-        Solution::Over => {
-            wipe(t);
-            Solution::Over
-        }
-        Solution::None => Solution::None,
-        Solution::Found => Solution::Found,
-    }
 }

@@ -1,12 +1,11 @@
 ghost use mathlib.Core.Path.{_≡_};
 ghost use lib.IntN.{ℤ, pos, natAbs, negℤ};
 ghost use lib.Signed.{_<ℤ_};
-ghost use Prim.Native.Nat.{_≤_, _*_};
+ghost use Prim.Native.Nat.{_≤_};
 ghost use lib.ListN.{length};
 ghost use Rattle.lattice.specs.Rows.{plus, neg};
 ghost use Rattle.problem.specs.Limits.{M, anyBeyond};
-ghost use Rattle.tableau.specs.Elimination as Elimination;
-ghost use Rattle.tableau.specs.Steps.{Stops, StopsRun, quotientOf, stepOf, eachOf, Pivot};
+ghost use Rattle.tableau.specs.Steps.{Stops, quotientOf, stepOf, Pivot};
 ghost use Rattle.tableau.specs.Within.{Within};
 use problem::Problem;
 use whole::less_product;
@@ -76,25 +75,4 @@ pub(crate) fn step(row: &mut [i64], pivot: &[i64], c: usize, way: Way) -> bool
         return false;
     }
     subtract(&mut row[c..], &pivot[c..], q)
-}
-
-// Each row of the table by the pivot, top first. Stops with true at the first number beyond M.
-pub(crate) fn each(t: &mut [i64], rows: usize, pivot: &[i64], c: usize, way: Way) -> bool
-    requires { ⌜ length (now t) ≡ rows * length (now pivot) ⌝ }
-    requires { ⌜ Pivot (length (now pivot)) c (now pivot) ⌝ }
-    requires { ⌜ Within (now t) ⌝ }
-    ensures { λ r. ⌜ StopsRun (eachOf way c (now (pivot .entry)) rows (now (t .entry))) r (now (t .exit)) ⌝ }
-{
-    let w = pivot.len();
-    let mut at = 0;
-    let mut left = rows;
-    while 0 < left {
-        let next = at + w;
-        if step(&mut t[at..next], pivot, c, way) {
-            return true;
-        }
-        at = next;
-        left -= 1;
-    }
-    false
 }

@@ -1,5 +1,5 @@
 use borrow.Rule.Slice.PartMut.{same-len-mid}
--- `tableau::rows::each` meets its contract: the rows are taken from the top, and each becomes its step. Assumes nothing.
+-- `tableau::tables::each` meets its contract: the rows are taken from the top, and each becomes its step. Assumes nothing.
 use mathlib.Core.Path.{_≡_, refl, sym, _∙_, ap}
 use mathlib.Core.Bool.{Bool, true, false, true≢false}
 use mathlib.Core.List.{List}
@@ -12,8 +12,8 @@ use Rattle.lattice.proofs.Parts.{part-is, part-back}
 use Rattle.tableau.specs.Elimination.{Left}
 use Rattle.tableau.specs.Steps.{Stops, stepOf, Pivot}
 use Rattle.tableau.proofs.Walking.{Walk, starts, goes-on, stops, ends, ahead, row, row-wide, row-small, stepping}
-use Rattle.tableau.proofs.rows.each.Statement.{statement}
-use Rattle.tableau.proofs.rows.each.Tie as tie
+use Rattle.tableau.proofs.tables.each.Statement.{statement}
+use Rattle.tableau.proofs.tables.each.Tie as tie
 
 abbrev Inv-loop : tie.InvT-loop
 Inv-loop t₀ rows pivot c way w at₀ left₀ t at left = Walk (stepOf way c pivot) w rows t₀ t at left

@@ -1,24 +1,33 @@
+// The right side of a formed tableau, and the solution of a problem. The definitions are in specs/ and in crate tableau.
 ghost use mathlib.Core.Path.{_≡_};
 ghost use mathlib.Core.List.{_++_};
 ghost use Prim.Native.Nat.{_*_, _≤_};
 ghost use lib.ListN.{length, drop};
 ghost use Rattle.lattice.specs.Rows.{neg, chop};
 ghost use Rattle.lattice.specs.Span.{All};
-ghost use Rattle.tableau.specs.Halves.{Leads, wantedOf, ownStep, Swept, Righted, Findable, foundOf};
-ghost use Rattle.tableau.specs.Buffers.{solutionOf, startAfter};
-ghost use Rattle.tableau.specs.Steps.{Stops};
+ghost use Rattle.rightside.specs.Halves.{wantedOf, ownStep, Swept, Righted, Findable, foundOf};
+ghost use Rattle.rightside.specs.Solutions.{Solvable, solvedOf, solutionOf, tableauAfter, startAfter};
+ghost use Rattle.tableau.specs.Steps.{Stops, Leads};
 ghost use Rattle.tableau.specs.Within.{Within};
-use crate::Solution;
-use crate::rows::Way;
-use crate::rows::negate;
-use crate::rows::step;
 use lattice::all_zero;
 use lattice::copy;
 use lattice::lead;
+use lattice::wipe;
 use problem::Problem;
+use tableau::MAX_WIDTH;
+use tableau::form;
+use tableau::reduce;
+use whole::negated;
+
+// What the right side finds: a number beyond M on the way, no whole numbers, or a starting list.
+pub enum Solution {
+    Over,
+    None,
+    Found,
+}
 
 // Which rows are taken from the right side: those whose lead lies in the first m columns, or the others.
-pub(crate) enum Half {
+enum Half {
     Leading,
     Remaining,
 }
@@ -41,7 +50,7 @@ fn sweep_row(v: &mut [i64], row: &[i64], m: usize, half: Half) -> bool
 {
     let c = lead(row);
     if wanted(c, m, half) {
-        return step(v, row, c, Way::Above);
+        return reduce(v, row, c);
     }
     false
 }
@@ -67,7 +76,7 @@ fn sweep(v: &mut [i64], t: &[i64], rows: usize, m: usize, half: Half) -> bool
 }
 
 // The right side v by the rows of a form. The numbers of v from m on are then the starting list, where one is found.
-pub(crate) fn right_side(v: &mut [i64], t: &[i64], rows: usize, m: usize) -> Solution
+fn right_side(v: &mut [i64], t: &[i64], rows: usize, m: usize) -> Solution
     requires { ⌜ (length (now t) ≡ rows * length (now v)) × All Leads (chop rows (length (now v)) (now t)) ⌝ }
     requires { ⌜ Within (now t) × Within (now v) ⌝ }
     requires { ⌜ m ≤ length (now v) ⌝ }
@@ -90,19 +99,16 @@ fn turn_over(v: &mut [i64], rights: &[i64])
     requires { ⌜ (length (now rights) ≤ length (now v)) × Within (now rights) ⌝ }
     ensures { λ _. ⌜ now (v .exit) ≡ neg (now (rights .entry)) ++ drop (length (now (rights .entry))) (now (v .entry)) ⌝ }
 {
-    let m = rights.len();
-    copy(&mut v[..m], rights);
-    negate(&mut v[..m]);
+    let mut i = 0;
+    while i < rights.len() {
+        let x = negated(rights[i]);
+        v[i] = x;
+        i += 1;
+    }
 }
 
 // Solves a formed table for the right sides b, in the list v of zeros; a starting list goes to start.
-pub(crate) fn find(
-    v: &mut [i64],
-    t: &[i64],
-    p: Problem,
-    rights: &[i64],
-    start: &mut [i64],
-) -> Solution
+fn find(v: &mut [i64], t: &[i64], p: Problem, rights: &[i64], start: &mut [i64]) -> Solution
     requires { ⌜ Findable p (now v) (now t) (now rights) (now start) ⌝ }
     ensures { λ r. ⌜ (r ≡ solutionOf (foundOf p (now (t .entry)) (now (rights .entry)))) × (now (start .exit) ≡ startAfter (foundOf p (now (t .entry)) (now (rights .entry))) (now (start .entry))) ⌝ }
 {
@@ -115,5 +121,34 @@ pub(crate) fn find(
             copy(start, &v[m..]);
             Solution::Found
         }
+    }
+}
+
+// The form of a problem's tableau in t, and the starting list of its right side in start. Past the elimination limit t is all 0; start
+// changes only where a list is found.
+pub fn solve(
+    t: &mut [i64],
+    p: Problem,
+    coefficients: &[i64],
+    rights: &[i64],
+    start: &mut [i64],
+) -> Solution
+    requires { ⌜ Solvable p (now t) (now coefficients) (now rights) (now start) ⌝ }
+    ensures { λ r. ⌜ r ≡ solutionOf (solvedOf p (now (coefficients .entry)) (now (rights .entry))) ⌝ }
+    ensures { λ _. ⌜ now (t .exit) ≡ tableauAfter (solvedOf p (now (coefficients .entry)) (now (rights .entry))) (now (t .entry)) ⌝ }
+    ensures { λ _. ⌜ now (start .exit) ≡ startAfter (solvedOf p (now (coefficients .entry)) (now (rights .entry))) (now (start .entry)) ⌝ }
+{
+    if form(t, p, coefficients) {
+        return Solution::Over;
+    }
+    let mut v = [0i64; MAX_WIDTH];
+    let w = p.rows + p.columns;
+    match find(&mut v[..w], t, p, rights, start) {
+        Solution::Over => {
+            wipe(t);
+            Solution::Over
+        }
+        Solution::None => Solution::None,
+        Solution::Found => Solution::Found,
     }
 }

@@ -20,15 +20,14 @@ use Rattle.lattice.specs.Rows.{ZeroTo, lead, chop}
 use Rattle.lattice.specs.RowLaws.{length-plus}
 use Rattle.lattice.specs.Span.{All}
 use Rattle.lattice.specs.FlatLaws.{chop-next}
 use Rattle.tableau.specs.Elimination.{Left, kept, reduced}
 use Rattle.tableau.specs.RightSide.{further, sweep, leading, remaining}
 use Rattle.tableau.specs.Within.{Within, within-take, within-drop}
-use Rattle.tableau.specs.Steps.{Stops, Pivot}
-use Rattle.tableau.specs.Halves.{Leads, wantedOf, halfOf, ownStep, Swept}
-use Rattle.tableau.specs.declared.right.Half.{Half}
-use Rattle.tableau.specs.declared.right.Half.the-variants.{Leading, Remaining}
-use Rattle.tableau.specs.declared.rows.Way.the-variants.{Above}
-use Rattle.tableau.proofs.Walking.{Step, stepping}
+use Rattle.tableau.specs.Steps.{Pivot, Leads}
+use Rattle.rightside.specs.Halves.{wantedOf, halfOf, ownStep, Swept}
+use Rattle.rightside.specs.declared.Half.{Half}
+use Rattle.rightside.specs.declared.Half.the-variants.{Leading, Remaining}
+use Rattle.tableau.proofs.Walking.{reduced-step}
 
 -- ---- a row
 lead-front : (r : List ℤ) → ZeroTo (lead r) r
@@ -45,14 +44,14 @@ pub own-wide : (half : Half) (m : ℕ) (r v : List ℤ) → length (ownStep half
 own-wide half m r v = go (wantedOf half m (lead r))
   where
     go : (b : Bool) → length (cond b (reduced (lead r) r v) (kept v) .row) ≡ length v
-    go true = stepping Above (lead r) r .wide v
+    go true = reduced-step (lead r) r .wide v
     go false = refl
 
 pub own-within : (half : Half) (m : ℕ) (r v : List ℤ) → Within v → ownStep half m r v .over ≡ false → Within (ownStep half m r v .row)
 own-within half m r v h = go (wantedOf half m (lead r))
   where
     go : (b : Bool) → cond b (reduced (lead r) r v) (kept v) .over ≡ false → Within (cond b (reduced (lead r) r v) (kept v) .row)
-    go true e = stepping Above (lead r) r .holds v h e
+    go true e = reduced-step (lead r) r .holds v h e
     go false e = h
 
 -- ---- the rows of a half
@@ -148,7 +147,7 @@ further-parts false b e = (refl, e)
 pub sweep-wide : (T : List (List ℤ)) (v : List ℤ) → length (sweep T v .row) ≡ length v
 unfolding sweep
 sweep-wide [] v = refl
-sweep-wide (r ∷ T) v = sweep-wide T (reduced (lead r) r v .row) ∙ stepping Above (lead r) r .wide v
+sweep-wide (r ∷ T) v = sweep-wide T (reduced (lead r) r v .row) ∙ reduced-step (lead r) r .wide v
 
 pub sweep-within : (T : List (List ℤ)) (v : List ℤ) → Within v → sweep T v .over ≡ false → Within (sweep T v .row)
 unfolding sweep
@@ -156,4 +155,4 @@ sweep-within [] v h e = h
 sweep-within (r ∷ T) v h e =
     let x : Left = reduced (lead r) r v in
     let d : (x .over ≡ false) × (sweep T (x .row) .over ≡ false) = further-parts (x .over) (sweep T (x .row) .over) e in
-    sweep-within T (x .row) (stepping Above (lead r) r .holds v h (d .0)) (d .1)
+    sweep-within T (x .row) (reduced-step (lead r) r .holds v h (d .0)) (d .1)

@@ -1,4 +1,4 @@
--- `tableau::right::sweep` meets its contract: the rows are taken from the top, and what is left to take from v is what was to take at first.
+-- `rightside::sweep` meets its contract: the rows are taken from the top, and what is left to take from v is what was to take at first.
 -- Assumes nothing.
 use mathlib.Core.Path.{_≡_, refl, sym, _∙_, ap, subst}
 use mathlib.Core.Bool.{Bool, true, false, true≢false}
@@ -9,13 +9,13 @@ use borrow.Author.Needs.{needs}
 use lib.IntN.{ℤ}
 use lib.ListN.{length, take, drop}
 use Rattle.lattice.proofs.Parts.{part-is}
 use Rattle.tableau.specs.Elimination.{Left}
 use Rattle.tableau.specs.Within.{Within, within-take, within-drop}
 use Rattle.tableau.specs.Steps.{Stops}
-use Rattle.tableau.specs.Halves.{Leads, ownStep}
-use Rattle.tableau.proofs.Sweeping.{Sweeps, starts, goes-on, stops, ends, ahead, row, row-wide, row-leads}
-use Rattle.tableau.proofs.right.sweep.Statement.{statement}
-use Rattle.tableau.proofs.right.sweep.Tie as tie
+use Rattle.rightside.specs.Halves.{ownStep}
+use Rattle.rightside.proofs.Sweeping.{Sweeps, starts, goes-on, stops, ends, ahead, row, row-wide, row-leads}
+use Rattle.rightside.proofs.sweep.Statement.{statement}
+use Rattle.rightside.proofs.sweep.Tie as tie
 
 abbrev Inv-loop : tie.InvT-loop
 Inv-loop v₀ t rows m half w at₀ left₀ v at left = Sweeps half m w rows t v₀ v at left

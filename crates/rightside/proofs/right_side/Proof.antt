@@ -1,4 +1,4 @@
--- `tableau::right::right_side` meets its contract: its tests are the definition's, in their order. Assumes nothing.
+-- `rightside::right_side` meets its contract: its tests are the definition's, in their order. Assumes nothing.
 use mathlib.Core.Path.{_≡_, refl, sym, _∙_, ap, subst}
 use mathlib.Core.Bool.{Bool, true, false, not}
 use mathlib.Core.List.{List}
@@ -10,15 +10,15 @@ use lib.ListN.{length, take}
 use lib.Seq.{length-take-le}
 use Rattle.lattice.specs.Rows.{allZero, chop}
 use Rattle.lattice.specs.Span.{All}
 use Rattle.tableau.specs.Within.{Within}
 use Rattle.tableau.specs.RightSide.{sweep, leading, remaining}
-use Rattle.tableau.specs.Halves.{Swept}
-use Rattle.tableau.specs.declared.right.Half.the-variants.{Remaining}
-use Rattle.tableau.proofs.Sweeping.{sweep-within}
-use Rattle.tableau.proofs.Answers.{righted-over, righted-none, righted-late, righted-found}
+use Rattle.rightside.specs.Halves.{Swept}
+use Rattle.rightside.specs.declared.Half.the-variants.{Remaining}
+use Rattle.rightside.proofs.Sweeping.{sweep-within}
+use Rattle.rightside.proofs.Answers.{righted-over, righted-none, righted-late, righted-found}
 use borrow.Author.Needs.{needs}
-use Rattle.tableau.proofs.right.right_side.Statement.{statement}
-use Rattle.tableau.proofs.right.right_side.Tie as tie
+use Rattle.rightside.proofs.right_side.Statement.{statement}
+use Rattle.rightside.proofs.right_side.Tie as tie
 
 abbrev T-of : tie.Start → List (List ℤ)
 T-of s = chop (s .args .rows) (length (s .args .v .now)) (s .args .t .now)

@@ -15,14 +15,14 @@ use Rattle.whole.specs.Lists.{zeros}
 use Rattle.lattice.specs.Rows.{neg, allZero, chop}
 use Rattle.lattice.specs.RowLaws.{length-neg}
 use Rattle.problem.specs.declared.Problem.{Problem}
 use Rattle.tableau.specs.Elimination.{Left}
 use Rattle.tableau.specs.RightSide as RightSide
 use Rattle.tableau.specs.RightSide.{none, some, Solved, sweep, leading, remaining, basis, afterLeading, rightSide}
-use Rattle.tableau.specs.Buffers.{answerOf, solutionOf, startOf, startAfter}
+use Rattle.rightside.specs.Solutions.{answerOf, solutionOf, startOf, startAfter}
 use Rattle.tableau.specs.Within.{Within, within-append, within-neg, within-zeros}
-use Rattle.tableau.specs.Halves.{Righted, Findable, foundOf}
-use Rattle.tableau.specs.declared.Solution.{Solution}
-use Rattle.tableau.specs.declared.Solution.the-variants.{Over, None, Found}
+use Rattle.rightside.specs.Halves.{Righted, Findable, foundOf}
+use Rattle.rightside.specs.declared.Solution.{Solution}
+use Rattle.rightside.specs.declared.Solution.the-variants.{Over, None, Found}
 
 over-found : Over ≡ Found → ⊥
 over-found e = let z : _≡_ {A = ℕ} 0 1 = cc in omega arith

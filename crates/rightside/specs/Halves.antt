@@ -1,5 +1,4 @@
 -- The right side in two halves, as the code takes them.
---   Leads r             r's first number other than 0 is above 0: it has one
 --   wantedOf half m c   a row with its lead at c is of that half
 --   halfOf half m T     the rows of that half
 --   ownStep             a row's step in the right side, or none where the row is of the other half
@@ -14,23 +13,19 @@ use Prim.Native.Nat.{ℕ, _+_, _*_}
 use lib.Dec.{ltb}
 use lib.IntN.{ℤ}
 use lib.ListN.{length, drop}
-use Rattle.whole.specs.Lists.{entry, zeros}
-use Rattle.whole.specs.Integers.{Positive}
+use Rattle.whole.specs.Lists.{zeros}
 use Rattle.lattice.specs.Rows.{neg, lead, chop}
 use Rattle.lattice.specs.Span.{All}
 use Rattle.problem.specs.declared.Problem.{Problem}
 use Rattle.tableau.specs.Elimination.{Left, kept, reduced}
 use Rattle.tableau.specs.RightSide.{some, Solved, leading, remaining, basis, sweep, rightSide}
 use Rattle.tableau.specs.Within.{Within}
-use Rattle.tableau.specs.Steps.{Stops}
-use Rattle.tableau.specs.Buffers.{solutionOf}
-use Rattle.tableau.specs.declared.Solution.{Solution}
-use Rattle.tableau.specs.declared.Solution.the-variants as code
-use Rattle.tableau.specs.declared.right.Half.{Half}
-use Rattle.tableau.specs.declared.right.Half.the-variants.{Leading, Remaining}
-
-abbrev pub Leads : List ℤ → Type 0
-Leads r = Positive (entry (lead r) r)
+use Rattle.tableau.specs.Steps.{Stops, Leads}
+use Rattle.rightside.specs.Solutions.{solutionOf}
+use Rattle.rightside.specs.declared.Solution.{Solution}
+use Rattle.rightside.specs.declared.Solution.the-variants as code
+use Rattle.rightside.specs.declared.Half.{Half}
+use Rattle.rightside.specs.declared.Half.the-variants.{Leading, Remaining}
 
 abbrev pub wantedOf : Half → ℕ → ℕ → Bool
 wantedOf Leading m c = ltb c m

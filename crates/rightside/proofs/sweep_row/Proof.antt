@@ -1,19 +1,19 @@
--- `tableau::right::sweep_row` meets its contract: a row of the half has its step at its lead, another leaves v as it is. Assumes nothing.
+-- `rightside::sweep_row` meets its contract: a row of the half has its step at its lead, another leaves v as it is. Assumes nothing.
 use mathlib.Core.Path.{_≡_, refl, sym, _∙_, ap, subst}
 use mathlib.Core.Bool.{Bool, true, false, cond}
 use mathlib.Core.List.{List}
 use Prim.Native.Nat.{ℕ}
 use lib.IntN.{ℤ}
 use lib.ListN.{length}
+use Rattle.whole.specs.Lists.{zeros}
 use Rattle.lattice.specs.Rows as Rows
 use Rattle.tableau.specs.Elimination.{Left, kept, reduced}
-use Rattle.tableau.specs.Steps.{Stops, stepOf, Pivot}
-use Rattle.tableau.specs.Halves.{wantedOf}
-use Rattle.tableau.specs.declared.rows.Way.the-variants.{Above}
-use Rattle.tableau.proofs.Sweeping.{lead-pivot}
+use Rattle.tableau.specs.Steps.{Stops, Pivot, leftAfter}
+use Rattle.rightside.specs.Halves.{wantedOf}
+use Rattle.rightside.proofs.Sweeping.{lead-pivot}
 use borrow.Author.Needs.{needs}
-use Rattle.tableau.proofs.right.sweep_row.Statement.{statement}
-use Rattle.tableau.proofs.right.sweep_row.Tie as tie
+use Rattle.rightside.proofs.sweep_row.Statement.{statement}
+use Rattle.rightside.proofs.sweep_row.Tie as tie
 
 module _ (r v : List ℤ) where
   abbrev own : Bool → Left
@@ -25,6 +25,9 @@ module _ (r v : List ℤ) where
   left : {w : Bool} → w ≡ false → Stops (own w .over) (own w .row) false v
   left e = rw e (record { answer = refl; left = λ _. refl })
 
+stops : (x : Left) (s u : List ℤ) (b : Bool) → b ≡ x .over → u ≡ leftAfter x s → Stops (x .over) (x .row) b u
+stops x s u b e f = record { answer = e; left = λ o. f ∙ ap (λ (t : Bool). cond t (zeros (length s)) (x .row)) (sym e ∙ o) }
+
 -- whether the row is of the half
 told : (c : tie.After-wanted) → let a = c .before .before .args in c .wanted .result ≡ wantedOf (a .half) (a .m) (Rows.lead (a .row .now))
 told c = let a = c .before .before .args in c .wanted .ensures ∙ ap (wantedOf (a .half) (a .m)) (c .before .lead .ensures)
@@ -35,8 +38,8 @@ lead-requires c κs = search needs
 wanted-requires : tie.Need-wanted-requires
 wanted-requires c κs = search needs
 
-step-requires : tie.Need-step-requires
-step-requires c κs =
+reduce-requires : tie.Need-reduce-requires
+reduce-requires c κs =
     let a = c .before .before .before .before .args in (
       subst (λ (i : ℕ). Pivot (length (a .v .now)) i (a .row .now)) (sym (c .before .before .before .lead .ensures))
           (subst (λ (n : ℕ). Pivot n (Rows.lead (a .row .now)) (a .row .now)) (c .before .before .before .before .pre .0 .0) (lead-pivot (c .before .before .before .before .pre .0 .1) (c .before .before .before .before .pre .1 .0))),
@@ -49,10 +52,11 @@ same-length c = search needs
 returns : tie.Need-returns
 returns c =
     let a = c .before .before .before .before .before .before .args in
-    let u : List ℤ = c .before .step .last .0 in
-    let b : Bool = c .before .step .result in
+    let u : List ℤ = c .before .reduce .last .0 in
+    let b : Bool = c .before .reduce .result in
     taken (a .row .now) (a .v .now) u b (sym (told (c .before .before .before .before)) ∙ c .before .before .before .if1 .taken)
-    (subst (λ (i : ℕ). Stops (stepOf Above i (a .row .now) (a .v .now) .over) (stepOf Above i (a .row .now) (a .v .now) .row) b u) (c .before .before .before .before .before .lead .ensures) (c .before .step .ensures))
+    (subst (λ (i : ℕ). Stops (reduced i (a .row .now) (a .v .now) .over) (reduced i (a .row .now) (a .v .now) .row) b u) (c .before .before .before .before .before .lead .ensures)
+    (stops (reduced (c .before .before .before .before .before .lead .result) (a .row .now) (a .v .now)) (a .v .now) u b (c .before .reduce .ensures .0) (c .before .reduce .ensures .1)))
 
 returns-2 : tie.Need-returns-2
 returns-2 c =
@@ -61,4 +65,5 @@ returns-2 c =
 
 pub sweep-row-spec : {M : Type 1} → statement M
 sweep-row-spec =
-    tie.close (tie.spec lead-requires wanted-requires step-requires same-length returns returns-2)
+    tie.close
+    (tie.spec lead-requires wanted-requires reduce-requires same-length returns returns-2)

@@ -1,4 +1,4 @@
--- `tableau::solve` meets its contract: the form, and the right side of it, unless a number beyond M was met. Assumes nothing.
+-- `rightside::solve` meets its contract: the form, and the right side of it, unless a number beyond M was met. Assumes nothing.
 use mathlib.Core.Path.{_≡_, refl, sym, _∙_, ap, ap₂, subst}
 use mathlib.Core.Bool.{Bool, true, false}
 use mathlib.Core.List.{List}
@@ -9,14 +9,16 @@ use lib.ListN.{length}
 use lib.Seq.{length-take-le}
 use Rattle.whole.specs.Lists.{zeros}
 use Rattle.lattice.specs.Rows.{flat}
 use Rattle.tableau.specs.RightSide.{Solved}
-use Rattle.tableau.specs.Buffers.{formOf, solvedOf, solutionOf, startAfter}
-use Rattle.tableau.specs.Halves.{foundOf}
-use Rattle.tableau.proofs.Forms.{Formed, formed, findable, solved-is, solved-over, table-over, table-kept, form-over, form-kept, answer-over, start-kept}
-use Rattle.tableau.proofs.Answers.{solution-over, solution-none, solution-found}
+use Rattle.rightside.specs.Solutions.{solvedOf, solutionOf, startAfter}
+use Rattle.tableau.specs.Buffers.{formOf}
+use Rattle.rightside.specs.Halves.{foundOf}
+use Rattle.tableau.proofs.Forms.{Formed, formed, form-over, form-kept}
+use Rattle.rightside.proofs.Solving.{findable, solved-is, solved-over, table-over, table-kept, answer-over, start-kept}
+use Rattle.rightside.proofs.Answers.{solution-over, solution-none, solution-found}
 use borrow.Author.Needs.{needs}
-use Rattle.tableau.proofs.solve.Statement.{statement}
-use Rattle.tableau.proofs.solve.Tie as tie
+use Rattle.rightside.proofs.solve.Statement.{statement}
+use Rattle.rightside.proofs.solve.Tie as tie
 
 -- the solution that the definition gives
 abbrev X : tie.Start → Solved

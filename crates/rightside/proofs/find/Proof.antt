@@ -1,4 +1,4 @@
--- `tableau::right::find` meets its contract: the right side of the list (−b, then zeros), whose last numbers are copied where a list is found.
+-- `rightside::find` meets its contract: the right side of the list (−b, then zeros), whose last numbers are copied where a list is found.
 -- Assumes nothing.
 use mathlib.Core.Path.{_≡_, refl, sym, _∙_, ap, ap₂, subst}
 use mathlib.Core.Bool.{false}
@@ -10,13 +10,13 @@ use lib.ListN.{length, drop, length-drop}
 use Rattle.lattice.specs.Rows.{chop}
 use Rattle.lattice.specs.Span.{All}
 use Rattle.lattice.proofs.Parts.{tail-is}
 use Rattle.tableau.specs.RightSide.{Solved, rightSide}
-use Rattle.tableau.specs.Buffers.{solutionOf, startAfter}
-use Rattle.tableau.specs.Halves.{Leads, Righted, foundOf}
-use Rattle.tableau.proofs.Answers.{work-wide, list-wide, list-small, found-is, start-over, start-none, start-found}
+use Rattle.rightside.specs.Solutions.{solutionOf, startAfter}
+use Rattle.rightside.specs.Halves.{Righted, foundOf}
+use Rattle.rightside.proofs.Answers.{work-wide, list-wide, list-small, found-is, start-over, start-none, start-found}
 use borrow.Author.Needs.{needs}
-use Rattle.tableau.proofs.right.find.Statement.{statement}
-use Rattle.tableau.proofs.right.find.Tie as tie
+use Rattle.rightside.proofs.find.Statement.{statement}
+use Rattle.rightside.proofs.find.Tie as tie
 
 -- the right side that is taken is the definition's
 same :

@@ -1,12 +1,12 @@
--- `tableau::right::wanted` meets its contract: the lead lies in the first m columns, or it does not. Assumes nothing.
+-- `rightside::wanted` meets its contract: the lead lies in the first m columns, or it does not. Assumes nothing.
 use mathlib.Core.Path.{_≡_, refl, sym}
 use mathlib.Core.Bool.{Bool, true, false, not}
 use Prim.Native.Nat.{ℕ}
 use borrow.Author.Tests.{leb-true, leb-false, le-ltb, lt-ltb}
 use lib.Dec.{leb, ltb}
 use borrow.Author.Needs.{needs}
-use Rattle.tableau.proofs.right.wanted.Statement.{statement}
-use Rattle.tableau.proofs.right.wanted.Tie as tie
+use Rattle.rightside.proofs.wanted.Statement.{statement}
+use Rattle.rightside.proofs.wanted.Tie as tie
 
 past : (a b : ℕ) (t : Bool) → leb a b ≡ t → t ≡ not (ltb b a)
 past a b true e = rw (le-ltb b a (leb-true a b e))

@@ -1,0 +1,83 @@
+-- Laws of the solution of a problem, as it lies in the lent buffers.
+--   solved-is      the right side of the form is the solution
+--   solved-over, solved-form   a form past the limit; the form of a solution
+--   table-.., answer-over, start-kept   what the answer and the buffers are, by the mark
+--   findable       what the right side asks of the form
+-- Assumes nothing.
+use mathlib.Core.Path.{_≡_, refl, sym, _∙_, ap, ap₂}
+use mathlib.Core.Bool.{Bool, true, false, cond}
+use mathlib.Core.List.{List, _∷_, _++_}
+use Prim.Native.Nat.{ℕ, zero, suc, _+_, _≤_}
+use native.Mathlib.Omega.{arith}
+use lib.Dec.{lit≤}
+use lib.IntN.{ℤ, pos}
+use lib.ListN.{length, take}
+use Rattle.whole.specs.Lists.{zeros}
+use Rattle.lattice.specs.Rows.{neg, allZero, flat}
+use Rattle.problem.specs.Limits.{maxRight}
+use Rattle.problem.specs.declared.Problem.{Problem}
+use Rattle.tableau.specs.RightSide.{Solved, sweep, leading, rightSide, solve}
+use Rattle.tableau.specs.Buffers.{Formable, matrixOf, formOf}
+use Rattle.tableau.proofs.Forms.{Formed, count, span-within}
+use Rattle.rightside.specs.Solutions.{Solvable, solvedOf, answerOf, solutionOf, tableauAfter, startOf, startAfter}
+use Rattle.rightside.specs.Halves.{Findable, foundOf}
+use Rattle.rightside.specs.declared.Solution.the-variants.{Over}
+
+module _ {p : Problem} {t a : List ℤ} (h : Formable p t a) where
+  pub solved-is : {v : List ℤ} (b : List ℤ) → formOf p a .over ≡ false → Formed p (formOf p a) v → solvedOf p a b ≡ foundOf p v b
+  unfolding solve
+  solved-is {v} b o f =
+      ap (λ (i : ℕ). rightSide i (formOf p a .table) (formOf p a .over) (neg b ++ zeros (p .columns))) (count h)
+      ∙ ap₂ (λ (T : List (List ℤ)) (x : Bool). rightSide (p .rows) T x (neg b ++ zeros (p .columns))) (sym (f .rows)) o
+
+either : (P : Solved → Type 0) (z : Bool) (x y : Solved) → P x → P y → P (cond z x y)
+either P true x y a b = a
+either P false x y a b = b
+
+right-form : (m : ℕ) (T : List (List ℤ)) (o : Bool) (v : List ℤ) → rightSide m T o v .form ≡ T
+unfolding rightSide
+right-form m T o v = either (λ (x : Solved). x .form ≡ T) (allZero (take m (sweep (leading m T) v .row))) _ _ refl refl
+
+right-over : (m : ℕ) (T : List (List ℤ)) (v : List ℤ) → rightSide m T true v .over ≡ true
+unfolding rightSide
+right-over m T v = either (λ (x : Solved). x .over ≡ true) (allZero (take m (sweep (leading m T) v .row))) _ _ refl refl
+
+pub solved-form : (p : Problem) (a b : List ℤ) → solvedOf p a b .form ≡ formOf p a .table
+unfolding solve
+solved-form p a b = right-form (length (matrixOf p a)) (formOf p a .table) (formOf p a .over) (neg b ++ zeros (p .columns))
+
+pub solved-over : (p : Problem) (a b : List ℤ) → formOf p a .over ≡ true → solvedOf p a b .over ≡ true
+unfolding solve
+solved-over p a b e =
+    ap (λ (o : Bool). rightSide (length (matrixOf p a)) (formOf p a .table) o (neg b ++ zeros (p .columns)) .over) e
+    ∙ right-over (length (matrixOf p a)) (formOf p a .table) (neg b ++ zeros (p .columns))
+
+-- ---- the buffers
+pub table-over : (p : Problem) (a b t : List ℤ) → solvedOf p a b .over ≡ true → tableauAfter (solvedOf p a b) t ≡ zeros (length t)
+table-over p a b t e = ap (λ (o : Bool). cond o (zeros (length t)) (flat (solvedOf p a b .form))) e
+
+pub table-kept : (p : Problem) (a b t : List ℤ) → solvedOf p a b .over ≡ false → tableauAfter (solvedOf p a b) t ≡ flat (formOf p a .table)
+table-kept p a b t e = ap (λ (o : Bool). cond o (zeros (length t)) (flat (solvedOf p a b .form))) e ∙ ap flat (solved-form p a b)
+
+pub answer-over : (x : Solved) → x .over ≡ true → solutionOf x ≡ Over
+answer-over x e = ap (λ (o : Bool). cond o Over (answerOf (x .found))) e
+
+pub start-kept : (x : Solved) (s : List ℤ) → x .over ≡ true → startAfter x s ≡ s
+start-kept x s e = ap (λ (o : Bool). cond o s (startOf (x .found) s)) e
+
+zeros-take : (k n : ℕ) → k ≤ n → take k (zeros n) ≡ zeros k
+zeros-take zero n h = refl
+zeros-take (suc k) zero h = absurd (omega arith)
+zeros-take (suc k) (suc n) h = ap (λ (l : List ℤ). pos 0 ∷ l) (zeros-take k n (omega arith))
+
+pub findable : {p : Problem} {t a b s u : List ℤ} (n : ℕ) → Solvable p t a b s → p .rows + p .columns ≤ n → length u ≡ length t → Formed p (formOf p a) u
+    → Findable p (take (p .rows + p .columns) (zeros n)) u b s
+findable {p} {t} {a} {b} {s} {u} n h l e f = record {
+  zero = zeros-take (p .rows + p .columns) n l;
+  table = e ∙ h .form .table;
+  leads = f .leads;
+  within = f .small;
+  right = h .right;
+  small = span-within maxRight b (lit≤ tt) (h .small);
+  start = h .start;
+}

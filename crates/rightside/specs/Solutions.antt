@@ -1,0 +1,48 @@
+-- What the solution of a problem is, and what it leaves in the lent buffers. Document 01, "Turned back": for 7 "tableau all 0, lists as
+-- before", for 8 "tableau the form, lists as before".
+--   Solvable p t a b s   what the causes 1 to 3 leave of a problem p, the tableau's buffer t, the coefficients a, the right sides b and the buffer
+--                        s of the starting list
+--   solvedOf p a b       the form and the right side
+--   solutionOf x         what is answered
+--   tableauAfter x t, startAfter x s   what the two buffers hold then
+-- Assumes nothing.
+use mathlib.Core.Path.{_≡_}
+use mathlib.Core.Bool.{true, cond}
+use mathlib.Core.List.{List}
+use lib.IntN.{ℤ}
+use lib.ListN.{length}
+use Rattle.whole.specs.Lists.{zeros}
+use Rattle.lattice.specs.Rows.{flat}
+use Rattle.problem.specs.Limits.{maxRight}
+use Rattle.problem.specs.Checks.{allSpan}
+use Rattle.problem.specs.declared.Problem.{Problem}
+use Rattle.tableau.specs.RightSide.{Found, none, some, Solved, solve}
+use Rattle.tableau.specs.Buffers.{Formable, matrixOf}
+use Rattle.rightside.specs.declared.Solution.{Solution}
+use Rattle.rightside.specs.declared.Solution.the-variants as code
+
+pub record Solvable (p : Problem) (t a b s : List ℤ) : Type 0 where
+  pub form : Formable p t a
+  pub right : length b ≡ p .rows
+  pub start : length s ≡ p .columns
+  pub small : allSpan maxRight b ≡ true
+
+abbrev pub solvedOf : Problem → List ℤ → List ℤ → Solved
+solvedOf p a b = solve (p .columns) (matrixOf p a) b
+
+abbrev pub answerOf : Found → Solution
+answerOf none = code.None
+answerOf (some v N) = code.Found
+
+abbrev pub solutionOf : Solved → Solution
+solutionOf x = cond (x .over) code.Over (answerOf (x .found))
+
+abbrev pub tableauAfter : Solved → List ℤ → List ℤ
+tableauAfter x t = cond (x .over) (zeros (length t)) (flat (x .form))
+
+abbrev pub startOf : Found → List ℤ → List ℤ
+startOf none s = s
+startOf (some v N) s = v
+
+abbrev pub startAfter : Solved → List ℤ → List ℤ
+startAfter x s = cond (x .over) s (startOf (x .found) s)
