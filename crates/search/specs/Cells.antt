@@ -6,16 +6,17 @@
 --   pack v lo hi gs l  the list l with the four lists spread over it
 --   pick-at            the number of column j
 --   cell-at            a list of four numbers a column is read alike in both ways
---   pick-pack          what was packed is picked again
+--   pack-columns, -values   what was packed is picked again
+--   spread-on          for the loop that spreads a list
 -- Assumes nothing.
 use mathlib.Core.Path.{_≡_, refl, sym, _∙_, ap}
 use mathlib.Core.Logic.{⊎-elim}
 use mathlib.Core.List.{List, [], _∷_}
-use Prim.Native.Nat.{ℕ, zero, suc, _+_, _*_, _<_, _≤_}
+use Prim.Native.Nat.{ℕ, zero, suc, _+_, _*_, _<_}
 use native.Mathlib.Omega.{arith}
 use native.Mathlib.Numerals.{add-one}
 use lib.IntN.{ℤ, pos}
-use lib.ListN.{length, getD, set, drop, length-set, List·getD-eq-default}
+use lib.ListN.{length, set, drop, length-set, List·getD-eq-default}
 use lib.Seq.{getD-set-same, getD-set-other, ext-getD, drop-cons}
 use Rattle.whole.specs.Lists.{entry}
 use Rattle.settling.specs.declared.Cell.{Cell}

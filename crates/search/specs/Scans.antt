@@ -17,10 +17,10 @@ use borrow.Author.Tests.{lt-ltb, le-ltb, ltb-true}
 use lib.Dec.{ltb, leb·suc-suc}
 use lib.ListN.{length, take, getD, length-take}
 use lib.Seq.{getD-take}
+use lib.IntN.{pos, negsuc}
 use Rattle.settling.specs.declared.Move.{Move}
 use Rattle.settling.specs.declared.Step.{Step}
 use Rattle.settling.specs.declared.Step.the-variants.{Rest, Take}
-use lib.IntN.{pos, negsuc}
 use Rattle.settling.specs.Moves.{single, signPairs, singles, pairsWith, pairs}
 use Rattle.settling.specs.Steps.{orElse, firstMove, firstColumn}
 use Rattle.search.specs.declared.Best.{Best}

@@ -8,7 +8,7 @@
 -- Assumes nothing.
 use mathlib.Core.Path.{_≡_, refl, sym, _∙_, ap, subst}
 use mathlib.Core.Logic.{_⊎_, inl, inr, ⊎-elim}
-use mathlib.Core.Bool.{Bool, true, false, not, cond, _&&_}
+use mathlib.Core.Bool.{Bool, true, false, cond}
 use mathlib.Core.List.{List, [], _∷_, _++_}
 use Prim.Native.Nat.{ℕ, zero, suc, _+_, _-_, _<_, _≤_}
 use native.Mathlib.Omega.{arith}
@@ -16,7 +16,7 @@ use borrow.Author.Tests.{eqb-true, ltb-false, not-true}
 use lib.IntN.{ℤ, pos, negsuc, natAbs}
 use lib.ListN.{length, List·getD-eq-default}
 use Rattle.whole.specs.Lists.{entry}
-use Rattle.whole.specs.Tests.{isZero, every}
+use Rattle.whole.specs.Tests.{every}
 use Rattle.problem.specs.Limits.{M, maxBound}
 use Rattle.problem.specs.declared.Counts.{Counts}
 use Rattle.problem.specs.declared.Answer.the-variants.{Spent}

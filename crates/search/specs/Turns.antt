@@ -9,10 +9,9 @@
 --   laid-turnable, -turn   a turn over them can be made, and is that of the lists
 -- Assumes nothing.
 use mathlib.Core.Path.{_≡_, refl, sym, _∙_, ap, subst}
-use mathlib.Core.Logic.{⊎-elim}
-use mathlib.Core.Bool.{Bool, true, false, not, cond, _||_, false≢true}
+use mathlib.Core.Bool.{Bool, true, false, cond, _||_}
 use mathlib.Core.List.{List}
-use Prim.Native.Nat.{ℕ, zero, suc, _+_, _*_, _<_, _≤_}
+use Prim.Native.Nat.{ℕ, zero, suc, _*_, _<_, _≤_}
 use native.Mathlib.Omega.{arith}
 use borrow.Author.Tests.{eqb-true, eqb-false, not-true}
 use lib.Dec.{eqb}
@@ -35,7 +34,7 @@ use Rattle.settling.specs.Sizes.{Sized, distanceOf, inside-small, inside-above}
 use Rattle.settling.specs.Ready.{cols, Ready}
 use Rattle.search.specs.declared.Search.{Search}
 use Rattle.search.specs.declared.Turn.{Turn}
-use Rattle.search.specs.Cells.{cellAt, cellOf, columnsOf, valuesOf, pack, length-pack, pack-columns, pack-values, cell-at}
+use Rattle.search.specs.Cells.{cellAt, columnsOf, valuesOf, pack, length-pack, pack-columns, pack-values, cell-at}
 use Rattle.search.specs.Blocking.{Proper, every-at}
 use Rattle.search.specs.Searches.{columnsIn, valuesIn, Packed, Searchable}
 

@@ -4,8 +4,8 @@
 --   passes-free       it is changed and not compared
 --   passes-measured   it is compared
 -- Assumes nothing.
-use mathlib.Core.Path.{_≡_, refl}
-use mathlib.Core.Bool.{Bool, true, false}
+use mathlib.Core.Path.{_≡_}
+use mathlib.Core.Bool.{true, false}
 use lib.IntN.{ℤ}
 use Rattle.whole.specs.Tests.{isZero}
 use Rattle.settling.specs.declared.Measure.{Measure}

@@ -9,22 +9,21 @@
 --   allowed-sized       a value that a move may leave in part p can be measured there; `sized-near` one that can be measured is near
 -- Assumes nothing.
 use mathlib.Core.Path.{_≡_, refl, sym, _∙_, ap}
-use mathlib.Core.Bool.{Bool, true, false, cond, not, true≢false, false≢true}
+use mathlib.Core.Bool.{Bool, true, false, cond, true≢false, false≢true}
 use Prim.Native.Nat.{ℕ, zero, suc, _+_, _*_, _<_, _≤_}
 use native.Mathlib.Omega.{arith}
-use borrow.Author.Tests.{ltb-true, ltb-false, lt-ltb, eqb-true, not-true}
-use lib.Dec.{ltb, eqb, leb→le}
+use borrow.Author.Tests.{ltb-false, lt-ltb, eqb-true}
 use lib.IntN.{ℤ, pos, negsuc, negℤ, natAbs, _+ℤ_, _-ℤ_}
 use lib.Signed.{ltZ, leZ}
 use Rattle.whole.specs.Integers.{rep, diff-rel}
 use Rattle.whole.proofs.Signed.{abs-add, abs-neg}
-use Rattle.problem.specs.Limits.{M, maxBound, maxGoal, beyond}
+use Rattle.problem.specs.Limits.{M, maxBound, maxGoal}
 use Rattle.settling.specs.declared.Cell.{Cell}
 use Rattle.settling.specs.declared.Measure.{Measure}
 use Rattle.settling.specs.declared.Part.{Part}
 use Rattle.settling.specs.declared.Part.the-variants.{Bounds, Goals}
-use Rattle.settling.specs.Measures.{fraction, below, larger, distance, ratio, measure}
-use Rattle.settling.specs.Steps.{isRanked, isCompared, isAllowed, passes}
+use Rattle.settling.specs.Measures.{fraction, below, distance, ratio, measure}
+use Rattle.settling.specs.Steps.{isRanked, isAllowed, passes}
 
 abbrev pub Near : ℤ → Type 0
 Near x = natAbs x ≤ 3 * M

@@ -24,7 +24,8 @@ pairs-requires : tie.Need-pairs-requires
 pairs-requires c κs =
     let s = c .before .before in
     let L = s .args .order .now in
-    (s .pre, scan-within (imp s) L (Moves.singles (s .args .search .view .vectors) 0) (best (length L) Rest) _ (c .singles .ensures) (omega arith))
+    let low = scan-within (imp s) L (Moves.singles (s .args .search .view .vectors) 0) (best (length L) Rest) (c .singles .result) (c .singles .ensures) (omega arith) in
+    (s .pre, search needs)
 
 returns : tie.Need-returns
 returns c =

@@ -22,22 +22,22 @@ module _ (c : tie.Start) where
   total = sfits-abs _ (omega (arith, abs-mul (pos 2) (c .args .d), c .pre .0, c .pre .1, abs-add (pos 2 *ℤ c .args .d) (c .args .p)))
 
 mul-floor-quotient : tie.Need-mul-floor-quotient
-mul-floor-quotient c = rw (toZ-ofZ (c .fits .d)) (twice-d c)
+mul-floor-quotient c = simp (toZ-ofZ (c .fits .d)) (twice-d c)
 
 add-floor-quotient : tie.Need-add-floor-quotient
-add-floor-quotient c = rw (toZ-ofZ (c .fits .d), toZ-ofZ (c .fits .p), toZ-ofZ (twice-d c)) (total c)
+add-floor-quotient c = simp (toZ-ofZ (c .fits .d), toZ-ofZ (c .fits .p), toZ-ofZ (twice-d c)) (total c)
 
 mul-floor-quotient-2 : tie.Need-mul-floor-quotient-2
-mul-floor-quotient-2 c = rw (toZ-ofZ (c .fits .p)) (twice-p c)
+mul-floor-quotient-2 c = simp (toZ-ofZ (c .fits .p)) (twice-p c)
 
 floor-quotient-requires : tie.Need-floor-quotient-requires
-floor-quotient-requires c κs = rw (toZ-ofZ (c .fits .p), toZ-ofZ (twice-p c)) (twice-above (c .args .p) (c .pre .2))
+floor-quotient-requires c κs = simp (toZ-ofZ (c .fits .p), toZ-ofZ (twice-p c)) (twice-above (c .args .p) (c .pre .2))
 
 returns : tie.Need-returns
 returns c =
     let s = c .before in
     back (c .floor-quotient .result) (c .floor-quotient .ok) ∙ c .floor-quotient .ensures
-    ∙ rw (toZ-ofZ (s .fits .d), toZ-ofZ (s .fits .p), toZ-ofZ (twice-d s), toZ-ofZ (twice-p s)) (ap (λ (e : ℤ). floorQuotient e (pos 2 *ℤ s .args .p)) (toZ-ofZ (total s)))
+    ∙ simp (toZ-ofZ (s .fits .d), toZ-ofZ (s .fits .p), toZ-ofZ (twice-d s), toZ-ofZ (twice-p s)) (ap (λ (e : ℤ). floorQuotient e (pos 2 *ℤ s .args .p)) (toZ-ofZ (total s)))
 
 pub nearest-quotient-spec : {M : Type 1} → statement M
 nearest-quotient-spec =
