@@ -1,33 +1,30 @@
 -- Laws of numbers read in a range, and of what a range says of them. Assumes nothing.
-use mathlib.Core.Path.{_≡_, refl, sym, ap, _∙_, subst}
+-- ---- outcomes
+use mathlib.Core.Path.{_≡_, refl, sym, subst}
 use mathlib.Core.Bool.{Bool, true, false, cond, _&&_}
 use mathlib.Core.List.{List, [], _∷_}
-use Prim.Native.Nat.{ℕ, zero, suc, _+_, _≤_, _<_, _^_}
+use Prim.Native.Nat.{ℕ, _≤_}
 use native.Mathlib.Omega.{arith}
 use borrow.Author.Tests.{leb-true, eq-eqb, ne-eqb}
-use lib.Dec.{T, leb, eqb}
-use lib.IntN.{ℤ, pos, negsuc, negℤ, natAbs}
+use lib.Dec.{T}
+use lib.IntN.{ℤ, pos, negsuc, natAbs}
 use lib.ListN.{drop}
 use lib.Signed.{leZ}
-use mir.Syntax.{w64}
-use mir.Val.{toZ, ofZ, SFits}
-use mir.Facts.{toZ-ofZ}
-use Rattle.whole.specs.Tests.{isZero, inRange}
+use Rattle.whole.specs.Tests.{inRange}
 use Rattle.text.specs.declared.Token.{Token}
 use Rattle.text.specs.declared.Token.the-variants.{Number, Bad}
 use Rattle.text.specs.declared.Next.the-variants.{Found, End}
 use Rattle.text.specs.Tokens.{tokens}
 use Rattle.text.specs.Positions.{nextAt}
-use Rattle.text.proofs.Scanning.{tokens-found, tokens-end}
 use Rattle.problem.specs.declared.Refusal.{Refusal}
 use Rattle.problem.specs.declared.Refusal.the-variants.{Layout, Coefficient, Term as WrongTerm}
 use Rattle.problem.specs.Limits.{maxCoefficient}
-use Rattle.deck.specs.Rules.{Outcome, ok, no, then, within, nonzero, closed}
+use Rattle.deck.specs.Rules.{ok, no, within, closed}
 use Rattle.deck.specs.Sections.{spanning}
 use Rattle.deck.specs.Steps.{gotOf, rangeGot, noneLeft, coefficient}
+use Rattle.text.proofs.Scanning.{tokens-found, tokens-end}
 use Rattle.deck.specs.declared.Got.the-variants as got
 
--- ---- outcomes
 pub same-ok : {A : Type 0} {a b : A} {ts us : List Token} → ok a ts ≡ ok b us → a ≡ b
 same-ok h = cc
 

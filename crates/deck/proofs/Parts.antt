@@ -1,12 +1,13 @@
 -- Laws of the parts of a text, one for each way through the code: an interval, a term, a row and their lists. Assumes nothing.
-use mathlib.Core.Path.{_≡_, refl, sym, ap, _∙_, subst}
+-- ---- an interval
+use mathlib.Core.Path.{_≡_, refl, ap, _∙_, subst}
 use mathlib.Core.Bool.{Bool, true, false, cond}
 use mathlib.Core.List.{List, [], _∷_, _++_}
 use Prim.Native.Nat.{ℕ, zero, suc, _+_, _-_, _≤_, _<_}
 use native.Mathlib.Omega.{arith}
 use borrow.Author.Tests.{ltb-false}
 use lib.Dec.{ltb}
-use lib.IntN.{ℤ, pos, negℤ, natAbs}
+use lib.IntN.{ℤ, pos, natAbs}
 use lib.ListN.{length, drop, length-append}
 use Rattle.text.specs.declared.Token.{Token}
 use Rattle.text.specs.Tokens.{tokens}
@@ -22,10 +23,9 @@ use Rattle.deck.specs.Sections.{deckColumns, deckRows, spanning, upperFr
 use Rattle.deck.specs.Steps.{kindGotOf, roomGot, coefficient, intervalSection, rowSection}
 use Rattle.deck.specs.declared.Interval.{Interval}
 use Rattle.deck.specs.declared.Term.{Term}
+use Rattle.deck.proofs.Numbers.{same-ok, ok-not-no, within-in, abs-within, count-in}
 use Rattle.deck.specs.declared.rows.KindGot.the-variants as kind-got
-use Rattle.deck.proofs.Numbers.{same-ok, ok-not-no, within-in, abs-between, abs-within, count-in}
 
--- ---- an interval
 module _ (t₀ t₁ t₂ t₃ : List Token) (lo up g : ℤ) where
   pub interval-read : spanning maxBound Bound t₀ ≡ ok lo t₁ → upperFrom lo t₁ ≡ ok up t₂ → within (pos 0) (topGoal lo) Goal t₂ ≡ ok g t₃
       → interval t₀ ≡ ok (record { lower = lo; upper = up; goal = g }) t₃

@@ -1,28 +1,25 @@
 -- Laws of what is stored: buffers filled from the front, rows as wide as the largest and as wide as the problem. Assumes nothing.
-use mathlib.Core.Path.{_≡_, refl, sym, ap, _∙_, subst}
+-- ---- lists
+use mathlib.Core.Path.{_≡_, refl, sym, ap, _∙_}
 use mathlib.Core.List.{List, [], _∷_, _++_, map, append-nil, append-assoc}
-use Prim.Native.Nat.{ℕ, zero, suc, _+_, _-_, _*_, _≤_, _<_, zero-le}
-use native.Mathlib.Numerals.{add-one}
+use Prim.Native.Nat.{ℕ, zero, suc, _+_, _-_, _*_, _≤_, _<_}
 use native.Mathlib.Omega.{arith}
-use native.Mathlib.Nat.{le-of-suc-le-suc, mul-le-mul}
-use lib.Dec.{ltb}
 use lib.IntN.{ℤ, pos}
-use lib.ListN.{length, take, drop, set, replicate, length-append, length-map, length-replicate, length-set, take-append-drop, replicate-append-replicate}
-use lib.Seq.{set-append-seam, take-at, drop-at, drop-drop, drop-append-le, length-take-le, take-all, take-append-le}
+use lib.ListN.{length, take, drop, set, replicate, length-append, length-map, length-replicate, length-set, replicate-append-replicate}
+use lib.Seq.{set-append-seam, take-at, drop-at, drop-drop, take-append-le}
 use Rattle.whole.specs.Lists.{zeros}
 use Rattle.text.specs.Buffers.{written}
-use Rattle.text.proofs.Copying.{written-none, written-then, length-written, written-one}
 use Rattle.problem.specs.Limits.{maxBound}
 use Rattle.problem.specs.Kinds.{Slack, none, slack, slackOf, slackCount}
-use Rattle.problem.specs.Kinds as kinds
-use Rattle.deck.specs.Sections.{deckColumns, deckRows, Line}
-use Rattle.deck.specs.Columns.{lowerOf, upperOf, goalOf, rightOf, placed, withSlack, slackColumn, slackColumns, coefficientRow, coefficientRows}
+use Rattle.deck.specs.Sections.{deckColumns, Line}
+use Rattle.deck.specs.Columns.{upperOf, goalOf, rightOf, placed, withSlack, slackColumn, slackColumns, coefficientRow, coefficientRows}
 use Rattle.deck.specs.Reader.{padded}
 use Rattle.deck.specs.Steps.{blank, compacted}
 use Rattle.deck.specs.declared.Interval.{Interval}
 use Rattle.deck.specs.declared.Term.{Term}
+use Rattle.text.proofs.Copying.{written-none, written-then, length-written, written-one}
+use Rattle.problem.specs.Kinds as kinds
 
--- ---- lists
 pub map-two : {A B : Type 0} (f : A → B) (u v : List A) → map f (u ++ v) ≡ map f u ++ map f v
 map-two f [] v = refl
 map-two f (x ∷ u) v = ap (λ (t : List _). f x ∷ t) (map-two f u v)

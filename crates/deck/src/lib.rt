@@ -1,8 +1,8 @@
 // The text reader. A section takes the cursor that the one before left, and hands one on.
-mod rules;
+mod buffers;
 mod intervals;
 mod rows;
-mod buffers;
+mod rules;
 
 use problem::Problem;
 use problem::Refusal;
@@ -162,7 +162,13 @@ pub fn read_deck(
     ensures { λ _. ⌜ now (upper .exit) ≡ read (now (text .entry)) (deckBuffers (now (coefficients .entry)) (now (rights .entry)) (now (lower .entry)) (now (upper .entry)) (now (goals .entry))) .buffers .upper ⌝ }
     ensures { λ _. ⌜ now (goals .exit) ≡ read (now (text .entry)) (deckBuffers (now (coefficients .entry)) (now (rights .entry)) (now (lower .entry)) (now (upper .entry)) (now (goals .entry))) .buffers .goals ⌝ }
 {
-    if !lengths_fit(coefficients.len(), rights.len(), lower.len(), upper.len(), goals.len()) {
+    if !lengths_fit(
+        coefficients.len(),
+        rights.len(),
+        lower.len(),
+        upper.len(),
+        goals.len(),
+    ) {
         return Reading::Refused(Refusal::Length);
     }
     if Sizes::TEXT < text.len() {
@@ -182,7 +188,8 @@ pub fn read_deck(
             buffers::copy(upper, 0, &u);
             buffers::copy(goals, 0, &g);
             buffers::copy(rights, 0, &b);
-            buffers::fill(coefficients, 0, Sizes::COEFFICIENTS, 0);
+            let size = coefficients.len();
+            buffers::fill(coefficients, 0, size, 0);
             buffers::compact(&t, n, m, coefficients);
             Reading::Read(n, m)
         }

@@ -1,129 +1,170 @@
+-- `deck::read_deck` meets its contract: nothing is written before the whole text is accepted, and then the sections' buffers are copied out. Assumes nothing.
+use mathlib.Core.Path.{_≡_, refl, sym, _∙_}
+use mathlib.Core.Bool.{true}
+use native.Mathlib.Omega.{arith}
+use borrow.Author.Tests.{not-true, not-false}
 use borrow.Author.Needs.{needs}
+use lib.ListN.{length}
+use Rattle.text.specs.Tokens.{tokens}
+use Rattle.deck.specs.declared.Cursor.{Cursor}
+use Rattle.deck.specs.Rules.{no}
+use Rattle.deck.specs.Sections.{deckColumns, deckRows, deck}
+use Rattle.deck.specs.Columns.{posed}
+use Rattle.deck.specs.Reader.{deckBuffers, DeckBuffers, lengthsFit}
+use Rattle.deck.specs.Steps.{blank, DeckStored}
+use Rattle.deck.proofs.Whole.{read-short, read-long, read-is, read-not, Largest, largest, list-is, table-is}
 use Rattle.deck.proofs.read_deck.Statement.{statement}
 use Rattle.deck.proofs.read_deck.Tie as tie
-use Rattle.deck.proofs.read_deck.Reads as reads
-use Rattle.deck.proofs.read_deck.Lts as lts
-use Rattle.deck.proofs.buffers.compact.Reads as compact-reads
-use Rattle.deck.proofs.buffers.copy.Reads as copy-reads
-use Rattle.deck.proofs.buffers.fill.Reads as fill-reads
-use Rattle.deck.proofs.lengths_fit.Reads as lengths-fit-reads
-use Rattle.deck.proofs.scan.Reads as scan-reads
 
--- src/lib.rt:165:9
 lengths-fit-requires : tie.Need-lengths-fit-requires
 lengths-fit-requires c κs = search needs
 
--- src/lib.rt:166:9
 returns : tie.Need-returns
-returns c = ?
+returns c =
+    let x = c .before .before .before .args in
+    let B : DeckBuffers = deckBuffers (x .coefficients .now) (x .rights .now) (x .lower .now) (x .upper .now) (x .goals .now) in
+    let a = read-short (x .text .now) B (sym (c .before .lengths-fit .ensures) ∙ not-true _ (c .if1 .taken)) in
+    rw a (refl, (refl, (refl, (refl, (refl, refl)))))
 
--- src/lib.rt:169:9
 returns-2 : tie.Need-returns-2
-returns-2 c = ?
+returns-2 c =
+    let x = c .before .before .before .before .args in
+    let B : DeckBuffers = deckBuffers (x .coefficients .now) (x .rights .now) (x .lower .now) (x .upper .now) (x .goals .now) in
+    let a = read-long (x .text .now) B (sym (c .before .before .lengths-fit .ensures) ∙ not-false _ (c .before .if1 .left)) (c .if2 .taken) in
+    rw a (refl, (refl, (refl, (refl, (refl, refl)))))
 
--- src/lib.rt:176:24
 slice-aggregate-scan : tie.Need-slice-aggregate-scan
 slice-aggregate-scan c = search needs
 
--- src/lib.rt:176:32
 slice-aggregate-scan-2 : tie.Need-slice-aggregate-scan-2
 slice-aggregate-scan-2 c = search needs
 
--- src/lib.rt:176:40
 slice-aggregate-scan-3 : tie.Need-slice-aggregate-scan-3
 slice-aggregate-scan-3 c = search needs
 
--- src/lib.rt:176:48
 slice-aggregate-scan-4 : tie.Need-slice-aggregate-scan-4
 slice-aggregate-scan-4 c = search needs
 
--- src/lib.rt:176:56
 slice-aggregate-scan-5 : tie.Need-slice-aggregate-scan-5
 slice-aggregate-scan-5 c = search needs
 
--- src/lib.rt:176:9
 scan-requires : tie.Need-scan-requires
-scan-requires c κs = ?
+unfolding blank
+scan-requires c κs = (refl, (refl, (refl, (refl, refl))))
 
--- src/lib.rt:178:23
 enum-known-d : tie.Need-enum-known-d
 enum-known-d c = search needs
 
--- src/lib.rt:181:37
 slice-aggregate-copy : tie.Need-slice-aggregate-copy
 slice-aggregate-copy c = search needs
 
--- src/lib.rt:181:13
 copy-requires : tie.Need-copy-requires
-copy-requires c κs = ?
+copy-requires c κs =
+    let x = c .before .before .before .before .before .before .before .before .before .before .before .before .before .before .before .before .before .before .before .before .args in
+    let B : DeckBuffers = deckBuffers (x .coefficients .now) (x .rights .now) (x .lower .now) (x .upper .now) (x .goals .now) in
+    let z : Largest B = largest B (sym (c .before .before .before .before .before .before .before .before .before .before .before .before .before .before .before .before .before .before .lengths-fit .ensures) ∙ not-false _ (c .before .before .before .before .before .before .before .before .before .before .before .before .before .before .before .before .before .if1 .left)) in
+    omega (arith, z .lower, c .before .before .before .before .before .before .before .before .before .before .scan .kept .1 .0)
 
--- src/lib.rt:182:37
 slice-aggregate-copy-2 : tie.Need-slice-aggregate-copy-2
 slice-aggregate-copy-2 c = search needs
 
--- src/lib.rt:182:13
 copy-requires-2 : tie.Need-copy-requires-2
-copy-requires-2 c κs = ?
+copy-requires-2 c κs =
+    let x = c .before .before .before .before .before .before .before .before .before .before .before .before .before .before .before .before .before .before .before .before .before .before .before .before .args in
+    let B : DeckBuffers = deckBuffers (x .coefficients .now) (x .rights .now) (x .lower .now) (x .upper .now) (x .goals .now) in
+    let z : Largest B = largest B (sym (c .before .before .before .before .before .before .before .before .before .before .before .before .before .before .before .before .before .before .before .before .before .before .lengths-fit .ensures) ∙ not-false _ (c .before .before .before .before .before .before .before .before .before .before .before .before .before .before .before .before .before .before .before .before .before .if1 .left)) in
+    omega (arith, z .upper, c .before .before .before .before .before .before .before .before .before .before .before .before .before .before .scan .kept .1 .1 .0)
 
--- src/lib.rt:183:37
 slice-aggregate-copy-3 : tie.Need-slice-aggregate-copy-3
 slice-aggregate-copy-3 c = search needs
 
--- src/lib.rt:183:13
 copy-requires-3 : tie.Need-copy-requires-3
-copy-requires-3 c κs = ?
+copy-requires-3 c κs =
+    let x = c .before .before .before .before .before .before .before .before .before .before .before .before .before .before .before .before .before .before .before .before .before .before .before .before .before .before .before .before .args in
+    let B : DeckBuffers = deckBuffers (x .coefficients .now) (x .rights .now) (x .lower .now) (x .upper .now) (x .goals .now) in
+    let z : Largest B = largest B (sym (c .before .before .before .before .before .before .before .before .before .before .before .before .before .before .before .before .before .before .before .before .before .before .before .before .before .before .lengths-fit .ensures) ∙ not-false _ (c .before .before .before .before .before .before .before .before .before .before .before .before .before .before .before .before .before .before .before .before .before .before .before .before .before .if1 .left)) in
+    omega (arith, z .goals, c .before .before .before .before .before .before .before .before .before .before .before .before .before .before .before .before .before .before .scan .kept .1 .1 .1 .0)
 
--- src/lib.rt:184:38
 slice-aggregate-copy-4 : tie.Need-slice-aggregate-copy-4
 slice-aggregate-copy-4 c = search needs
 
--- src/lib.rt:184:13
 copy-requires-4 : tie.Need-copy-requires-4
-copy-requires-4 c κs = ?
+copy-requires-4 c κs =
+    let x = c .before .before .before .before .before .before .before .before .before .before .before .before .before .before .before .before .before .before .before .before .before .before .before .before .before .before .before .before .before .before .before .before .args in
+    let B : DeckBuffers = deckBuffers (x .coefficients .now) (x .rights .now) (x .lower .now) (x .upper .now) (x .goals .now) in
+    let z : Largest B = largest B (sym (c .before .before .before .before .before .before .before .before .before .before .before .before .before .before .before .before .before .before .before .before .before .before .before .before .before .before .before .before .before .before .lengths-fit .ensures) ∙ not-false _ (c .before .before .before .before .before .before .before .before .before .before .before .before .before .before .before .before .before .before .before .before .before .before .before .before .before .before .before .before .before .if1 .left)) in
+    omega (arith, z .rights, c .before .before .before .before .before .before .before .before .before .before .before .before .before .before .before .before .before .before .before .before .before .before .scan .kept .1 .1 .1 .1 .0)
 
--- src/lib.rt:185:13
 fill-requires : tie.Need-fill-requires
-fill-requires c κs = ?
+fill-requires c κs = search needs
 
--- src/lib.rt:186:30
 slice-aggregate-compact : tie.Need-slice-aggregate-compact
 slice-aggregate-compact c = search needs
 
--- src/lib.rt:186:13
 compact-requires : tie.Need-compact-requires
-compact-requires c κs = ?
+compact-requires c κs =
+    let x = c .before .before .before .before .before .before .before .before .before .before .before .before .before .before .before .before .before .before .before .before .before .before .before .before .before .before .before .before .before .before .before .before .before .before .before .before .before .before .before .args in
+    let v = c .before .before .before .before .before .before .before .before .before .before .before .before .before .before .before .before .before .before .before .before .before .before .before .before .before .before .before .before .before .scan in
+    let B : DeckBuffers = deckBuffers (x .coefficients .now) (x .rights .now) (x .lower .now) (x .upper .now) (x .goals .now) in
+    let z : Largest B = largest B (sym (c .before .before .before .before .before .before .before .before .before .before .before .before .before .before .before .before .before .before .before .before .before .before .before .before .before .before .before .before .before .before .before .before .before .before .before .before .before .lengths-fit .ensures) ∙ not-false _ (c .before .before .before .before .before .before .before .before .before .before .before .before .before .before .before .before .before .before .before .before .before .before .before .before .before .before .before .before .before .before .before .before .before .before .before .before .if1 .left)) in
+    let st : DeckStored (deck (tokens (x .text .now))) (c .before .before .before .before .before .before .before .before .before .before .before .before .before .before .before .before .before .before .before .before .before .before .d .given .0 .0) (v .last .1 .0) (v .last .1 .1 .0) (v .last .1 .1 .1 .0) (v .last .1 .1 .1 .1 .0) (v .last .1 .1 .1 .1 .1 .0) = rw (c .before .before .before .before .before .before .before .before .before .before .before .before .before .before .before .before .before .before .before .before .before .before .d .given .1) at (v .ensures) in
+    ((st .few, st .few-rows), (v .kept .1 .1 .1 .1 .1 .0, c .before .before .before .fill .kept .0 ∙ z .coefficients))
 
--- src/lib.rt:189:26
 enum-known-d-2 : tie.Need-enum-known-d-2
 enum-known-d-2 c = search needs
 
--- src/lib.rt:150:1
 same-length : tie.Need-same-length
 same-length c = search needs
 
--- src/lib.rt:150:1
 same-length-2 : tie.Need-same-length-2
 same-length-2 c = search needs
 
--- src/lib.rt:150:1
 same-length-3 : tie.Need-same-length-3
 same-length-3 c = search needs
 
--- src/lib.rt:150:1
 same-length-4 : tie.Need-same-length-4
 same-length-4 c = search needs
 
--- src/lib.rt:150:1
 same-length-5 : tie.Need-same-length-5
 same-length-5 c = search needs
 
--- src/lib.rt:150:1
 returns-3 : tie.Need-returns-3
-returns-3 c = ?
+unfolding posed
+returns-3 c =
+    let x = c .before .before .before .before .before .before .before .before .before .before .before .before .before .before .before .before .before .before .before .before .before .before .before .before .before .before .before .before .before .before .before .before .before .before .before .before .before .before .before .before .before .args in
+    let s = x .text .now in
+    let v = c .before .before .before .before .before .before .before .before .before .before .before .before .before .before .before .before .before .before .before .before .before .before .before .before .before .before .before .before .before .before .before .scan in
+    let r : Cursor = c .before .before .before .before .before .before .before .before .before .before .before .before .before .before .before .before .before .before .before .before .before .before .before .before .d .given .0 .0 in
+    let B : DeckBuffers = deckBuffers (x .coefficients .now) (x .rights .now) (x .lower .now) (x .upper .now) (x .goals .now) in
+    let f : lengthsFit B ≡ true = sym (c .before .before .before .before .before .before .before .before .before .before .before .before .before .before .before .before .before .before .before .before .before .before .before .before .before .before .before .before .before .before .before .before .before .before .before .before .before .before .before .lengths-fit .ensures) ∙ not-false _ (c .before .before .before .before .before .before .before .before .before .before .before .before .before .before .before .before .before .before .before .before .before .before .before .before .before .before .before .before .before .before .before .before .before .before .before .before .before .before .if1 .left) in
+    let z : Largest B = largest B f in
+    let st : DeckStored (deck (tokens s)) r (v .last .1 .0) (v .last .1 .1 .0) (v .last .1 .1 .1 .0) (v .last .1 .1 .1 .1 .0) (v .last .1 .1 .1 .1 .1 .0) = rw (c .before .before .before .before .before .before .before .before .before .before .before .before .before .before .before .before .before .before .before .before .before .before .before .before .d .given .1) at (v .ensures) in
+    let a = read-is s B (st .deck) f (c .before .before .before .before .before .before .before .before .before .before .before .before .before .before .before .before .before .before .before .before .before .before .before .before .before .before .before .before .before .before .before .before .before .before .before .before .before .if2 .left) (st .read) in
+    rw (a, ← st .columns, ← st .rows) (
+      refl,
+      (
+        table-is (x .coefficients .now) (c .before .before .before .before .before .fill .last .0) (c .before .compact .last .1 .1 .1 .0) (v .last .1 .1 .1 .1 .1 .0) (r .columns) (r .rows) (length (st .deck .intervals)) (st .deck .lines) (z .coefficients) (st .few) (st .few-rows) (st .rows) (c .before .before .before .before .before .fill .ensures) (c .before .compact .ensures) (st .table-is),
+        (
+          list-is deckRows (x .rights .now) _ (v .last .1 .1 .1 .1 .0) _ (z .rights) (v .kept .1 .1 .1 .1 .0) (c .before .before .before .before .before .before .before .before .copy4 .ensures) (st .rights-is),
+          (
+            list-is deckColumns (x .lower .now) _ (v .last .1 .0) _ (z .lower) (v .kept .1 .0) (c .before .before .before .before .before .before .before .before .before .before .before .before .before .before .before .before .before .before .before .before .copy .ensures) (st .lower-is),
+            (
+              list-is deckColumns (x .upper .now) _ (v .last .1 .1 .0) _ (z .upper) (v .kept .1 .1 .0) (c .before .before .before .before .before .before .before .before .before .before .before .before .before .before .before .before .copy2 .ensures) (st .upper-is),
+              list-is deckColumns (x .goals .now) _ (v .last .1 .1 .1 .0) _ (z .goals) (v .kept .1 .1 .1 .0) (c .before .before .before .before .before .before .before .before .before .before .before .before .copy3 .ensures) (st .goals-is),
+            ),
+          ),
+        ),
+      ),
+    )
 
--- src/lib.rt:150:1
 returns-4 : tie.Need-returns-4
-returns-4 c = ?
+returns-4 c =
+    let x = c .before .before .before .before .before .before .before .before .before .before .before .before .before .before .before .before .before .before .args in
+    let s = x .text .now in
+    let B : DeckBuffers = deckBuffers (x .coefficients .now) (x .rights .now) (x .lower .now) (x .upper .now) (x .goals .now) in
+    let d : deck (tokens s) ≡ no (c .before .d2 .given .0 .0) = rw (c .before .d2 .given .1) at (c .before .before .before .before .before .before .before .before .scan .ensures) in
+    let a = read-not s B _ (sym (c .before .before .before .before .before .before .before .before .before .before .before .before .before .before .before .before .lengths-fit .ensures) ∙ not-false _ (c .before .before .before .before .before .before .before .before .before .before .before .before .before .before .before .if1 .left)) (c .before .before .before .before .before .before .before .before .before .before .before .before .before .before .if2 .left) d in
+    rw a (refl, (refl, (refl, (refl, (refl, refl)))))
 
 pub read-deck-spec : {M : Type 1} → statement M
 read-deck-spec =

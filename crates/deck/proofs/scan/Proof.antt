@@ -1,137 +1,160 @@
-use borrow.Author.Needs.{needs}
+-- `deck::scan` meets its contract: the sections' buffers are the deck's, and the y's upper bounds are set once all rows are read. Assumes nothing.
+use mathlib.Core.Path.{_≡_, sym, ap, _∙_}
+use mathlib.Core.List.{[]}
+use Prim.Native.Nat.{_*_}
+use native.Mathlib.Omega.{arith}
+use borrow.Author.Needs.{sfits-of, needs}
+use lib.IntN.{pos}
+use lib.ListN.{length, drop}
+use mir.Syntax.{w64}
+use mir.Val.{toZ, ofZ}
+use mir.Facts.{toZ-ofZ}
+use Rattle.text.specs.Tokens.{tokens}
+use Rattle.problem.specs.Limits.{maxBound}
+use Rattle.deck.specs.Rules.{no}
+use Rattle.deck.specs.Sections.{deckColumns, deckRows}
+use Rattle.deck.specs.Steps.{intervalSection, rowSection, IntervalsStored, LinesStored}
+use Rattle.deck.proofs.Numbers.{closed-not}
+use Rattle.deck.proofs.Parts.{deck-intervals, deck-rows}
+use Rattle.deck.proofs.Storage.{length-blank}
+use Rattle.deck.proofs.Whole.{sections, stored}
 use Rattle.deck.proofs.scan.Statement.{statement}
 use Rattle.deck.proofs.scan.Tie as tie
-use Rattle.deck.proofs.scan.Reads as reads
-use Rattle.deck.proofs.scan.Lts as lts
-use Rattle.deck.proofs.buffers.fill.Reads as fill-reads
-use Rattle.deck.proofs.intervals.read_intervals.Reads as read-intervals-reads
-use Rattle.deck.proofs.rows.read_rows.Reads as read-rows-reads
-use Rattle.deck.proofs.rules.is_closed.Reads as is-closed-reads
-use Rattle.text.proofs.scanner.positive.Reads as positive-reads
 
--- src/lib.rt:127:9
 read-intervals-requires : tie.Need-read-intervals-requires
 read-intervals-requires c κs = search needs
 
--- src/lib.rt:129:23
 enum-known-a : tie.Need-enum-known-a
 enum-known-a c = search needs
 
--- src/lib.rt:130:17
 read-rows-requires : tie.Need-read-rows-requires
-read-rows-requires c κs = ?
+read-rows-requires c κs =
+    let x = c .before .before .before .before .before .before .before .before .before .before .before .before .before .before .args in
+    let s = x .s .now in
+    let v = c .before .before .before .before .before .before .before .before .before .read-intervals in
+    let i : IntervalsStored s (intervalSection (tokens s)) (c .before .before .before .before .a .given .0 .0) (v .last .1 .1 .0) (v .last .1 .1 .1 .0) (v .last .1 .1 .1 .1 .0) = rw (c .before .before .before .before .a .given .1) at (v .ensures) in (
+      (i .few, i .columns, i .rows),
+      record {
+        lowers = v .kept .1 .1 .0 ∙ (ap length (c .before .before .before .before .before .before .before .before .before .before .before .before .before .before .pre .0) ∙ length-blank deckColumns);
+        rights = ap length (c .before .before .before .before .before .before .before .before .before .before .before .before .before .before .pre .1 .1 .1 .0) ∙ length-blank deckRows;
+        table = ap length (c .before .before .before .before .before .before .before .before .before .before .before .before .before .before .pre .1 .1 .1 .1) ∙ length-blank (deckRows * deckColumns);
+      },
+    )
 
--- src/lib.rt:132:31
 enum-known-b : tie.Need-enum-known-b
 enum-known-b c = search needs
 
--- src/lib.rt:135:24
 is-closed-requires : tie.Need-is-closed-requires
 is-closed-requires c κs = search needs
 
--- src/lib.rt:136:56
 positive-requires : tie.Need-positive-requires
 positive-requires c κs = search needs
 
--- src/lib.rt:136:25
 fill-requires : tie.Need-fill-requires
-fill-requires c κs = ?
+fill-requires c κs =
+    let x = c .before .before .before .before .before .before .before .before .before .before .before .before .before .before .before .before .before .before .before .before .before .before .before .before .before .args in
+    let s = x .s .now in
+    let v = c .before .before .before .before .before .before .before .before .before .before .before .before .before .before .before .before .before .before .before .before .read-intervals in
+    let r = c .before .before .before .before .before .before .before .before .before .before .read-rows in
+    let i : IntervalsStored s (intervalSection (tokens s)) (c .before .before .before .before .before .before .before .before .before .before .before .before .before .before .before .a .given .0 .0) (v .last .1 .1 .0) (v .last .1 .1 .1 .0) (v .last .1 .1 .1 .1 .0) = rw (c .before .before .before .before .before .before .before .before .before .before .before .before .before .before .before .a .given .1) at (v .ensures) in
+    let w : LinesStored s (rowSection (c .before .before .before .before .before .before .before .before .before .before .before .before .before .before .before .a .given .0 .0 .intervals) (tokens (drop (c .before .before .before .before .before .before .before .before .before .before .before .before .before .before .before .a .given .0 .0 .at) s))) (c .before .before .before .before .before .before .before .before .before .before .before .before .before .before .before .a .given .0 .0 .intervals) (c .before .before .before .before .before .b .given .0 .0) (v .last .1 .1 .0) (x .rights .now) (x .table .now) (r .last .1 .1 .0) (r .last .1 .1 .1 .0) (r .last .1 .1 .1 .1 .0) = rw (c .before .before .before .before .before .b .given .1) at (r .ensures) in
+    (omega (arith, w .columns, w .intervals), omega (arith, w .few, v .kept .1 .1 .1 .0, ap length (c .before .before .before .before .before .before .before .before .before .before .before .before .before .before .before .before .before .before .before .before .before .before .before .before .before .pre .1 .0), length-blank deckColumns))
 
--- src/lib.rt:142:34
 enum-known-b-2 : tie.Need-enum-known-b-2
 enum-known-b-2 c = search needs
 
--- src/lib.rt:145:26
 enum-known-a-2 : tie.Need-enum-known-a-2
 enum-known-a-2 c = search needs
 
--- src/lib.rt:112:1
 same-length : tie.Need-same-length
 same-length c = search needs
 
--- src/lib.rt:112:1
 same-length-2 : tie.Need-same-length-2
 same-length-2 c = search needs
 
--- src/lib.rt:112:1
 same-length-3 : tie.Need-same-length-3
 same-length-3 c = search needs
 
--- src/lib.rt:112:1
 same-length-4 : tie.Need-same-length-4
 same-length-4 c = search needs
 
--- src/lib.rt:112:1
 same-length-5 : tie.Need-same-length-5
 same-length-5 c = search needs
 
--- src/lib.rt:112:1
 returns : tie.Need-returns
-returns c = ?
+returns c =
+    let x = c .before .before .before .before .before .before .before .before .before .before .before .before .before .before .before .before .before .before .before .before .before .before .before .before .before .before .before .args in
+    let s = x .s .now in
+    let v = c .before .before .before .before .before .before .before .before .before .before .before .before .before .before .before .before .before .before .before .before .before .before .read-intervals in
+    let r = c .before .before .before .before .before .before .before .before .before .before .before .before .read-rows in
+    let i : IntervalsStored s (intervalSection (tokens s)) (c .before .before .before .before .before .before .before .before .before .before .before .before .before .before .before .before .before .a .given .0 .0) (v .last .1 .1 .0) (v .last .1 .1 .1 .0) (v .last .1 .1 .1 .1 .0) = rw (c .before .before .before .before .before .before .before .before .before .before .before .before .before .before .before .before .before .a .given .1) at (v .ensures) in
+    let w : LinesStored s (rowSection (c .before .before .before .before .before .before .before .before .before .before .before .before .before .before .before .before .before .a .given .0 .0 .intervals) (tokens (drop (c .before .before .before .before .before .before .before .before .before .before .before .before .before .before .before .before .before .a .given .0 .0 .at) s))) (c .before .before .before .before .before .before .before .before .before .before .before .before .before .before .before .before .before .a .given .0 .0 .intervals) (c .before .before .before .before .before .before .before .b .given .0 .0) (v .last .1 .1 .0) (x .rights .now) (x .table .now) (r .last .1 .1 .0) (r .last .1 .1 .1 .0) (r .last .1 .1 .1 .1 .0) = rw (c .before .before .before .before .before .before .before .b .given .1) at (r .ensures) in
+    let m : toZ w64 (ofZ w64 (c .before .before .positive .result)) ≡ pos maxBound = toZ-ofZ (sfits-of (c .before .before .positive .ok)) ∙ c .before .before .positive .ensures in
+    stored s (c .before .before .before .before .before .before .before .before .before .before .before .before .before .before .before .before .before .a .given .0 .0) (c .before .before .before .before .before .before .before .b .given .0 .0) _ _ _ _ _ _ _ _ _ i w (c .before .before .before .before .before .before .before .before .before .before .before .before .before .before .before .before .before .before .before .before .before .before .before .before .before .before .before .pre .1 .1 .1 .0) (c .before .before .before .before .before .before .before .before .before .before .before .before .before .before .before .before .before .before .before .before .before .before .before .before .before .before .before .pre .1 .1 .1 .1) (sym (c .before .before .before .before .before .is-closed .ensures) ∙ c .before .before .before .before .if1 .taken) (rw m at (c .before .fill .ensures))
 
--- src/lib.rt:112:1
 same-length-6 : tie.Need-same-length-6
 same-length-6 c = search needs
 
--- src/lib.rt:112:1
 same-length-7 : tie.Need-same-length-7
 same-length-7 c = search needs
 
--- src/lib.rt:112:1
 same-length-8 : tie.Need-same-length-8
 same-length-8 c = search needs
 
--- src/lib.rt:112:1
 same-length-9 : tie.Need-same-length-9
 same-length-9 c = search needs
 
--- src/lib.rt:112:1
 same-length-10 : tie.Need-same-length-10
 same-length-10 c = search needs
 
--- src/lib.rt:112:1
 returns-2 : tie.Need-returns-2
-returns-2 c = ?
+returns-2 c =
+    let x = c .before .before .before .before .before .before .before .before .before .before .before .before .before .before .before .before .before .before .before .before .before .before .before .args in
+    let s = x .s .now in
+    let v = c .before .before .before .before .before .before .before .before .before .before .before .before .before .before .before .before .before .before .read-intervals in
+    let r = c .before .before .before .before .before .before .before .before .read-rows in
+    let i : IntervalsStored s (intervalSection (tokens s)) (c .before .before .before .before .before .before .before .before .before .before .before .before .before .a .given .0 .0) (v .last .1 .1 .0) (v .last .1 .1 .1 .0) (v .last .1 .1 .1 .1 .0) = rw (c .before .before .before .before .before .before .before .before .before .before .before .before .before .a .given .1) at (v .ensures) in
+    let w : LinesStored s (rowSection (c .before .before .before .before .before .before .before .before .before .before .before .before .before .a .given .0 .0 .intervals) (tokens (drop (c .before .before .before .before .before .before .before .before .before .before .before .before .before .a .given .0 .0 .at) s))) (c .before .before .before .before .before .before .before .before .before .before .before .before .before .a .given .0 .0 .intervals) (c .before .before .before .b .given .0 .0) (v .last .1 .1 .0) (x .rights .now) (x .table .now) (r .last .1 .1 .0) (r .last .1 .1 .1 .0) (r .last .1 .1 .1 .1 .0) = rw (c .before .before .before .b .given .1) at (r .ensures) in
+    sections s (c .before .before .before .before .before .before .before .before .before .before .before .before .before .a .given .0 .0) (c .before .before .before .b .given .0 .0) _ _ _ _ (x .upper .now) _ _ _ _ i w ∙ closed-not _ (tokens (drop (c .before .before .before .b .given .0 .0 .at) s)) (sym (c .before .is-closed .ensures) ∙ c .if1 .left)
 
--- src/lib.rt:112:1
 same-length-11 : tie.Need-same-length-11
 same-length-11 c = search needs
 
--- src/lib.rt:112:1
 same-length-12 : tie.Need-same-length-12
 same-length-12 c = search needs
 
--- src/lib.rt:112:1
 same-length-13 : tie.Need-same-length-13
 same-length-13 c = search needs
 
--- src/lib.rt:112:1
 same-length-14 : tie.Need-same-length-14
 same-length-14 c = search needs
 
--- src/lib.rt:112:1
 same-length-15 : tie.Need-same-length-15
 same-length-15 c = search needs
 
--- src/lib.rt:112:1
 returns-3 : tie.Need-returns-3
-returns-3 c = ?
+returns-3 c =
+    let x = c .before .before .before .before .before .before .before .before .before .before .before .before .before .before .before .before .before .before .before .before .before .args in
+    let s = x .s .now in
+    let v = c .before .before .before .before .before .before .before .before .before .before .before .before .before .before .before .before .read-intervals in
+    let i : IntervalsStored s (intervalSection (tokens s)) (c .before .before .before .before .before .before .before .before .before .before .before .a .given .0 .0) (v .last .1 .1 .0) (v .last .1 .1 .1 .0) (v .last .1 .1 .1 .1 .0) = rw (c .before .before .before .before .before .before .before .before .before .before .before .a .given .1) at (v .ensures) in
+    let w : rowSection (c .before .before .before .before .before .before .before .before .before .before .before .a .given .0 .0 .intervals) (tokens (drop (c .before .before .before .before .before .before .before .before .before .before .before .a .given .0 .0 .at) s)) ≡ no (c .before .b2 .given .0 .0) = rw (c .before .b2 .given .1) at (c .before .before .before .before .before .before .read-rows .ensures) in
+    deck-rows (tokens s) _ [] (i .is) [] _ (i .read) (rw (i .count) at w)
 
--- src/lib.rt:112:1
 same-length-16 : tie.Need-same-length-16
 same-length-16 c = search needs
 
--- src/lib.rt:112:1
 same-length-17 : tie.Need-same-length-17
 same-length-17 c = search needs
 
--- src/lib.rt:112:1
 same-length-18 : tie.Need-same-length-18
 same-length-18 c = search needs
 
--- src/lib.rt:112:1
 returns-4 : tie.Need-returns-4
-returns-4 c = ?
+returns-4 c =
+    let s = c .before .before .before .before .before .before .before .before .before .before .before .args .s .now in
+    let i : intervalSection (tokens s) ≡ no (c .before .a2 .given .0 .0) = rw (c .before .a2 .given .1) at (c .before .before .before .before .before .before .read-intervals .ensures) in
+    deck-intervals (tokens s) [] [] [] [] _ i
 
 pub scan-spec : {M : Type 1} → statement M
 scan-spec =

@@ -7,13 +7,12 @@ use lib.IntN.{ℤ}
 use lib.ListN.{length, take, drop, length-append, length-drop}
 use lib.Seq.{length-take-le}
 use Rattle.text.specs.Buffers.{written}
-use Rattle.text.proofs.Copying.{written-none, written-then}
 use Rattle.deck.specs.Sections.{deckColumns, deckRows}
 use Rattle.deck.specs.Steps.{compacted}
+use Rattle.text.proofs.Copying.{written-none, written-then}
 use Rattle.deck.proofs.Storage.{compacted-more, compacted-end}
 use Rattle.deck.proofs.buffers.compact.Statement.{statement}
 use Rattle.deck.proofs.buffers.compact.Tie as tie
-use Rattle.deck.proofs.buffers.copy.Reads as copy-reads
 
 record Sofar (t : List ℤ) (n m : ℕ) (o : List ℤ) (i to : ℕ) (out : List ℤ) : Type 0 where
   small : i ≤ m

@@ -1,13 +1,13 @@
 -- `deck::buffers::copy` meets its contract. The invariant: the first i numbers are copied in. Assumes nothing.
 use mathlib.Core.Path.{_≡_, refl, _∙_}
-use Prim.Native.Nat.{ℕ, _+_, _-_, _≤_}
+use Prim.Native.Nat.{_+_, _-_, _≤_}
 use native.Mathlib.Omega.{arith}
+use borrow.Author.Needs.{needs}
 use lib.IntN.{ℤ, pos}
 use lib.ListN.{length, getD, length-set}
 use lib.Seq.{paste}
 use mir.Syntax.{w64}
 use mir.Val.{toZ, ofZ}
-use borrow.Author.Needs.{needs}
 use Rattle.text.proofs.Copying.{copied-none, copied-more, copied-all}
 use Rattle.deck.proofs.buffers.copy.Statement.{statement}
 use Rattle.deck.proofs.buffers.copy.Tie as tie

@@ -1,16 +1,13 @@
 -- `deck::buffers::fill` meets its contract. The invariant: the numbers up to i are set. Assumes nothing.
-use mathlib.Core.Path.{_≡_, refl, ap, _∙_}
-use mathlib.Core.List.{List, []}
-use Prim.Native.Nat.{ℕ, _-_, _≤_}
+use mathlib.Core.Path.{_≡_, refl, _∙_}
+use Prim.Native.Nat.{_-_, _≤_}
 use native.Mathlib.Omega.{arith}
-use lib.IntN.{ℤ}
+use borrow.Author.Needs.{needs}
 use lib.ListN.{length, replicate, length-set}
 use mir.Syntax.{w64}
-use mir.Val.{toZ, ofZ}
+use mir.Val.{toZ}
 use mir.Facts.{toZ-ofZ}
-use borrow.Author.Needs.{needs}
 use Rattle.text.specs.Buffers.{written}
-use Rattle.text.proofs.Copying.{written-none}
 use Rattle.deck.proofs.Storage.{fill-none, fill-more}
 use Rattle.deck.proofs.buffers.fill.Statement.{statement}
 use Rattle.deck.proofs.buffers.fill.Tie as tie

@@ -1,13 +1,12 @@
 -- `deck::intervals::read_interval` meets its contract: lower, upper and goal, each in the range that those before it set. Assumes nothing.
-use mathlib.Core.Path.{_≡_, sym, ap, _∙_}
+use mathlib.Core.Path.{_≡_, ap, _∙_}
 use mathlib.Core.List.{[]}
-use Prim.Native.Nat.{ℕ}
+use borrow.Author.Needs.{sfits-of, needs}
 use lib.IntN.{ℤ, pos}
 use lib.ListN.{drop}
 use mir.Syntax.{w64}
 use mir.Val.{toZ, ofZ}
 use mir.Facts.{toZ-ofZ}
-use borrow.Author.Needs.{sfits-of}
 use Rattle.text.specs.Tokens.{tokens}
 use Rattle.problem.specs.Limits.{maxBound}
 use Rattle.problem.specs.declared.Refusal.the-variants.{Goal}
@@ -15,13 +14,8 @@ use Rattle.deck.specs.Rules.{within}
 use Rattle.deck.specs.Sections.{upperFrom, topGoal}
 use Rattle.deck.specs.Steps.{gotOf}
 use Rattle.deck.proofs.Parts.{interval-read, interval-lower, interval-upper, interval-goal}
-use borrow.Author.Needs.{needs}
 use Rattle.deck.proofs.intervals.read_interval.Statement.{statement}
 use Rattle.deck.proofs.intervals.read_interval.Tie as tie
-use Rattle.deck.proofs.intervals.top_goal.Reads as top-goal-reads
-use Rattle.deck.proofs.rules.spanning.Reads as spanning-reads
-use Rattle.deck.proofs.rules.within.Reads as within-reads
-use Rattle.text.proofs.scanner.positive.Reads as positive-reads
 
 spanning-requires : tie.Need-spanning-requires
 spanning-requires c κs = search needs

@@ -13,7 +13,7 @@ use mir.Facts.{toZ-ofZ}
 use Rattle.text.specs.Tokens.{tokens}
 use Rattle.problem.specs.declared.Refusal.the-variants.{Size}
 use Rattle.deck.specs.declared.Interval.{Interval}
-use Rattle.deck.specs.Rules.{Outcome, ok, no, within}
+use Rattle.deck.specs.Rules.{Outcome, ok, within}
 use Rattle.deck.specs.Sections.{deckColumns, interval, intervals}
 use Rattle.deck.specs.Columns.{lowerOf, upperOf, goalOf}
 use Rattle.deck.specs.Reader.{padded}
@@ -23,10 +23,6 @@ use Rattle.deck.proofs.Parts.{intervals-more, intervals-stop, intervals
 use Rattle.deck.proofs.Storage.{stored-more, length-snoc, padded-none, length-blank}
 use Rattle.deck.proofs.intervals.read_intervals.Statement.{statement}
 use Rattle.deck.proofs.intervals.read_intervals.Tie as tie
-use Rattle.deck.proofs.intervals.read_interval.Reads as read-interval-reads
-use Rattle.deck.proofs.rules.natural.Reads as natural-reads
-use Rattle.deck.proofs.rules.signed.Reads as signed-reads
-use Rattle.deck.proofs.rules.within.Reads as within-reads
 
 record Sofar (s : List ℕ) (o : Outcome (List Interval)) (n i p : ℕ) (l u g : List ℤ) : Type 0 where
   most : n ≤ deckColumns

@@ -1,15 +1,12 @@
-use borrow.Author.Needs.{sfits-of}
 -- `deck::intervals::top_goal` meets its contract: the test is the definition's. Assumes nothing.
-use mathlib.Core.Path.{_≡_, sym, _∙_}
+use mathlib.Core.Path.{_≡_, _∙_}
 use mathlib.Core.Bool.{true, false}
+use borrow.Author.Needs.{sfits-of, needs}
 use lib.IntN.{pos}
 use lib.Signed.{leZ}
 use mir.Facts.{toZ-ofZ}
-use borrow.Author.Needs.{needs}
 use Rattle.deck.proofs.intervals.top_goal.Statement.{statement}
 use Rattle.deck.proofs.intervals.top_goal.Tie as tie
-use Rattle.deck.proofs.rules.at_most.Reads as at-most-reads
-use Rattle.text.proofs.scanner.positive.Reads as positive-reads
 
 at-most-requires : tie.Need-at-most-requires
 at-most-requires c κs = search needs

@@ -1,12 +1,11 @@
 -- `deck::rows::half` meets its contract: the magnitude is a u32. Assumes nothing.
 use mathlib.Core.Path.{_≡_}
 use native.Mathlib.Omega.{arith}
+use borrow.Author.Needs.{needs}
 use lib.IntN.{natAbs}
 use mir.Facts.{toZ-ofZ}
-use borrow.Author.Needs.{needs}
 use Rattle.deck.proofs.rows.half.Statement.{statement}
 use Rattle.deck.proofs.rows.half.Tie as tie
-use Rattle.whole.proofs.magnitude.Reads as magnitude-reads
 
 magnitude-requires : tie.Need-magnitude-requires
 magnitude-requires c κs = search needs

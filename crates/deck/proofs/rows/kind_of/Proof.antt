@@ -1,10 +1,9 @@
 -- `deck::rows::kind_of` meets its contract: it is the kind of a row with the number 0. Assumes nothing.
 use mathlib.Core.Path.{ap}
-use Rattle.problem.specs.declared.Row.{Row}
 use borrow.Author.Needs.{needs}
+use Rattle.problem.specs.declared.Row.{Row}
 use Rattle.deck.proofs.rows.kind_of.Statement.{statement}
 use Rattle.deck.proofs.rows.kind_of.Tie as tie
-use Rattle.deck.proofs.rows.row_of.Reads as row-of-reads
 
 row-of-requires : tie.Need-row-of-requires
 row-of-requires c κs = search needs

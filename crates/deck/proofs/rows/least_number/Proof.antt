@@ -1,12 +1,9 @@
-use mathlib.Core.Path.{_∙_}
-use mir.Facts.{toZ-ofZ}
-use borrow.Author.Needs.{sfits-of}
 -- `deck::rows::least_number` meets its contract, kind by kind. Assumes nothing.
-use mathlib.Core.Path.{refl}
-use borrow.Author.Needs.{needs}
+use mathlib.Core.Path.{_∙_}
+use borrow.Author.Needs.{sfits-of, needs}
+use mir.Facts.{toZ-ofZ}
 use Rattle.deck.proofs.rows.least_number.Statement.{statement}
 use Rattle.deck.proofs.rows.least_number.Tie as tie
-use Rattle.text.proofs.scanner.negative.Reads as negative-reads
 
 enum-told : tie.Need-enum-told
 enum-told c = search needs

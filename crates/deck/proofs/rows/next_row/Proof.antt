@@ -1,26 +1,22 @@
-use lib.IntN.{ℤ}
-use mathlib.Core.List.{List}
-use Rattle.deck.specs.Columns.{placed}
-use Rattle.deck.proofs.Storage.{blank-is}
 -- `deck::rows::next_row` meets its contract: the row is stored at the cursor, and has room for its column. Assumes nothing.
-use mathlib.Core.Path.{_≡_, refl, sym, ap, _∙_}
-use Prim.Native.Nat.{ℕ, _+_, _*_, _≤_}
+use mathlib.Core.List.{List}
+use mathlib.Core.Path.{_≡_, refl, ap, _∙_}
+use Prim.Native.Nat.{ℕ, _+_, _*_}
 use native.Mathlib.Omega.{arith}
-use lib.ListN.{length, drop}
+use borrow.Author.Needs.{needs}
+use lib.IntN.{ℤ}
+use lib.ListN.{drop}
+use Rattle.deck.specs.Columns.{placed, withSlack}
 use Rattle.text.specs.Tokens.{tokens}
 use Rattle.text.specs.Buffers.{written}
 use Rattle.problem.specs.Kinds.{slackOf, slackCount}
 use Rattle.problem.specs.declared.Row.{Row}
 use Rattle.deck.specs.Sections.{deckColumns, line}
-use Rattle.deck.specs.Columns.{withSlack}
 use Rattle.deck.specs.Steps.{blank, LineStored}
+use Rattle.deck.proofs.Storage.{blank-is}
 use Rattle.deck.proofs.Parts.{line-room}
-use borrow.Author.Needs.{needs}
 use Rattle.deck.proofs.rows.next_row.Statement.{statement}
 use Rattle.deck.proofs.rows.next_row.Tie as tie
-use Rattle.deck.proofs.rows.read_line.Reads as read-line-reads
-use Rattle.deck.proofs.rows.store_row.Reads as store-row-reads
-use Rattle.problem.proofs.Kind.slacks.Reads as slacks-reads
 
 slice-aggregate-read-line : tie.Need-slice-aggregate-read-line
 slice-aggregate-read-line c = search needs

@@ -1,22 +1,17 @@
-use mir.Val.{SFits}
-use mir.Facts.{toZ-ofZ}
-use lib.ListN.{length, set}
-use Prim.Native.Nat.{_<_, _^_}
 -- `deck::rows::put_slack` meets its contract: with no y nothing is written, else one number in each buffer. Assumes nothing.
 use mathlib.Core.Path.{_≡_, refl, sym, ap, _∙_}
+use Prim.Native.Nat.{_<_, _^_, ℕ}
 use native.Mathlib.Omega.{arith}
-use lib.IntN.{ℤ, pos}
-use mir.Syntax.{w64}
-use mir.Val.{toZ, ofZ}
-use Prim.Native.Nat.{ℕ, _+_, _≤_}
-use Rattle.text.proofs.Copying.{written-none, written-one}
-use Rattle.problem.specs.Kinds.{none, slack, slackOf, slackCount, slackColumns}
-use Rattle.deck.specs.Sections.{deckColumns}
-use Rattle.deck.specs.Steps.{slackIs}
 use borrow.Author.Needs.{needs}
+use lib.IntN.{ℤ, pos}
+use mir.Val.{SFits, toZ, ofZ}
+use mir.Facts.{toZ-ofZ}
+use mir.Syntax.{w64}
+use Rattle.problem.specs.Kinds.{none, slack, slackOf, slackColumns}
+use Rattle.deck.specs.Steps.{slackIs}
+use Rattle.text.proofs.Copying.{written-none, written-one}
 use Rattle.deck.proofs.rows.put_slack.Statement.{statement}
 use Rattle.deck.proofs.rows.put_slack.Tie as tie
-use Rattle.deck.proofs.rows.slack_of.Reads as slack-of-reads
 
 slack-of-requires : tie.Need-slack-of-requires
 slack-of-requires c κs = search needs

@@ -1,6 +1,7 @@
 -- `deck::rows::read_coefficient` meets its contract: the range is looked at first, and then whether it is 0. Assumes nothing.
 use mathlib.Core.Path.{_≡_, sym, ap, _∙_}
 use mathlib.Core.List.{[]}
+use borrow.Author.Needs.{needs}
 use lib.IntN.{ℤ, pos, natAbs}
 use lib.ListN.{drop}
 use mir.Syntax.{w64}
@@ -8,11 +9,8 @@ use mir.Val.{toZ, ofZ}
 use Rattle.text.specs.Tokens.{tokens}
 use Rattle.deck.specs.Steps.{gotOf}
 use Rattle.deck.proofs.Numbers.{coefficient-zero, coefficient-read, coefficient-no}
-use borrow.Author.Needs.{needs}
 use Rattle.deck.proofs.rows.read_coefficient.Statement.{statement}
 use Rattle.deck.proofs.rows.read_coefficient.Tie as tie
-use Rattle.deck.proofs.rules.natural.Reads as natural-reads
-use Rattle.deck.proofs.rules.spanning.Reads as spanning-reads
 
 spanning-requires : tie.Need-spanning-requires
 spanning-requires c κs = search needs

@@ -2,6 +2,7 @@
 use mathlib.Core.Path.{_≡_, sym, ap, _∙_}
 use mathlib.Core.List.{[]}
 use Prim.Native.Nat.{ℕ}
+use borrow.Author.Needs.{needs}
 use lib.IntN.{ℤ, pos, natAbs}
 use lib.ListN.{drop}
 use mir.Syntax.{w64}
@@ -9,12 +10,8 @@ use mir.Val.{toZ, ofZ}
 use Rattle.text.specs.Tokens.{tokens}
 use Rattle.deck.specs.Steps.{gotOf, kindGotOf, roomGot}
 use Rattle.deck.proofs.Parts.{room-is, kind-read, kind-no}
-use borrow.Author.Needs.{needs}
 use Rattle.deck.proofs.rows.read_kind.Statement.{statement}
 use Rattle.deck.proofs.rows.read_kind.Tie as tie
-use Rattle.deck.proofs.rows.with_room.Reads as with-room-reads
-use Rattle.deck.proofs.rules.natural.Reads as natural-reads
-use Rattle.deck.proofs.rules.within.Reads as within-reads
 
 within-requires : tie.Need-within-requires
 within-requires c κs = search needs

@@ -1,13 +1,13 @@
 -- `deck::rows::read_line` meets its contract: the row, the count of its terms, and then the terms. Assumes nothing.
-use mathlib.Core.Path.{_≡_, sym, ap, _∙_}
+use mathlib.Core.Path.{_≡_, ap, _∙_}
 use mathlib.Core.List.{[]}
 use Prim.Native.Nat.{ℕ}
+use borrow.Author.Needs.{sfits-of, needs}
 use lib.IntN.{ℤ, pos, natAbs}
 use lib.ListN.{length, drop}
 use mir.Syntax.{w64}
 use mir.Val.{toZ, ofZ}
 use mir.Facts.{toZ-ofZ}
-use borrow.Author.Needs.{sfits-of}
 use Rattle.text.specs.Tokens.{tokens}
 use Rattle.problem.specs.declared.Refusal.the-variants.{Term as WrongTerm}
 use Rattle.deck.specs.Rules.{within, no}
@@ -16,14 +16,8 @@ use Rattle.deck.specs.Columns.{placed}
 use Rattle.deck.specs.Steps.{gotOf, rowGotOf, TermsStored}
 use Rattle.deck.proofs.Parts.{line-read, line-row, line-count, line-terms}
 use Rattle.deck.proofs.Storage.{length-blank}
-use borrow.Author.Needs.{needs}
 use Rattle.deck.proofs.rows.read_line.Statement.{statement}
 use Rattle.deck.proofs.rows.read_line.Tie as tie
-use Rattle.deck.proofs.rows.read_row.Reads as read-row-reads
-use Rattle.deck.proofs.rows.read_terms.Reads as read-terms-reads
-use Rattle.deck.proofs.rules.natural.Reads as natural-reads
-use Rattle.deck.proofs.rules.signed.Reads as signed-reads
-use Rattle.deck.proofs.rules.within.Reads as within-reads
 
 read-row-requires : tie.Need-read-row-requires
 read-row-requires c κs = search needs

@@ -1,30 +1,22 @@
 -- `deck::rows::read_row` meets its contract: the kind, and then a number that the kind allows. Assumes nothing.
-use mathlib.Core.Path.{_≡_, sym, ap, _∙_}
+use mathlib.Core.Path.{_≡_, ap, _∙_}
 use mathlib.Core.List.{[]}
-use Prim.Native.Nat.{ℕ, _≤_}
-use lib.IntN.{ℤ, pos, natAbs}
+use Prim.Native.Nat.{ℕ}
+use borrow.Author.Needs.{sfits-of, needs}
+use lib.IntN.{ℤ, pos}
 use lib.ListN.{drop}
 use mir.Syntax.{w64}
 use mir.Val.{toZ, ofZ}
 use mir.Facts.{toZ-ofZ}
-use borrow.Author.Needs.{sfits-of}
 use Rattle.text.specs.Tokens.{tokens}
 use Rattle.problem.specs.Limits.{maxRight}
-use Rattle.problem.specs.declared.Kind.{Kind}
 use Rattle.problem.specs.declared.Refusal.the-variants.{Coefficient}
 use Rattle.deck.specs.Rules.{within}
 use Rattle.deck.specs.Sections.{kindOf, leastNumber, rowOf}
 use Rattle.deck.specs.Steps.{gotOf, kindGotOf}
 use Rattle.deck.proofs.Parts.{row-read, row-kind, row-number, number-small}
-use borrow.Author.Needs.{needs}
 use Rattle.deck.proofs.rows.read_row.Statement.{statement}
 use Rattle.deck.proofs.rows.read_row.Tie as tie
-use Rattle.deck.proofs.rows.kind_of.Reads as kind-of-reads
-use Rattle.deck.proofs.rows.least_number.Reads as least-number-reads
-use Rattle.deck.proofs.rows.read_kind.Reads as read-kind-reads
-use Rattle.deck.proofs.rows.row_of.Reads as row-of-reads
-use Rattle.deck.proofs.rules.within.Reads as within-reads
-use Rattle.text.proofs.scanner.positive.Reads as positive-reads
 
 read-kind-requires : tie.Need-read-kind-requires
 read-kind-requires c κs = search needs

@@ -12,7 +12,6 @@ use mir.Val.{toZ, ofZ}
 use mir.Facts.{toZ-ofZ}
 use Rattle.text.specs.Tokens.{tokens}
 use Rattle.text.specs.Buffers.{written}
-use Rattle.text.proofs.Copying.{written-none}
 use Rattle.problem.specs.Kinds.{slackOf}
 use Rattle.problem.specs.declared.Refusal.the-variants.{Size}
 use Rattle.deck.specs.declared.Interval.{Interval}
@@ -21,15 +20,12 @@ use Rattle.deck.specs.Rules.{ok, no, within}
 use Rattle.deck.specs.Sections.{deckColumns, deckRows, Line, line, lines}
 use Rattle.deck.specs.Columns.{lowerOf, rightOf, slackColumn, slackColumns, coefficientRows}
 use Rattle.deck.specs.Steps.{gotOf, Lengths, OneStored}
+use Rattle.text.proofs.Copying.{written-none}
 use Rattle.deck.proofs.Numbers.{count-in}
 use Rattle.deck.proofs.Parts.{lines-more, lines-stop, lines-end, rows-count, rows-no}
 use Rattle.deck.proofs.Storage.{length-snoc, length-slack, slacks-more, columns-more, rights-more, table-more}
 use Rattle.deck.proofs.rows.read_rows.Statement.{statement}
 use Rattle.deck.proofs.rows.read_rows.Tie as tie
-use Rattle.deck.proofs.rows.next_row.Reads as next-row-reads
-use Rattle.deck.proofs.rules.natural.Reads as natural-reads
-use Rattle.deck.proofs.rules.signed.Reads as signed-reads
-use Rattle.deck.proofs.rules.within.Reads as within-reads
 
 record Sofar (s : List ℕ) (m : ℕ) (a : Cursor) (l₀ b₀ t₀ : List ℤ) (c : Cursor) (l b t : List ℤ) : Type 0 where
   most : m ≤ deckRows

@@ -1,25 +1,20 @@
 -- `deck::rows::read_term` meets its contract: the index, and then the coefficient. Assumes nothing.
-use mathlib.Core.Path.{_≡_, sym, ap, _∙_}
+use mathlib.Core.Path.{_≡_, ap, _∙_}
 use mathlib.Core.List.{[]}
 use Prim.Native.Nat.{_+_}
+use borrow.Author.Needs.{sfits-of, needs}
 use lib.IntN.{ℤ, pos, natAbs}
 use lib.ListN.{drop}
 use mir.Syntax.{w64}
 use mir.Val.{toZ, ofZ}
 use mir.Facts.{toZ-ofZ}
-use borrow.Author.Needs.{sfits-of}
 use Rattle.text.specs.Tokens.{tokens}
 use Rattle.problem.specs.declared.Refusal.the-variants.{Term as WrongTerm}
 use Rattle.deck.specs.Rules.{within}
 use Rattle.deck.specs.Steps.{gotOf}
 use Rattle.deck.proofs.Parts.{term-read, term-index, term-coefficient}
-use borrow.Author.Needs.{needs}
 use Rattle.deck.proofs.rows.read_term.Statement.{statement}
 use Rattle.deck.proofs.rows.read_term.Tie as tie
-use Rattle.deck.proofs.rows.read_coefficient.Reads as read-coefficient-reads
-use Rattle.deck.proofs.rules.natural.Reads as natural-reads
-use Rattle.deck.proofs.rules.signed.Reads as signed-reads
-use Rattle.deck.proofs.rules.within.Reads as within-reads
 
 add-signed : tie.Need-add-signed
 add-signed c = search needs

@@ -1,6 +1,6 @@
 -- `deck::rows::read_terms` meets its contract. The invariant: what is left to read, after the terms done, is what was to be read, and the line holds
 -- the terms done. Assumes nothing.
-use mathlib.Core.Path.{_≡_, refl, sym, _∙_, ap}
+use mathlib.Core.Path.{_≡_, sym, _∙_, ap}
 use mathlib.Core.List.{List, [], _∷_, _++_}
 use Prim.Native.Nat.{ℕ, _+_, _-_, _≤_, _<_}
 use native.Mathlib.Omega.{arith}
@@ -19,7 +19,6 @@ use Rattle.deck.proofs.Parts.{term-in, terms-more, terms-stop, terms-en
 use Rattle.deck.proofs.Storage.{placed-none, placed-more}
 use Rattle.deck.proofs.rows.read_terms.Statement.{statement}
 use Rattle.deck.proofs.rows.read_terms.Tie as tie
-use Rattle.deck.proofs.rows.read_term.Reads as read-term-reads
 
 record Sofar (s : List ℕ) (at k count : ℕ) (line₀ : List ℤ) (i p last : ℕ) (u : List ℤ) : Type 0 where
   small : i ≤ k

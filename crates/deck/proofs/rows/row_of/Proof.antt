@@ -1,12 +1,11 @@
 -- `deck::rows::row_of` meets its contract, kind by kind. Assumes nothing.
-use mathlib.Core.Path.{_≡_, refl, _∙_}
+use mathlib.Core.Path.{_≡_}
+use borrow.Author.Needs.{needs}
 use lib.IntN.{natAbs}
 use mir.Facts.{toZ-ofZ}
 use Rattle.deck.proofs.Parts.{row-even}
-use borrow.Author.Needs.{needs}
 use Rattle.deck.proofs.rows.row_of.Statement.{statement}
 use Rattle.deck.proofs.rows.row_of.Tie as tie
-use Rattle.deck.proofs.rows.half.Reads as half-reads
 
 returns : tie.Need-returns
 returns c = rw (c .if1 .taken, toZ-ofZ (c .before .fits .b))

@@ -1,5 +1,4 @@
 -- `deck::rows::slack_of` meets its contract, kind by kind. Assumes nothing.
-use mathlib.Core.Path.{refl}
 use borrow.Author.Needs.{needs}
 use Rattle.deck.proofs.rows.slack_of.Statement.{statement}
 use Rattle.deck.proofs.rows.slack_of.Tie as tie

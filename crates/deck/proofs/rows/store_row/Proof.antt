@@ -2,16 +2,14 @@
 use mathlib.Core.Path.{_≡_, ap, _∙_}
 use Prim.Native.Nat.{_*_}
 use native.Mathlib.Omega.{arith}
+use borrow.Author.Needs.{needs}
 use mir.Syntax.{w64}
 use mir.Val.{toZ, ofZ}
 use Rattle.text.specs.Buffers.{written}
-use Rattle.text.proofs.Copying.{written-one}
 use Rattle.deck.specs.Sections.{deckColumns}
-use borrow.Author.Needs.{needs}
+use Rattle.text.proofs.Copying.{written-one}
 use Rattle.deck.proofs.rows.store_row.Statement.{statement}
 use Rattle.deck.proofs.rows.store_row.Tie as tie
-use Rattle.deck.proofs.buffers.copy.Reads as copy-reads
-use Rattle.deck.proofs.rows.put_slack.Reads as put-slack-reads
 
 put-slack-requires : tie.Need-put-slack-requires
 put-slack-requires c κs = search needs

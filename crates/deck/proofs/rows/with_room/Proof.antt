@@ -2,14 +2,12 @@
 use mathlib.Core.Path.{_≡_, ap, _∙_}
 use native.Mathlib.Omega.{arith}
 use borrow.Author.Tests.{lt-ltb, le-ltb}
+use borrow.Author.Needs.{needs}
 use Rattle.problem.specs.Kinds.{slackCount}
 use Rattle.deck.specs.Sections.{kindOf}
 use Rattle.deck.proofs.Parts.{slack-few}
-use borrow.Author.Needs.{needs}
 use Rattle.deck.proofs.rows.with_room.Statement.{statement}
 use Rattle.deck.proofs.rows.with_room.Tie as tie
-use Rattle.deck.proofs.rows.kind_of.Reads as kind-of-reads
-use Rattle.problem.proofs.Kind.slacks.Reads as slacks-reads
 
 kind-of-requires : tie.Need-kind-of-requires
 kind-of-requires c κs = search needs

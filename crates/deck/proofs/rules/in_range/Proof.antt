@@ -1,12 +1,11 @@
 -- `deck::rules::in_range` meets its contract: the two tests are the definition's. Assumes nothing.
-use mathlib.Core.Path.{_≡_, sym, _∙_}
+use mathlib.Core.Path.{_≡_}
 use mathlib.Core.Bool.{true, false}
+use borrow.Author.Needs.{needs}
 use lib.Signed.{leZ}
 use mir.Facts.{toZ-ofZ}
-use borrow.Author.Needs.{needs}
 use Rattle.deck.proofs.rules.in_range.Statement.{statement}
 use Rattle.deck.proofs.rules.in_range.Tie as tie
-use Rattle.deck.proofs.rules.at_most.Reads as at-most-reads
 
 at-most-requires : tie.Need-at-most-requires
 at-most-requires c κs = search needs

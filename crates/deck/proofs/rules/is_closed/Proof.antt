@@ -1,10 +1,9 @@
 -- `deck::rules::is_closed` meets its contract: no token is next just where none is left. Assumes nothing.
 use mathlib.Core.Path.{sym, _∙_}
-use Rattle.deck.proofs.Numbers.{left-some, left-none}
 use borrow.Author.Needs.{needs}
+use Rattle.deck.proofs.Numbers.{left-some, left-none}
 use Rattle.deck.proofs.rules.is_closed.Statement.{statement}
 use Rattle.deck.proofs.rules.is_closed.Tie as tie
-use Rattle.text.proofs.scanner.next_token.Reads as next-token-reads
 
 next-token-requires : tie.Need-next-token-requires
 next-token-requires c κs = search needs

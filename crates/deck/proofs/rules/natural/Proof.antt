@@ -1,9 +1,8 @@
 -- `deck::rules::natural` meets its contract: it is the magnitude. Assumes nothing.
-use mir.Facts.{toZ-ofZ}
 use borrow.Author.Needs.{needs}
+use mir.Facts.{toZ-ofZ}
 use Rattle.deck.proofs.rules.natural.Statement.{statement}
 use Rattle.deck.proofs.rules.natural.Tie as tie
-use Rattle.whole.proofs.magnitude.Reads as magnitude-reads
 
 magnitude-requires : tie.Need-magnitude-requires
 magnitude-requires c κs = search needs

@@ -1,16 +1,12 @@
 -- `deck::rules::spanning` meets its contract: it is the range from −k to k. Assumes nothing.
 use mathlib.Core.Path.{_≡_, _∙_}
+use borrow.Author.Needs.{sfits-of, needs}
 use lib.IntN.{pos, negℤ}
 use mir.Syntax.{w64}
 use mir.Val.{toZ, ofZ}
 use mir.Facts.{toZ-ofZ}
-use borrow.Author.Needs.{sfits-of}
-use borrow.Author.Needs.{needs}
 use Rattle.deck.proofs.rules.spanning.Statement.{statement}
 use Rattle.deck.proofs.rules.spanning.Tie as tie
-use Rattle.deck.proofs.rules.within.Reads as within-reads
-use Rattle.text.proofs.scanner.negative.Reads as negative-reads
-use Rattle.text.proofs.scanner.positive.Reads as positive-reads
 
 negative-requires : tie.Need-negative-requires
 negative-requires c κs = search needs

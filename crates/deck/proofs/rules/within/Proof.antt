@@ -1,5 +1,6 @@
 -- `deck::rules::within` meets its contract: the next token is the first of those that are left. Assumes nothing.
 use mathlib.Core.Path.{_≡_, sym, _∙_, ap}
+use borrow.Author.Needs.{needs}
 use lib.IntN.{ℤ}
 use mir.Syntax.{w64}
 use mir.Val.{toZ, ofZ}
@@ -7,11 +8,8 @@ use mir.Facts.{toZ-ofZ}
 use Rattle.text.specs.declared.Next.the-variants.{Found}
 use Rattle.deck.specs.Steps.{gotOf}
 use Rattle.deck.proofs.Numbers.{within-number, within-bad, within-end}
-use borrow.Author.Needs.{needs}
 use Rattle.deck.proofs.rules.within.Statement.{statement}
 use Rattle.deck.proofs.rules.within.Tie as tie
-use Rattle.deck.proofs.rules.in_range.Reads as in-range-reads
-use Rattle.text.proofs.scanner.next_token.Reads as next-token-reads
 
 next-token-requires : tie.Need-next-token-requires
 next-token-requires c κs = search needs
