@@ -64,3 +64,17 @@ wrote-then {o} {p} {q} {at} {r} {e} {v} {w} a b h = record {
   next = rw (length-append v w) (omega (arith, a .next, b .next));
   text = b .text ∙ (rw (a .text, a .next) (written-then o at v w h));
 }
+
+-- two words in a buffer that has room for both: room for the first, then for the second, and then both are written
+pub room-first : (n at : ℕ) (v w : List ℕ) → at + length (v ++ w) ≤ n → at + length v ≤ n
+room-first n at v w h = omega (arith, length-append v w)
+
+pub room-next : {o p : List ℕ} {at r : ℕ} (v w : List ℕ) → Wrote o at v r p → at + length (v ++ w) ≤ length o → r + length w ≤ length p
+room-next {o} {p} {at} {r} v w a h =
+    let s = length-append v w in
+    let l : length p ≡ length o = wrote-length a (omega arith) in
+    omega (arith, a .next)
+
+pub wrote-both : {o p q : List ℕ} {at r e : ℕ} (v w : List ℕ) → Wrote o at v r p → Wrote p r w e q → at + length (v ++ w) ≤ length o
+    → Wrote o at (v ++ w) e q
+wrote-both v w a b h = wrote-then a b (omega (arith, length-append v w))
