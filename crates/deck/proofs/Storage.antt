@@ -17,7 +17,7 @@ use Rattle.deck.specs.Reader.{padded}
 use Rattle.deck.specs.Steps.{blank, compacted}
 use Rattle.deck.specs.declared.Interval.{Interval}
 use Rattle.deck.specs.declared.Term.{Term}
-use Rattle.text.proofs.Copying.{written-none, written-then, length-written, written-one}
+use Rattle.text.proofs.Copying.{written-then}
 use Rattle.problem.specs.Kinds as kinds
 
 pub map-two : {A B : Type 0} (f : A → B) (u v : List A) → map f (u ++ v) ≡ map f u ++ map f v
@@ -34,24 +34,6 @@ blank-is n = refl
 pub length-blank : (n : ℕ) → length (blank n) ≡ n
 unfolding blank
 length-blank n = length-replicate n (pos 0)
-
--- ---- a loop that fills a buffer from one place on: after some turns it is written up to i
-pub fill-none : {A : Type 0} (o : List A) (from : ℕ) (x : A) → o ≡ written o from (replicate (from - from) x)
-fill-none o from x = let z : from - from ≡ 0 = omega arith in rw z (written-none o from)
-
-pub fill-more : {A : Type 0} (o p : List A) (from i : ℕ) (x : A) → from ≤ i → i < length o → p ≡ written o from (replicate (i - from) x)
-    → set p i x ≡ written o from (replicate (i + 1 - from) x)
-fill-more o p from i x h l e =
-    let k = length-replicate (i - from) x in
-    let a : i ≡ from + length (replicate (i - from) x) = omega arith in
-    let b : written o from (replicate (i - from) x) ≡ p = sym e in
-    let w : length p ≡ length o = ap length e ∙ length-written o from (replicate (i - from) x) (omega arith) in
-    let q : i + 1 - from ≡ i - from + 1 = omega arith in
-    written-one p i x (omega arith) ∙
-    (ap (λ (j : ℕ). written p j (x ∷ [])) a ∙
-    (ap (λ (u : List _). written u (from + length (replicate (i - from) x)) (x ∷ [])) e ∙
-    (written-then o from (replicate (i - from) x) (x ∷ []) (omega arith) ∙
-    ap (written o from) (replicate-append-replicate (i - from) 1 x ∙ ap (λ (j : ℕ). replicate j x) (sym q)))))
 
 -- ---- a buffer of 0 that is filled from the front
 padded-more : (size : ℕ) (u : List ℤ) (x : ℤ) → length u < size → set (padded size u) (length u) x ≡ padded size (u ++ (x ∷ []))

@@ -17,13 +17,15 @@ use Rattle.problem.specs.declared.Refusal.{Refusal}
 use Rattle.problem.specs.declared.Refusal.the-variants.{Length, Layout}
 use Rattle.deck.specs.Rules.{ok, no, closed}
 use Rattle.deck.specs.Sections.{deckColumns, deckRows, maxText, Deck, Line, deck, readDeck}
-use Rattle.deck.specs.Columns.{lowerOf, upperOf, goalOf, rightOf, slackColumns, coefficientRows, posed}
-use Rattle.deck.specs.Reader.{DeckBuffers, lengthsFit, padded, turnedBack, accepted, read}
+use Rattle.deck.specs.Columns.{lowerOf, upperOf, goalOf, rightOf, slackColumns, columnsOf, coefficientRows, posed}
+use Rattle.deck.specs.Reader.{DeckBuffers, ReadDone, lengthsFit, padded, turnedBack, accepted, read}
+use Rattle.deck.specs.declared.Reading.{Reading}
+use Rattle.deck.specs.declared.Reading.the-variants.{Read, Refused}
 use Rattle.deck.specs.Steps.{blank, noneLeft, intervalSection, rowSection, IntervalsStored, LinesStored, DeckStored, compacted}
 use Rattle.deck.specs.declared.Interval.{Interval}
 use Rattle.deck.specs.declared.Cursor.{Cursor}
 use Rattle.text.proofs.Copying.{written-all}
-use Rattle.deck.proofs.Numbers.{closed-is}
+use Rattle.deck.proofs.Numbers.{closed-is, closed-not}
 use Rattle.deck.proofs.Parts.{deck-read}
 use Rattle.deck.proofs.Storage.{map-two, padded-none, padded-written, padded-zeros, slacks-upper, slacks-goal, length-rows, compacted-is, blank-is}
 
@@ -48,10 +50,13 @@ from-blank size o u w h e f = f ∙ (rw (e, padded-none size) (padded-written si
 
 module _ (s : List ℕ) (p c : Cursor) (l u g l' u' b₀ t₀ b t : List ℤ) (i : IntervalsStored s (intervalSection (tokens s)) p l u g)
     (w : LinesStored s (rowSection (p .intervals) (tokens (drop (p .at) s))) (p .intervals) c l b₀ t₀ l' b t) where
-  pub sections : deck (tokens s) ≡ closed (record { intervals = i .is; lines = w .ls }) (tokens (drop (c .at) s))
+  sections : deck (tokens s) ≡ closed (record { intervals = i .is; lines = w .ls }) (tokens (drop (c .at) s))
   sections =
       let r : rowSection (length (i .is)) (tokens (drop (p .at) s)) ≡ ok (w .ls) (tokens (drop (c .at) s)) = rw (i .count) at (w .read) in
       deck-read (tokens s) (tokens (drop (p .at) s)) (tokens (drop (c .at) s)) (i .is) (w .ls) (i .read) r
+
+  pub left-over : noneLeft (tokens (drop (c .at) s)) ≡ false → deck (tokens s) ≡ no Layout
+  left-over h = sections ∙ closed-not (record { intervals = i .is; lines = w .ls }) (tokens (drop (c .at) s)) h
 
   pub stored : b₀ ≡ blank deckRows → t₀ ≡ blank (deckRows * deckColumns) → noneLeft (tokens (drop (c .at) s)) ≡ true
       → u' ≡ written u (c .intervals) (replicate (c .columns - c .intervals) (pos maxBound)) → DeckStored (deck (tokens s)) c l' u' g b t
@@ -96,6 +101,30 @@ module _ (s : List ℕ) (B : DeckBuffers) where
   unfolding read readDeck
   read-not why h l e = rw (h, le-ltb maxText (length s) l) (rw e)
 
+-- what is to be shown of a call, from what it is by the definition
+pub record Answered (s : List ℕ) (B : DeckBuffers) (r : Reading) (c b l u g : List ℤ) : Type 0 where
+  pub result : r ≡ read s B .reading
+  pub coefficients : c ≡ read s B .buffers .coefficients
+  pub rights : b ≡ read s B .buffers .rights
+  pub lower : l ≡ read s B .buffers .lower
+  pub upper : u ≡ read s B .buffers .upper
+  pub goals : g ≡ read s B .buffers .goals
+
+pub answered : (s : List ℕ) (B : DeckBuffers) (D : ReadDone) → read s B ≡ D
+    → Answered s B (D .reading) (D .buffers .coefficients) (D .buffers .rights) (D .buffers .lower) (D .buffers .upper) (D .buffers .goals)
+answered s B D e = record {
+  result = ap (λ (x : ReadDone). x .reading) (sym e);
+  coefficients = ap (λ (x : ReadDone). x .buffers .coefficients) (sym e);
+  rights = ap (λ (x : ReadDone). x .buffers .rights) (sym e);
+  lower = ap (λ (x : ReadDone). x .buffers .lower) (sym e);
+  upper = ap (λ (x : ReadDone). x .buffers .upper) (sym e);
+  goals = ap (λ (x : ReadDone). x .buffers .goals) (sym e);
+}
+
+pub refused : (s : List ℕ) (B : DeckBuffers) (why : Refusal) → read s B ≡ turnedBack why B
+    → Answered s B (Refused why) (B .coefficients) (B .rights) (B .lower) (B .upper) (B .goals)
+refused s B why e = answered s B (turnedBack why B) e
+
 -- the lengths that fit
 pub record Largest (B : DeckBuffers) : Type 0 where
   pub coefficients : length (B .coefficients) ≡ deckRows * deckColumns
@@ -123,11 +152,11 @@ largest B h =
     }
 
 -- a list of the largest size, copied out
-pub list-is : (size : ℕ) (o o' w p : List ℤ) → length o ≡ size → length w ≡ size → o' ≡ written o 0 w → w ≡ p → o' ≡ p
+list-is : (size : ℕ) (o o' w p : List ℤ) → length o ≡ size → length w ≡ size → o' ≡ written o 0 w → w ≡ p → o' ≡ p
 list-is size o o' w p a b e f = e ∙ (written-all o w (b ∙ sym a) ∙ f)
 
 -- the coefficients: cleared, and then the first n of each row
-pub table-is : (o o₁ o₂ t : List ℤ) (n m c : ℕ) (ls : List Line) → length o ≡ deckRows * deckColumns → n ≤ deckColumns → m ≤ deckRows → m ≡ length ls
+table-is : (o o₁ o₂ t : List ℤ) (n m c : ℕ) (ls : List Line) → length o ≡ deckRows * deckColumns → n ≤ deckColumns → m ≤ deckRows → m ≡ length ls
     → o₁ ≡ written o 0 (replicate (length o - 0) (pos 0)) → o₂ ≡ written o₁ 0 (compacted n m 0 t)
     → t ≡ padded (deckRows * deckColumns) (coefficientRows deckColumns c ls) → o₂ ≡ padded (deckRows * deckColumns) (coefficientRows n c ls)
 table-is o o₁ o₂ t n m c ls a h k q e f x =
@@ -140,3 +169,27 @@ table-is o o₁ o₂ t n m c ls a h k q e f x =
   where
     few-rows : (n m : ℕ) → n ≤ deckColumns → m ≤ deckRows → m * n ≤ deckRows * deckColumns
     few-rows n m h k = mul-le-mul k h
+
+-- an accepted text, whose buffers l to t were copied out into lent ones of the largest size
+pub accepting : (s : List ℕ) (B : DeckBuffers) (c : Cursor) (l u g b t o₁ c' b' l' u' g' : List ℤ) → lengthsFit B ≡ true → length s ≤ maxText
+    → DeckStored (deck (tokens s)) c l u g b t → length l ≡ deckColumns → length u ≡ deckColumns → length g ≡ deckColumns → length b ≡ deckRows
+    → o₁ ≡ written (B .coefficients) 0 (replicate (length (B .coefficients) - 0) (pos 0)) → c' ≡ written o₁ 0 (compacted (c .columns) (c .rows) 0 t)
+    → b' ≡ written (B .rights) 0 b → l' ≡ written (B .lower) 0 l → u' ≡ written (B .upper) 0 u → g' ≡ written (B .goals) 0 g
+    → Answered s B (Read (c .columns) (c .rows)) c' b' l' u' g'
+unfolding posed
+accepting s B c l u g b t o₁ c' b' l' u' g' f k st hl hu hg hb e₁ e₂ eb el eu eg =
+    let z = largest B f in
+    let a = answered s B (accepted (posed 0 (st .deck))) (read-is s B (st .deck) f k (st .read)) in
+    let n : Read (c .columns) (c .rows) ≡ Read (length (columnsOf (st .deck))) (length (st .deck .lines)) =
+    ap (λ (j : ℕ). Read j (c .rows)) (st .columns) ∙ ap (Read (length (columnsOf (st .deck)))) (st .rows) in
+    let t' : c' ≡ padded (deckRows * deckColumns) (coefficientRows (length (columnsOf (st .deck))) (length (st .deck .intervals)) (st .deck .lines)) =
+    table-is (B .coefficients) o₁ c' t (c .columns) (c .rows) (length (st .deck .intervals)) (st .deck .lines) (z .coefficients) (st .few) (st .few-rows) (st .rows) e₁ e₂ (st .table-is) ∙
+    ap (λ (j : ℕ). padded (deckRows * deckColumns) (coefficientRows j (length (st .deck .intervals)) (st .deck .lines))) (st .columns) in
+    record {
+      result = n ∙ a .result;
+      coefficients = t' ∙ a .coefficients;
+      rights = list-is deckRows (B .rights) b' b _ (z .rights) hb eb (st .rights-is) ∙ a .rights;
+      lower = list-is deckColumns (B .lower) l' l _ (z .lower) hl el (st .lower-is) ∙ a .lower;
+      upper = list-is deckColumns (B .upper) u' u _ (z .upper) hu eu (st .upper-is) ∙ a .upper;
+      goals = list-is deckColumns (B .goals) g' g _ (z .goals) hg eg (st .goals-is) ∙ a .goals;
+    }

@@ -1,8 +1,8 @@
 // The text reader. A section takes the cursor that the one before left, and hands one on.
-mod buffers;
 mod intervals;
 mod rows;
 mod rules;
+mod tables;
 
 use problem::Problem;
 use problem::Refusal;
@@ -133,7 +133,12 @@ fn scan(
                     let from = c.intervals;
                     let to = c.columns;
                     if rules::is_closed(s, c.at) {
-                        buffers::fill(upper, from, to, text::scanner::positive(Problem::MAX_BOUND));
+                        text::buffers::fill(
+                            upper,
+                            from,
+                            to,
+                            text::scanner::positive(Problem::MAX_BOUND),
+                        );
                         Section::Read(c)
                     } else {
                         Section::Refused(Refusal::Layout)
@@ -184,13 +189,13 @@ pub fn read_deck(
         Section::Read(c) => {
             let n = c.columns;
             let m = c.rows;
-            buffers::copy(lower, 0, &l);
-            buffers::copy(upper, 0, &u);
-            buffers::copy(goals, 0, &g);
-            buffers::copy(rights, 0, &b);
+            text::buffers::copy(lower, 0, &l);
+            text::buffers::copy(upper, 0, &u);
+            text::buffers::copy(goals, 0, &g);
+            text::buffers::copy(rights, 0, &b);
             let size = coefficients.len();
-            buffers::fill(coefficients, 0, size, 0);
-            buffers::compact(&t, n, m, coefficients);
+            text::buffers::fill(coefficients, 0, size, 0);
+            tables::compact(&t, n, m, coefficients);
             Reading::Read(n, m)
         }
         Section::Refused(why) => Reading::Refused(why),

@@ -34,8 +34,8 @@ fn put_signed(out: &mut [u8], at: usize, v: i64) -> usize
     requires { ⌜ at + length (field (integer v)) ≤ length (now out) ⌝ }
     ensures { λ r. ⌜ Wrote (now (out .entry)) at (field (integer v)) r (now (out .exit)) ⌝ }
 {
-    let e = put(out, at, b" ");
-    put_integer(out, e, v)
+    let start = put(out, at, b" ");
+    put_integer(out, start, v)
 }
 
 // A verdict's word with its two counts.

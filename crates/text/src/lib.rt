@@ -1,4 +1,5 @@
-// The bytes of texts and listings: numbers are read by `scanner` and written by `decimals`.
+// The bytes of texts and listings: numbers are read by `scanner` and written by `decimals`. Lists are copied by `buffers`.
+pub mod buffers;
 pub mod decimals;
 pub mod scanner;
 

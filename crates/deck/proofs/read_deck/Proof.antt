@@ -1,18 +1,16 @@
 -- `deck::read_deck` meets its contract: nothing is written before the whole text is accepted, and then the sections' buffers are copied out. Assumes nothing.
 use mathlib.Core.Path.{_≡_, refl, sym, _∙_}
-use mathlib.Core.Bool.{true}
+use mathlib.Core.Bool.{true, false}
 use native.Mathlib.Omega.{arith}
 use borrow.Author.Tests.{not-true, not-false}
 use borrow.Author.Needs.{needs}
-use lib.ListN.{length}
 use Rattle.text.specs.Tokens.{tokens}
-use Rattle.deck.specs.declared.Cursor.{Cursor}
 use Rattle.deck.specs.Rules.{no}
-use Rattle.deck.specs.Sections.{deckColumns, deckRows, deck}
-use Rattle.deck.specs.Columns.{posed}
+use Rattle.deck.specs.Sections.{deck}
 use Rattle.deck.specs.Reader.{deckBuffers, DeckBuffers, lengthsFit}
 use Rattle.deck.specs.Steps.{blank, DeckStored}
-use Rattle.deck.proofs.Whole.{read-short, read-long, read-is, read-not, Largest, largest, list-is, table-is}
+use Rattle.problem.specs.declared.Refusal.the-variants.{Length, Layout}
+use Rattle.deck.proofs.Whole.{read-short, read-long, read-not, Largest, largest, refused, accepting}
 use Rattle.deck.proofs.read_deck.Statement.{statement}
 use Rattle.deck.proofs.read_deck.Tie as tie
 
@@ -22,16 +20,20 @@ lengths-fit-requires c κs = search needs
 returns : tie.Need-returns
 returns c =
     let x = c .before .before .before .args in
+    let s = x .text .now in
     let B : DeckBuffers = deckBuffers (x .coefficients .now) (x .rights .now) (x .lower .now) (x .upper .now) (x .goals .now) in
-    let a = read-short (x .text .now) B (sym (c .before .lengths-fit .ensures) ∙ not-true _ (c .if1 .taken)) in
-    rw a (refl, (refl, (refl, (refl, (refl, refl)))))
+    let f : lengthsFit B ≡ false = sym (c .before .lengths-fit .ensures) ∙ not-true (c .before .lengths-fit .result) (c .if1 .taken) in
+    let a = refused s B Length (read-short s B f) in
+    (a .result, (a .coefficients, (a .rights, (a .lower, (a .upper, a .goals)))))
 
 returns-2 : tie.Need-returns-2
 returns-2 c =
     let x = c .before .before .before .before .args in
+    let s = x .text .now in
     let B : DeckBuffers = deckBuffers (x .coefficients .now) (x .rights .now) (x .lower .now) (x .upper .now) (x .goals .now) in
-    let a = read-long (x .text .now) B (sym (c .before .before .lengths-fit .ensures) ∙ not-false _ (c .before .if1 .left)) (c .if2 .taken) in
-    rw a (refl, (refl, (refl, (refl, (refl, refl)))))
+    let f : lengthsFit B ≡ true = sym (c .before .before .lengths-fit .ensures) ∙ not-false (c .before .before .lengths-fit .result) (c .before .if1 .left) in
+    let a = refused s B Layout (read-long s B f (c .if2 .taken)) in
+    (a .result, (a .coefficients, (a .rights, (a .lower, (a .upper, a .goals)))))
 
 slice-aggregate-scan : tie.Need-slice-aggregate-scan
 slice-aggregate-scan c = search needs
@@ -129,42 +131,25 @@ same-length-5 : tie.Need-same-length-5
 same-length-5 c = search needs
 
 returns-3 : tie.Need-returns-3
-unfolding posed
 returns-3 c =
     let x = c .before .before .before .before .before .before .before .before .before .before .before .before .before .before .before .before .before .before .before .before .before .before .before .before .before .before .before .before .before .before .before .before .before .before .before .before .before .before .before .before .before .args in
     let s = x .text .now in
     let v = c .before .before .before .before .before .before .before .before .before .before .before .before .before .before .before .before .before .before .before .before .before .before .before .before .before .before .before .before .before .before .before .scan in
-    let r : Cursor = c .before .before .before .before .before .before .before .before .before .before .before .before .before .before .before .before .before .before .before .before .before .before .before .before .d .given .0 .0 in
     let B : DeckBuffers = deckBuffers (x .coefficients .now) (x .rights .now) (x .lower .now) (x .upper .now) (x .goals .now) in
-    let f : lengthsFit B ≡ true = sym (c .before .before .before .before .before .before .before .before .before .before .before .before .before .before .before .before .before .before .before .before .before .before .before .before .before .before .before .before .before .before .before .before .before .before .before .before .before .before .before .lengths-fit .ensures) ∙ not-false _ (c .before .before .before .before .before .before .before .before .before .before .before .before .before .before .before .before .before .before .before .before .before .before .before .before .before .before .before .before .before .before .before .before .before .before .before .before .before .before .if1 .left) in
-    let z : Largest B = largest B f in
-    let st : DeckStored (deck (tokens s)) r (v .last .1 .0) (v .last .1 .1 .0) (v .last .1 .1 .1 .0) (v .last .1 .1 .1 .1 .0) (v .last .1 .1 .1 .1 .1 .0) = rw (c .before .before .before .before .before .before .before .before .before .before .before .before .before .before .before .before .before .before .before .before .before .before .before .before .d .given .1) at (v .ensures) in
-    let a = read-is s B (st .deck) f (c .before .before .before .before .before .before .before .before .before .before .before .before .before .before .before .before .before .before .before .before .before .before .before .before .before .before .before .before .before .before .before .before .before .before .before .before .before .if2 .left) (st .read) in
-    rw (a, ← st .columns, ← st .rows) (
-      refl,
-      (
-        table-is (x .coefficients .now) (c .before .before .before .before .before .fill .last .0) (c .before .compact .last .1 .1 .1 .0) (v .last .1 .1 .1 .1 .1 .0) (r .columns) (r .rows) (length (st .deck .intervals)) (st .deck .lines) (z .coefficients) (st .few) (st .few-rows) (st .rows) (c .before .before .before .before .before .fill .ensures) (c .before .compact .ensures) (st .table-is),
-        (
-          list-is deckRows (x .rights .now) _ (v .last .1 .1 .1 .1 .0) _ (z .rights) (v .kept .1 .1 .1 .1 .0) (c .before .before .before .before .before .before .before .before .copy4 .ensures) (st .rights-is),
-          (
-            list-is deckColumns (x .lower .now) _ (v .last .1 .0) _ (z .lower) (v .kept .1 .0) (c .before .before .before .before .before .before .before .before .before .before .before .before .before .before .before .before .before .before .before .before .copy .ensures) (st .lower-is),
-            (
-              list-is deckColumns (x .upper .now) _ (v .last .1 .1 .0) _ (z .upper) (v .kept .1 .1 .0) (c .before .before .before .before .before .before .before .before .before .before .before .before .before .before .before .before .copy2 .ensures) (st .upper-is),
-              list-is deckColumns (x .goals .now) _ (v .last .1 .1 .1 .0) _ (z .goals) (v .kept .1 .1 .1 .0) (c .before .before .before .before .before .before .before .before .before .before .before .before .copy3 .ensures) (st .goals-is),
-            ),
-          ),
-        ),
-      ),
-    )
+    let f : lengthsFit B ≡ true = sym (c .before .before .before .before .before .before .before .before .before .before .before .before .before .before .before .before .before .before .before .before .before .before .before .before .before .before .before .before .before .before .before .before .before .before .before .before .before .before .before .lengths-fit .ensures) ∙ not-false (c .before .before .before .before .before .before .before .before .before .before .before .before .before .before .before .before .before .before .before .before .before .before .before .before .before .before .before .before .before .before .before .before .before .before .before .before .before .before .before .lengths-fit .result) (c .before .before .before .before .before .before .before .before .before .before .before .before .before .before .before .before .before .before .before .before .before .before .before .before .before .before .before .before .before .before .before .before .before .before .before .before .before .before .if1 .left) in
+    let st : DeckStored (deck (tokens s)) (c .before .before .before .before .before .before .before .before .before .before .before .before .before .before .before .before .before .before .before .before .before .before .before .before .d .given .0 .0) (v .last .1 .0) (v .last .1 .1 .0) (v .last .1 .1 .1 .0) (v .last .1 .1 .1 .1 .0) (v .last .1 .1 .1 .1 .1 .0) = rw (c .before .before .before .before .before .before .before .before .before .before .before .before .before .before .before .before .before .before .before .before .before .before .before .before .d .given .1) at (v .ensures) in
+    let a = accepting s B (c .before .before .before .before .before .before .before .before .before .before .before .before .before .before .before .before .before .before .before .before .before .before .before .before .d .given .0 .0) (v .last .1 .0) (v .last .1 .1 .0) (v .last .1 .1 .1 .0) (v .last .1 .1 .1 .1 .0) (v .last .1 .1 .1 .1 .1 .0) (c .before .before .before .before .before .fill .last .0) (c .before .compact .last .1 .1 .1 .0) (c .before .before .before .before .before .before .before .before .copy4 .last .0) (c .before .before .before .before .before .before .before .before .before .before .before .before .before .before .before .before .before .before .before .before .copy .last .0) (c .before .before .before .before .before .before .before .before .before .before .before .before .before .before .before .before .copy2 .last .0) (c .before .before .before .before .before .before .before .before .before .before .before .before .copy3 .last .0) f (c .before .before .before .before .before .before .before .before .before .before .before .before .before .before .before .before .before .before .before .before .before .before .before .before .before .before .before .before .before .before .before .before .before .before .before .before .before .if2 .left) st (v .kept .1 .0) (v .kept .1 .1 .0) (v .kept .1 .1 .1 .0) (v .kept .1 .1 .1 .1 .0) (c .before .before .before .before .before .fill .ensures) (c .before .compact .ensures) (c .before .before .before .before .before .before .before .before .copy4 .ensures) (c .before .before .before .before .before .before .before .before .before .before .before .before .before .before .before .before .before .before .before .before .copy .ensures) (c .before .before .before .before .before .before .before .before .before .before .before .before .before .before .before .before .copy2 .ensures) (c .before .before .before .before .before .before .before .before .before .before .before .before .copy3 .ensures) in
+    (a .result, (a .coefficients, (a .rights, (a .lower, (a .upper, a .goals)))))
 
 returns-4 : tie.Need-returns-4
 returns-4 c =
     let x = c .before .before .before .before .before .before .before .before .before .before .before .before .before .before .before .before .before .before .args in
     let s = x .text .now in
     let B : DeckBuffers = deckBuffers (x .coefficients .now) (x .rights .now) (x .lower .now) (x .upper .now) (x .goals .now) in
+    let f : lengthsFit B ≡ true = sym (c .before .before .before .before .before .before .before .before .before .before .before .before .before .before .before .before .lengths-fit .ensures) ∙ not-false (c .before .before .before .before .before .before .before .before .before .before .before .before .before .before .before .before .lengths-fit .result) (c .before .before .before .before .before .before .before .before .before .before .before .before .before .before .before .if1 .left) in
     let d : deck (tokens s) ≡ no (c .before .d2 .given .0 .0) = rw (c .before .d2 .given .1) at (c .before .before .before .before .before .before .before .before .scan .ensures) in
-    let a = read-not s B _ (sym (c .before .before .before .before .before .before .before .before .before .before .before .before .before .before .before .before .lengths-fit .ensures) ∙ not-false _ (c .before .before .before .before .before .before .before .before .before .before .before .before .before .before .before .if1 .left)) (c .before .before .before .before .before .before .before .before .before .before .before .before .before .before .if2 .left) d in
-    rw a (refl, (refl, (refl, (refl, (refl, refl)))))
+    let a = refused s B (c .before .d2 .given .0 .0) (read-not s B (c .before .d2 .given .0 .0) f (c .before .before .before .before .before .before .before .before .before .before .before .before .before .before .if2 .left) d) in
+    (a .result, (a .coefficients, (a .rights, (a .lower, (a .upper, a .goals)))))
 
 pub read-deck-spec : {M : Type 1} → statement M
 read-deck-spec =

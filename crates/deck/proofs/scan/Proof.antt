@@ -14,10 +14,9 @@ use Rattle.problem.specs.Limits.{maxBound}
 use Rattle.deck.specs.Rules.{no}
 use Rattle.deck.specs.Sections.{deckColumns, deckRows}
 use Rattle.deck.specs.Steps.{intervalSection, rowSection, IntervalsStored, LinesStored}
-use Rattle.deck.proofs.Numbers.{closed-not}
 use Rattle.deck.proofs.Parts.{deck-intervals, deck-rows}
 use Rattle.deck.proofs.Storage.{length-blank}
-use Rattle.deck.proofs.Whole.{sections, stored}
+use Rattle.deck.proofs.Whole.{left-over, stored}
 use Rattle.deck.proofs.scan.Statement.{statement}
 use Rattle.deck.proofs.scan.Tie as tie
 
@@ -90,7 +89,7 @@ returns c =
     let i : IntervalsStored s (intervalSection (tokens s)) (c .before .before .before .before .before .before .before .before .before .before .before .before .before .before .before .before .before .a .given .0 .0) (v .last .1 .1 .0) (v .last .1 .1 .1 .0) (v .last .1 .1 .1 .1 .0) = rw (c .before .before .before .before .before .before .before .before .before .before .before .before .before .before .before .before .before .a .given .1) at (v .ensures) in
     let w : LinesStored s (rowSection (c .before .before .before .before .before .before .before .before .before .before .before .before .before .before .before .before .before .a .given .0 .0 .intervals) (tokens (drop (c .before .before .before .before .before .before .before .before .before .before .before .before .before .before .before .before .before .a .given .0 .0 .at) s))) (c .before .before .before .before .before .before .before .before .before .before .before .before .before .before .before .before .before .a .given .0 .0 .intervals) (c .before .before .before .before .before .before .before .b .given .0 .0) (v .last .1 .1 .0) (x .rights .now) (x .table .now) (r .last .1 .1 .0) (r .last .1 .1 .1 .0) (r .last .1 .1 .1 .1 .0) = rw (c .before .before .before .before .before .before .before .b .given .1) at (r .ensures) in
     let m : toZ w64 (ofZ w64 (c .before .before .positive .result)) ≡ pos maxBound = toZ-ofZ (sfits-of (c .before .before .positive .ok)) ∙ c .before .before .positive .ensures in
-    stored s (c .before .before .before .before .before .before .before .before .before .before .before .before .before .before .before .before .before .a .given .0 .0) (c .before .before .before .before .before .before .before .b .given .0 .0) _ _ _ _ _ _ _ _ _ i w (c .before .before .before .before .before .before .before .before .before .before .before .before .before .before .before .before .before .before .before .before .before .before .before .before .before .before .before .pre .1 .1 .1 .0) (c .before .before .before .before .before .before .before .before .before .before .before .before .before .before .before .before .before .before .before .before .before .before .before .before .before .before .before .pre .1 .1 .1 .1) (sym (c .before .before .before .before .before .is-closed .ensures) ∙ c .before .before .before .before .if1 .taken) (rw m at (c .before .fill .ensures))
+    stored s (c .before .before .before .before .before .before .before .before .before .before .before .before .before .before .before .before .before .a .given .0 .0) (c .before .before .before .before .before .before .before .b .given .0 .0) (v .last .1 .1 .0) (v .last .1 .1 .1 .0) (v .last .1 .1 .1 .1 .0) (r .last .1 .1 .0) (c .before .fill .last .0) (x .rights .now) (x .table .now) (r .last .1 .1 .1 .0) (r .last .1 .1 .1 .1 .0) i w (c .before .before .before .before .before .before .before .before .before .before .before .before .before .before .before .before .before .before .before .before .before .before .before .before .before .before .before .pre .1 .1 .1 .0) (c .before .before .before .before .before .before .before .before .before .before .before .before .before .before .before .before .before .before .before .before .before .before .before .before .before .before .before .pre .1 .1 .1 .1) (sym (c .before .before .before .before .before .is-closed .ensures) ∙ c .before .before .before .before .if1 .taken) (rw m at (c .before .fill .ensures))
 
 same-length-6 : tie.Need-same-length-6
 same-length-6 c = search needs
@@ -115,7 +114,7 @@ returns-2 c =
     let r = c .before .before .before .before .before .before .before .before .read-rows in
     let i : IntervalsStored s (intervalSection (tokens s)) (c .before .before .before .before .before .before .before .before .before .before .before .before .before .a .given .0 .0) (v .last .1 .1 .0) (v .last .1 .1 .1 .0) (v .last .1 .1 .1 .1 .0) = rw (c .before .before .before .before .before .before .before .before .before .before .before .before .before .a .given .1) at (v .ensures) in
     let w : LinesStored s (rowSection (c .before .before .before .before .before .before .before .before .before .before .before .before .before .a .given .0 .0 .intervals) (tokens (drop (c .before .before .before .before .before .before .before .before .before .before .before .before .before .a .given .0 .0 .at) s))) (c .before .before .before .before .before .before .before .before .before .before .before .before .before .a .given .0 .0 .intervals) (c .before .before .before .b .given .0 .0) (v .last .1 .1 .0) (x .rights .now) (x .table .now) (r .last .1 .1 .0) (r .last .1 .1 .1 .0) (r .last .1 .1 .1 .1 .0) = rw (c .before .before .before .b .given .1) at (r .ensures) in
-    sections s (c .before .before .before .before .before .before .before .before .before .before .before .before .before .a .given .0 .0) (c .before .before .before .b .given .0 .0) _ _ _ _ (x .upper .now) _ _ _ _ i w ∙ closed-not _ (tokens (drop (c .before .before .before .b .given .0 .0 .at) s)) (sym (c .before .is-closed .ensures) ∙ c .if1 .left)
+    left-over s (c .before .before .before .before .before .before .before .before .before .before .before .before .before .a .given .0 .0) (c .before .before .before .b .given .0 .0) (v .last .1 .1 .0) (v .last .1 .1 .1 .0) (v .last .1 .1 .1 .1 .0) (r .last .1 .1 .0) (x .upper .now) (x .rights .now) (x .table .now) (r .last .1 .1 .1 .0) (r .last .1 .1 .1 .1 .0) i w (sym (c .before .is-closed .ensures) ∙ c .if1 .left)
 
 same-length-11 : tie.Need-same-length-11
 same-length-11 c = search needs

@@ -1,4 +1,4 @@
--- `deck::buffers::fill` meets its contract. The invariant: the numbers up to i are set. Assumes nothing.
+-- `text::buffers::fill` meets its contract. The invariant: the numbers up to i are set. Assumes nothing.
 use mathlib.Core.Path.{_≡_, refl, _∙_}
 use Prim.Native.Nat.{_-_, _≤_}
 use native.Mathlib.Omega.{arith}
@@ -7,10 +7,10 @@ use lib.ListN.{length, replicate, length-set}
 use mir.Syntax.{w64}
 use mir.Val.{toZ}
 use mir.Facts.{toZ-ofZ}
 use Rattle.text.specs.Buffers.{written}
-use Rattle.deck.proofs.Storage.{fill-none, fill-more}
-use Rattle.deck.proofs.buffers.fill.Statement.{statement}
-use Rattle.deck.proofs.buffers.fill.Tie as tie
+use Rattle.text.proofs.Copying.{fill-none, fill-more}
+use Rattle.text.proofs.buffers.fill.Statement.{statement}
+use Rattle.text.proofs.buffers.fill.Tie as tie
 
 abbrev Inv-loop : tie.InvT-loop
 Inv-loop out₀ from to value i₀ out i = (length out ≡ length out₀) × (from ≤ i) × (i ≤ to) × (out ≡ written out₀ from (replicate (i - from) (toZ w64 value)))

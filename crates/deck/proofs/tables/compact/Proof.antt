@@ -1,4 +1,4 @@
--- `deck::buffers::compact` meets its contract. The invariant: what is copied, with what is to come, is all. Assumes nothing.
+-- `deck::tables::compact` meets its contract. The invariant: what is copied, with what is to come, is all. Assumes nothing.
 use mathlib.Core.Path.{_≡_, refl, sym, ap, _∙_}
 use mathlib.Core.List.{List, [], _++_, append-nil, append-assoc}
 use Prim.Native.Nat.{ℕ, _+_, _-_, _*_, _≤_, _<_}
@@ -11,8 +11,8 @@ use Rattle.deck.specs.Sections.{deckColumns, deckRows}
 use Rattle.deck.specs.Steps.{compacted}
 use Rattle.text.proofs.Copying.{written-none, written-then}
 use Rattle.deck.proofs.Storage.{compacted-more, compacted-end}
-use Rattle.deck.proofs.buffers.compact.Statement.{statement}
-use Rattle.deck.proofs.buffers.compact.Tie as tie
+use Rattle.deck.proofs.tables.compact.Statement.{statement}
+use Rattle.deck.proofs.tables.compact.Tie as tie
 
 record Sofar (t : List ℤ) (n m : ℕ) (o : List ℤ) (i to : ℕ) (out : List ℤ) : Type 0 where
   small : i ≤ m

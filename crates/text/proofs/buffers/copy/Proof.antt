@@ -1,4 +1,4 @@
--- `deck::buffers::copy` meets its contract. The invariant: the first i numbers are copied in. Assumes nothing.
+-- `text::buffers::copy` meets its contract. The invariant: the first i numbers are copied in. Assumes nothing.
 use mathlib.Core.Path.{_≡_, refl, _∙_}
 use Prim.Native.Nat.{_+_, _-_, _≤_}
 use native.Mathlib.Omega.{arith}
@@ -8,9 +8,9 @@ use lib.ListN.{length, getD, length-set}
 use lib.Seq.{paste}
 use mir.Syntax.{w64}
 use mir.Val.{toZ, ofZ}
 use Rattle.text.proofs.Copying.{copied-none, copied-more, copied-all}
-use Rattle.deck.proofs.buffers.copy.Statement.{statement}
-use Rattle.deck.proofs.buffers.copy.Tie as tie
+use Rattle.text.proofs.buffers.copy.Statement.{statement}
+use Rattle.text.proofs.buffers.copy.Tie as tie
 
 abbrev Inv-loop : tie.InvT-loop
 Inv-loop out₀ at numbers i₀ i-end out i = (length out ≡ length out₀) × (i ≤ length numbers) × (out ≡ paste out₀ at numbers i)
