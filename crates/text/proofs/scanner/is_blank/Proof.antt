@@ -1,4 +1,4 @@
--- `text::scanner::is_blank` meets its contract. Assumes nothing.
+-- `text::scanner::is_blank` meets its contract: the two tests are the definition's. Assumes nothing.
 use borrow.Author.Tests.{eq-eqb, ne-eqb}
 use Rattle.text.proofs.scanner.is_blank.Statement.{statement}
 use Rattle.text.proofs.scanner.is_blank.Tie as tie

@@ -1,4 +1,4 @@
--- `text::scanner::is_digit` meets its contract. Assumes nothing.
+-- `text::scanner::is_digit` meets its contract: the two tests are the definition's. Assumes nothing.
 use borrow.Author.Tests.{le-leb, lt-leb}
 use Rattle.text.proofs.scanner.is_digit.Statement.{statement}
 use Rattle.text.proofs.scanner.is_digit.Tie as tie

@@ -1,4 +1,4 @@
--- `text::scanner::is_needed` meets its contract. Assumes nothing.
+-- `text::scanner::is_needed` meets its contract: no byte, a zero in front or another byte, each as the definition says. Assumes nothing.
 use mathlib.Core.Path.{sym}
 use borrow.Author.Needs.{needs}
 use Rattle.text.proofs.Scanning.{needed-none, needed-zero, needed-other}

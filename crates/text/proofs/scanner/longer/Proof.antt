@@ -1,4 +1,4 @@
--- `text::scanner::longer` meets its contract. Assumes nothing.
+-- `text::scanner::longer` meets its contract: a digit is at least 48, and ten times a number of 12 digits fits. Assumes nothing.
 use borrow.Author.Needs.{needs}
 use Rattle.text.proofs.Scanning.{digit-low}
 use Rattle.text.proofs.scanner.longer.Statement.{statement}

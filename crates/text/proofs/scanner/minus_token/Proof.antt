@@ -1,4 +1,4 @@
--- `text::scanner::minus_token` meets its contract. Assumes nothing.
+-- `text::scanner::minus_token` meets its contract: digits that are worth something, and not 0, are a number. Assumes nothing.
 use mathlib.Core.Path.{sym, _∙_, ap}
 use native.Mathlib.Omega.{arith}
 use borrow.Author.Tests.{eq-eqb, ne-eqb}

@@ -1,4 +1,4 @@
--- `text::scanner::negative` meets its contract. Assumes nothing.
+-- `text::scanner::negative` meets its contract: a number below 2 ^ 63 has its negative. Assumes nothing.
 use mathlib.Core.Path.{_≡_}
 use Prim.Native.Nat.{ℕ, zero, suc, _<_, _^_}
 use native.Mathlib.Omega.{arith}

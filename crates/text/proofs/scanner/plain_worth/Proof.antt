@@ -1,4 +1,4 @@
--- `text::scanner::plain_worth` meets its contract. Assumes nothing.
+-- `text::scanner::plain_worth` meets its contract: the length and the first digit are looked at before the digits. Assumes nothing.
 use mathlib.Core.Path.{sym, _∙_}
 use borrow.Author.Tests.{le-leb, lt-leb}
 use borrow.Author.Needs.{needs}

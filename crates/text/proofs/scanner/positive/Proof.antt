@@ -1,4 +1,4 @@
--- `text::scanner::positive` meets its contract. Assumes nothing.
+-- `text::scanner::positive` meets its contract: a number below 2 ^ 63 is an i64. Assumes nothing.
 use native.Mathlib.Omega.{arith}
 use borrow.Author.Needs.{needs}
 use lib.IntN.{pos}

@@ -1,4 +1,4 @@
--- `text::scanner::token_of` meets its contract. Assumes nothing.
+-- `text::scanner::token_of` meets its contract: a minus in front or none decides, as in the definition. Assumes nothing.
 use mathlib.Core.Path.{_≡_, sym, _∙_, ap}
 use Prim.Native.Nat.{_-_}
 use native.Mathlib.Omega.{arith}

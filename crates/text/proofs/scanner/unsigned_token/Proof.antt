@@ -1,4 +1,4 @@
--- `text::scanner::unsigned_token` meets its contract. Assumes nothing.
+-- `text::scanner::unsigned_token` meets its contract: digits that are worth something are a number. Assumes nothing.
 use mathlib.Core.Path.{sym, _∙_, ap}
 use native.Mathlib.Omega.{arith}
 use borrow.Author.Needs.{needs, sfits-of}
