@@ -3,3 +3,4 @@ pub mod Rules
 pub mod Sections
 pub mod Columns
 pub mod Reader
+pub mod Steps

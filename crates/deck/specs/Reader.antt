@@ -1,6 +1,6 @@
 -- Document 01, "Continue, text, listing": the reader. "The reader fills buffers of the largest size, 48 numbers each and 2,304 coefficients, n to a row
 -- without gaps; the rest becomes 0. A wrong length is refusal 2, before the text is looked at; then a text over 32,768 bytes is 11."
---   DeckBuffers    the lent buffers
+--   DeckBuffers    the lent buffers; `deckBuffers` makes one of five lists
 --   Reading        what is returned: n and m, or the refusal (declared in src/)
 --   ReadDone       what is returned, and what the buffers then hold; a refused text leaves them as they were
 --   read s B       the reader on the text s
@@ -27,6 +27,10 @@ pub record DeckBuffers : Type 0 where
   pub lower : List ℤ
   pub upper : List ℤ
   pub goals : List ℤ
+
+abbrev pub deckBuffers : List ℤ → List ℤ → List ℤ → List ℤ → List ℤ → DeckBuffers
+deckBuffers coefficients rights lower upper goals =
+    record { coefficients = coefficients; rights = rights; lower = lower; upper = upper; goals = goals }
 
 pub record ReadDone : Type 0 where
   pub reading : Reading

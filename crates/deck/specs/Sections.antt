@@ -2,6 +2,7 @@
 -- count of rows, then for each its kind, its number, its count of terms (0 to the count of intervals), then index and coefficient for each term."
 --   deckColumns, deckRows   the most columns and rows of a text
 --   maxText                 "a text over 32,768 bytes is 11"
+--   deckSizes               all three; `Sizes::limits` in src/ holds the code's constants to these
 --   Interval, Term          declared in src/; Row and Kind are the problem's
 --   Line                    a row with its terms
 --   Deck                    the intervals and the lines of a text
@@ -25,6 +26,7 @@ use Rattle.problem.specs.declared.Row.{Row}
 use Rattle.problem.specs.declared.Refusal.{Refusal}
 use Rattle.problem.specs.declared.Refusal.the-variants.{Size, Coefficient, Bound, Goal, Layout, Term as WrongTerm}
 use Rattle.deck.specs.Rules.{Outcome, ok, no, then, within, nonzero, closed}
+use Rattle.deck.specs.declared.Sizes.{Sizes}
 use Rattle.deck.specs.declared.Interval.{Interval}
 use Rattle.deck.specs.declared.Term.{Term}
 
@@ -36,6 +38,9 @@ deckRows = 48
 
 abbrev pub maxText : ℕ
 maxText = 32768
+
+abbrev pub deckSizes : Sizes
+deckSizes = record { columns = deckColumns; rows = deckRows; text = maxText }
 
 -- a number in −k to k
 abbrev pub spanning : ℕ → Refusal → List Token → Outcome ℤ

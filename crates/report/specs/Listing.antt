@@ -1,12 +1,19 @@
 -- Document 01, "Continue, text, listing": the listing's bytes. It "prints FITTED, OUTSIDE, SPENT, NONE or REFUSED. After the first three come both
 -- counts, then a line for each column: column, value, stride. NONE stands alone (refusal 8). REFUSED is followed by the number. Fields are parted by
 -- one space; each line ends with byte 10."
---   line c v d       a column's line
---   listing a v d    the listing of the answer a, with the values v and the strides d where it is a verdict
+--   headline a             the first line
+--   line c v d             a column's line
+--   listing a v d          the listing of the answer a, with the values v and the strides d where it is a verdict
+--   Written                what is returned: how many bytes were written, or that the lists are not of one length or the buffer has no room
+--                          (declared in src/)
+--   writeListing o a v d   what is returned, and what the lent buffer o then holds: the listing's bytes, and then what stood there
 -- Assumes nothing.
+use mathlib.Core.Bool.{cond}
 use mathlib.Core.List.{List, [], _∷_, _++_}
 use Prim.Native.Nat.{ℕ, zero, suc, _+_}
+use lib.Dec.{leb, eqb}
 use lib.IntN.{ℤ}
+use lib.ListN.{length, drop}
 use Rattle.text.specs.Decimals.{natural, integer}
 use Rattle.problem.specs.Answers.{refusalNumber}
 use Rattle.problem.specs.declared.Counts.{Counts}
@@ -14,6 +21,8 @@ use Rattle.problem.specs.declared.Refusal.{Refusal}
 use Rattle.problem.specs.declared.Refusal.the-variants.{Size, Length, Coefficient, Bound, Goal, Limit, Elimination, NoWholeNumbers, Seating, Standing, Layout, Term}
 use Rattle.problem.specs.declared.Answer.{Answer}
 use Rattle.problem.specs.declared.Answer.the-variants.{Fitted, Outside, Spent, Refused}
+use Rattle.report.specs.declared.Written.{Written}
+use Rattle.report.specs.declared.Written.the-variants.{Bytes, Uneven, NoRoom}
 
 -- "FITTED", "OUTSIDE", "SPENT", "NONE", "REFUSED"
 abbrev pub FITTED : List ℕ
@@ -41,6 +50,9 @@ lineEnd = 10 ∷ []
 abbrev pub verdict : List ℕ → Counts → List ℕ
 verdict word k = word ++ (field (natural (k .bounds)) ++ (field (natural (k .goals)) ++ lineEnd))
 
+abbrev pub countsOf : ℕ → ℕ → Counts
+countsOf bounds goals = record { bounds = bounds; goals = goals }
+
 abbrev pub line : ℕ → ℤ → ℕ → List ℕ
 line c v d = natural c ++ (field (integer v) ++ (field (natural d) ++ lineEnd))
 
@@ -67,8 +79,35 @@ refusal Standing = numbered Standing
 refusal Layout = numbered Layout
 refusal Term = numbered Term
 
+abbrev pub headline : Answer → List ℕ
+headline (Fitted k) = verdict FITTED k
+headline (Outside k) = verdict OUTSIDE k
+headline (Spent k) = verdict SPENT k
+headline (Refused why) = refusal why
+
 unfoldable pub listing : Answer → List ℤ → List ℕ → List ℕ
 listing (Fitted k) v d = verdict FITTED k ++ linesFrom 0 v d
 listing (Outside k) v d = verdict OUTSIDE k ++ linesFrom 0 v d
 listing (Spent k) v d = verdict SPENT k ++ linesFrom 0 v d
 listing (Refused why) v d = refusal why
+
+-- of n columns, how many are listed: all with a verdict, none with a refusal
+abbrev pub linesOf : Answer → ℕ → ℕ
+linesOf (Fitted k) n = n
+linesOf (Outside k) n = n
+linesOf (Spent k) n = n
+linesOf (Refused why) n = 0
+
+pub record ListingDone : Type 0 where
+  pub written : Written
+  pub out : List ℕ
+
+abbrev pub untouched : Written → List ℕ → ListingDone
+untouched w o = record { written = w; out = o }
+
+-- the bytes of w, where they fit into o
+abbrev pub placedIn : List ℕ → List ℕ → ListingDone
+placedIn o w = cond (leb (length w) (length o)) (record { written = Bytes (length w); out = w ++ drop (length w) o }) (untouched NoRoom o)
+
+unfoldable pub writeListing : List ℕ → Answer → List ℤ → List ℕ → ListingDone
+writeListing o a v d = cond (eqb (linesOf a (length d)) (linesOf a (length v))) (placedIn o (listing a v d)) (untouched Uneven o)

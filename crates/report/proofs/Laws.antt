@@ -1,0 +1,153 @@
+-- Laws of the listing: how long its lines are, its columns one at a time, and what the call leaves. Assumes nothing.
+-- ---- lengths: a number of 64 bits has at most 20 digits
+use mathlib.Core.Path.{_≡_, refl, sym, ap, _∙_}
+use mathlib.Core.Bool.{Bool, true, false}
+use mathlib.Core.List.{List, [], _++_, append-nil}
+use Prim.Native.Nat.{ℕ, _+_, _-_, _≤_, _<_, _^_}
+use native.Mathlib.Numerals.{add-one}
+use native.Mathlib.Omega.{arith}
+use borrow.Author.Tests.{eq-eqb, ne-eqb, eqb-true, eqb-false, le-leb, lt-leb}
+use lib.Dec.{eqb}
+use lib.IntN.{ℤ, pos, negsuc, natAbs}
+use lib.ListN.{length, take, drop, getD, length-append, drop-of-length-le}
+use lib.Seq.{drop-cons, take-length, take-all, length-take-le}
+use mir.Syntax.{w64}
+use mir.Val.{SFits}
+use Rattle.text.specs.Buffers.{Wrote}
+use Rattle.text.specs.Decimals.{natural, integer}
+use Rattle.problem.specs.Answers.{refusalNumber}
+use Rattle.problem.specs.declared.Counts.{Counts}
+use Rattle.problem.specs.declared.Refusal.{Refusal}
+use Rattle.problem.specs.declared.Refusal.the-variants.{Size, Length, Coefficient, Bound, Goal, Limit, Elimination, NoWholeNumbers, Seating, Standing, Layout, Term}
+use Rattle.problem.specs.declared.Answer.{Answer}
+use Rattle.problem.specs.declared.Answer.the-variants.{Fitted, Outside, Spent, Refused}
+use Rattle.report.specs.Listing.{NONE, lineEnd, verdict, line, linesFrom, numbered, refusal, headline, listing, linesOf, untouched, writeListing}
+use Rattle.report.specs.declared.Written.the-variants.{Bytes, Uneven, NoRoom}
+use Rattle.text.proofs.Digits.{length-natural, length-integer}
+
+pub length-digits : (n : ℕ) → n < 2 ^ 64 → length (natural n) ≤ 20
+length-digits n h = length-natural 19 n (omega arith)
+
+pub length-line : (c : ℕ) (v : ℤ) (d : ℕ) → c < 2 ^ 64 → natAbs v < 2 ^ 64 → d < 2 ^ 64 → length (line c v d) ≤ 64
+length-line c v d p q r =
+    let k : length (integer v) ≤ 21 = length-integer 19 v (omega arith) in
+    simp length-append (omega (arith, length-digits c p, length-digits d r))
+
+pub abs-fits : (v : ℤ) → SFits w64 v → natAbs v < 2 ^ 64
+abs-fits (pos n) f = omega (arith, f .sfits)
+abs-fits (negsuc n) f = omega (arith, f .sfits)
+
+pub length-verdict : (w : List ℕ) (k : Counts) → length w ≤ 7 → k .bounds < 2 ^ 64 → k .goals < 2 ^ 64 → length (verdict w k) ≤ 64
+length-verdict w k h p q = simp length-append (omega (arith, length-digits (k .bounds) p, length-digits (k .goals) q))
+
+-- ---- a refusal's line, by its number
+pub refusal-none : (why : Refusal) → refusalNumber why ≡ 8 → refusal why ≡ NONE ++ lineEnd
+refusal-none Size h = absurd (omega arith)
+refusal-none Length h = absurd (omega arith)
+refusal-none Coefficient h = absurd (omega arith)
+refusal-none Bound h = absurd (omega arith)
+refusal-none Goal h = absurd (omega arith)
+refusal-none Limit h = absurd (omega arith)
+refusal-none Elimination h = absurd (omega arith)
+refusal-none NoWholeNumbers h = refl
+refusal-none Seating h = absurd (omega arith)
+refusal-none Standing h = absurd (omega arith)
+refusal-none Layout h = absurd (omega arith)
+refusal-none Term h = absurd (omega arith)
+
+pub refusal-other : (why : Refusal) → (refusalNumber why ≡ 8 → ⊥) → refusal why ≡ numbered why
+refusal-other Size h = refl
+refusal-other Length h = refl
+refusal-other Coefficient h = refl
+refusal-other Bound h = refl
+refusal-other Goal h = refl
+refusal-other Limit h = refl
+refusal-other Elimination h = refl
+refusal-other NoWholeNumbers h = absurd (h refl)
+refusal-other Seating h = refl
+refusal-other Standing h = refl
+refusal-other Layout h = refl
+refusal-other Term h = refl
+
+number-small : (why : Refusal) → refusalNumber why < 2 ^ 64
+number-small Size = omega arith
+number-small Length = omega arith
+number-small Coefficient = omega arith
+number-small Bound = omega arith
+number-small Goal = omega arith
+number-small Limit = omega arith
+number-small Elimination = omega arith
+number-small NoWholeNumbers = omega arith
+number-small Seating = omega arith
+number-small Standing = omega arith
+number-small Layout = omega arith
+number-small Term = omega arith
+
+pub length-refusal : (why : Refusal) → length (refusal why) ≤ 64
+length-refusal why = by (eqb (refusalNumber why) 8) refl
+  where
+    by : (t : Bool) → eqb (refusalNumber why) 8 ≡ t → length (refusal why) ≤ 64
+    by true e = rw (refusal-none why (eqb-true (refusalNumber why) 8 e)) (omega arith)
+    by false e =
+        rw (refusal-other why (eqb-false (refusalNumber why) 8 e))
+        (simp length-append (omega (arith, length-digits (refusalNumber why) (number-small why))))
+
+-- ---- the columns' lines, one at a time
+module _ (v : List ℤ) (d : List ℕ) (i : ℕ) where
+  pub lines-more : length v ≡ length d → i < length v
+      → linesFrom i (drop i v) (drop i d) ≡ line (i + 1) (getD v i (pos 0)) (getD d i 0) ++ linesFrom (i + 1) (drop (i + 1) v) (drop (i + 1) d)
+  unfolding linesFrom
+  lines-more e h = let k : i < length d = omega arith in rw (drop-cons v i (pos 0) h, drop-cons d i 0 k, add-one i)
+
+  pub length-more : length v ≡ length d → i < length v
+      → length (linesFrom i (drop i v) (drop i d))
+      ≡ length (line (i + 1) (getD v i (pos 0)) (getD d i 0)) + length (linesFrom (i + 1) (drop (i + 1) v) (drop (i + 1) d))
+  length-more e h = ap length (lines-more e h) ∙ length-append (line (i + 1) (getD v i (pos 0)) (getD d i 0)) (linesFrom (i + 1) (drop (i + 1) v) (drop (i + 1) d))
+
+  pub lines-end : length v ≤ i → linesFrom i (drop i v) (drop i d) ≡ []
+  unfolding linesFrom
+  lines-end h = rw (drop-of-length-le v h)
+
+-- ---- the whole listing
+pub listing-is : (a : Answer) (v : List ℤ) (d : List ℕ) → linesOf a (length d) ≡ linesOf a (length v)
+    → listing a v d ≡ headline a ++ linesFrom 0 (take (linesOf a (length v)) v) (take (linesOf a (length v)) d)
+unfolding listing linesFrom
+listing-is (Fitted k) v d h = rw (take-length v, take-all (length v) d (omega arith))
+listing-is (Outside k) v d h = rw (take-length v, take-all (length v) d (omega arith))
+listing-is (Spent k) v d h = rw (take-length v, take-all (length v) d (omega arith))
+listing-is (Refused why) v d h = sym (append-nil (refusal why))
+
+lines-few : (a : Answer) (n : ℕ) → linesOf a n ≤ n
+lines-few (Fitted k) n = omega arith
+lines-few (Outside k) n = omega arith
+lines-few (Spent k) n = omega arith
+lines-few (Refused why) n = omega arith
+
+-- the part of a list that is listed
+pub length-listed : {A : Type 0} (a : Answer) (l : List A) (n : ℕ) → n ≡ linesOf a (length l) → length (take n l) ≡ n
+length-listed a l n h = length-take-le n l (omega (arith, lines-few a (length l)))
+
+-- the first line, and then the columns'
+pub listing-lines : (a : Answer) (v : List ℤ) (d : List ℕ) (n : ℕ) → n ≡ linesOf a (length v) → linesOf a (length d) ≡ n
+    → listing a v d ≡ headline a ++ linesFrom 0 (take n v) (take n d)
+listing-lines a v d n p q = rw p (listing-is a v d (q ∙ p))
+
+pub listing-length : (a : Answer) (v : List ℤ) (d : List ℕ) (n : ℕ) → n ≡ linesOf a (length v) → linesOf a (length d) ≡ n
+    → length (listing a v d) ≡ length (headline a) + length (linesFrom 0 (take n v) (take n d))
+listing-length a v d n p q = ap length (listing-lines a v d n p q) ∙ length-append (headline a) (linesFrom 0 (take n v) (take n d))
+
+module _ (o : List ℕ) (a : Answer) (v : List ℤ) (d : List ℕ) where
+  pub write-uneven : (linesOf a (length d) ≡ linesOf a (length v) → ⊥) → writeListing o a v d ≡ untouched Uneven o
+  unfolding writeListing
+  write-uneven h = rw (ne-eqb (linesOf a (length d)) (linesOf a (length v)) h)
+
+  pub write-short : linesOf a (length d) ≡ linesOf a (length v) → length o < length (listing a v d) → writeListing o a v d ≡ untouched NoRoom o
+  unfolding writeListing
+  write-short h l = rw (eq-eqb (linesOf a (length d)) (linesOf a (length v)) h, lt-leb (length (listing a v d)) (length o) l)
+
+  pub write-done : (r : ℕ) (p : List ℕ) → linesOf a (length d) ≡ linesOf a (length v) → length (listing a v d) ≤ length o → Wrote o 0 (listing a v d) r p
+      → writeListing o a v d ≡ record { written = Bytes r; out = p }
+  unfolding writeListing
+  write-done r p h l w =
+      let z : 0 + length (listing a v d) ≡ length (listing a v d) = omega arith in
+      rw (eq-eqb (linesOf a (length d)) (linesOf a (length v)) h, le-leb (length (listing a v d)) (length o) l, w .next, w .text, z)
