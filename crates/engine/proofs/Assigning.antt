@@ -28,9 +28,9 @@ use Rattle.problem.specs.declared.Refusal.the-variants.{NoWholeNumbers, Standin
 use Rattle.tableau.specs.Elimination.{Left}
 use Rattle.tableau.specs.RightSide.{sweep, leading, remaining, basis, Found, none, some, Solved, rightSide, form, solve}
 use Rattle.tableau.specs.Theorems.{problem-basis, solve-tells}
-use Rattle.tableau.specs.Buffers.{answerOf, solutionOf, startOf, startAfter, tableauAfter}
-use Rattle.tableau.specs.declared.Solution.the-variants.{Over, None, Found as Met}
-use Rattle.tableau.proofs.Answers.{solution-over, solution-none, solution-found, start-found}
+use Rattle.rightside.specs.Solutions.{answerOf, solutionOf}
+use Rattle.rightside.specs.declared.Solution.the-variants.{Over, None, Found as Met}
+use Rattle.rightside.proofs.Answers.{solution-over, solution-none, solution-found, start-found}
 use Rattle.settling.specs.Seating.{Seated, seated, far, goalWishes, seat}
 use Rattle.settling.specs.Settle.{settle}
 use Rattle.settling.specs.Strides.{strides}

@@ -26,10 +26,11 @@ use Rattle.tableau.specs.Elimination.{Left, Run, eliminate}
 use Rattle.tableau.specs.RightSide.{sweep, leading, remaining, basis, Found, none, some, Solved, rightSide, form, solve}
 use Rattle.tableau.specs.Theorems.{problem-count, problem-wide, problem-split}
 use Rattle.tableau.specs.Within.{Within, within-append, within-neg, within-zeros, within-drop, within-entry}
-use Rattle.tableau.specs.Buffers.{Formable, Solvable}
+use Rattle.tableau.specs.Buffers.{Formable}
+use Rattle.rightside.specs.Solutions.{Solvable}
 use Rattle.tableau.proofs.Forms.{table-within, span-within}
 use Rattle.tableau.proofs.Staying.{flat-all, all-flat, eliminate-all}
-use Rattle.tableau.proofs.Sweeping.{sweep-within}
+use Rattle.rightside.proofs.Sweeping.{sweep-within}
 use Rattle.engine.specs.Assign.{n, m, matrix, solved, formed}
 use Rattle.engine.specs.Views.{width, tableOf, basisOf, Parted, flat-length}
 use Rattle.engine.specs.Placed.{Placed}

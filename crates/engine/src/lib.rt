@@ -16,7 +16,7 @@ use problem::Problem;
 use problem::Refusal;
 use problem::checks::first_cause;
 use standing::stands;
-use tableau::Solution;
+use rightside::Solution;
 
 mod ending;
 mod standing;
@@ -65,7 +65,7 @@ fn assign_from(
     ensures { λ _. ⌜ now (values .exit) ≡ assignFit (posed p (now (coefficients .entry)) (now (rights .entry)) (now (lower .entry)) (now (upper .entry)) (now (goals .entry))) (buffers (now (tableau .entry)) (now (values .entry)) (now (strides .entry))) .values ⌝ }
     ensures { λ _. ⌜ now (strides .exit) ≡ assignFit (posed p (now (coefficients .entry)) (now (rights .entry)) (now (lower .entry)) (now (upper .entry)) (now (goals .entry))) (buffers (now (tableau .entry)) (now (values .entry)) (now (strides .entry))) .strides ⌝ }
 {
-    let solution = tableau::solve(tableau, p, coefficients, rights, start);
+    let solution = rightside::solve(tableau, p, coefficients, rights, start);
     match solution {
         Solution::Over => Answer::Refused(Refusal::Elimination),
         Solution::None => Answer::Refused(Refusal::NoWholeNumbers),

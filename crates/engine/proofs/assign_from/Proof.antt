@@ -8,9 +8,9 @@ use lib.IntN.{ℤ}
 use lib.ListN.{length}
 use Rattle.problem.specs.Checks.{Posed}
 use Rattle.problem.specs.CheckLaws.{Passes, passes}
-use Rattle.tableau.specs.Buffers.{solutionOf, startAfter, tableauAfter}
-use Rattle.tableau.specs.declared.Solution.the-variants.{Over, None, Found}
-use Rattle.tableau.proofs.Answers.{solution-over, solution-none, solution-found, start-found}
+use Rattle.rightside.specs.Solutions.{solutionOf}
+use Rattle.rightside.specs.declared.Solution.the-variants.{Over, None, Found}
+use Rattle.rightside.proofs.Answers.{solution-over, solution-none, solution-found, start-found}
 use Rattle.lattice.specs.Rows.{flat}
 use Rattle.engine.specs.Assign.{Buffers, Done, posed, buffers, lentOf, solved, formed, assignFit}
 use Rattle.engine.specs.Demand.{Within}
