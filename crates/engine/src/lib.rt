@@ -15,8 +15,8 @@ use problem::Lent;
 use problem::Problem;
 use problem::Refusal;
 use problem::checks::first_cause;
-use standing::stands;
 use rightside::Solution;
+use standing::stands;
 
 mod ending;
 mod standing;
