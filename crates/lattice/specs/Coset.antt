@@ -97,7 +97,8 @@ residue-coset (step p r H) (x ∷ v) e =
     twice : (q : ℤ) → negsuc 0 *ℤ negℤ q ≡ q
     twice q = rw (rep q) (simp diff-rel (omega arith))
 
-pub residue-for : (H : Echelon) (u v : List ℤ) → length u ≡ width H → length v ≡ width H → Span (rows H) (minus u v) ↔ Span (rows H) (minus u (residue H v))
+pub residue-for : (H : Echelon) (u v : List ℤ) → length u ≡ width H → length v ≡ width H
+    → Span (rows H) (minus u v) ↔ Span (rows H) (minus u (residue H v))
 residue-for H u v a b =
     let l : length (residue H v) ≡ length v = residue-length H v in (
       (λ s. coset-via (rows H) u v (residue H v) (omega arith) s (coset-turn (rows H) (residue H v) v (omega arith) (residue-coset H v b))),
@@ -116,8 +117,8 @@ residue-equal H u v a b h s =
     residue-unique H (residue H u) v (l ∙ a) b h (residue-reduced H u h) (coset-via (rows H) (residue H u) u v (omega arith) (residue-coset H u a) s)
 
 -- ---- descriptions
--- two descriptions, and the lists of the one are lists of the other
-module _ (n : ℕ) (Q R : List ℤ → Type 0) (s t : List ℤ) (N M : List (List ℤ)) (a : Describes n Q s N) (b : Describes n R t M)
+-- of two sets, the lists of the one being lists of the other
+module _ {n : ℕ} {Q R : List ℤ → Type 0} {s t : List ℤ} {N M : List (List ℤ)} (a : Describes n Q s N) (b : Describes n R t M)
     (f : (x : List ℤ) → length x ≡ n → Q x → R x) where
   start : Span M (minus s t)
   start = b .set s (a .long) .0 (f s (a .long) (a .set s (a .long) .1 (coset-self N s)))
@@ -130,15 +131,15 @@ module _ (n : ℕ) (Q R : List ℤ → Type 0) (s t : List ℤ) (N M : List (Lis
       let xt : Span M (minus x t) = b .set x lx .0 (f x lx (a .set x lx .1 (rw y-is sy))) in
       rw y-is at (coset-via M x t s (omega (arith, lx, b .long)) xt (coset-turn M s t (omega (arith, a .long, b .long)) start))
 
-pub describes-unique : (n : ℕ) (Q R : List ℤ → Type 0) (s t : List ℤ) (N M : List (List ℤ)) → Describes n Q s N → Describes n R t M
+pub describes-unique : {n : ℕ} {Q R : List ℤ → Type 0} {s t : List ℤ} {N M : List (List ℤ)} → Describes n Q s N → Describes n R t M
     → ((x : List ℤ) → length x ≡ n → Q x ↔ R x) → (s ≡ t) × (N ≡ M)
-describes-unique n Q R s t N M a b f =
+describes-unique {n} {Q} {R} {s} {t} {N} {M} a b f =
     let to : (x : List ℤ) → length x ≡ n → Q x → R x = λ x l. f x l .0 in
     let from : (x : List ℤ) → length x ≡ n → R x → Q x = λ x l. f x l .1 in
-    let w : Same n N M = record { both = λ y l. (within n Q R s t N M a b to y l, within n R Q t s M N b a from y l) } in
+    let w : Same n N M = record { both = λ y l. (within a b to y l, within b a from y l) } in
     let k : a .form ≡ b .form =
     hermite-unique (a .form) (b .form) (a .wide ∙ sym (b .wide)) (a .hermite) (b .hermite) (rw (a .wide, ← (a .is), ← (b .is)) w) in (
       reduced-unique (b .form) s t (a .long ∙ sym (b .wide)) (b .long ∙ sym (b .wide)) (b .hermite) (rw k at (a .reduced)) (b .reduced)
-          (rw (b .is) at (start n Q R s t N M a b to)),
+          (rw (b .is) at (start a b to)),
       a .is ∙ ap rows k ∙ sym (b .is),
     )

@@ -192,7 +192,8 @@ minus-part u v l = plus-comm (negsuc 0) (pos 1) v u v ∙ plus-one u (minus v v)
 -- (0, u) − (0, v) = (0, u − v)
 pub minus-zeros : (m : ℕ) (u v : List ℤ) → minus (zeros m ++ u) (zeros m ++ v) ≡ zeros m ++ minus u v
 minus-zeros m u v =
-    plus-append (negsuc 0) (zeros m) (zeros m) v u refl ∙ ap (λ (t : List ℤ). t ++ minus u v) (plus-zeros (negsuc 0) (zeros m) (zeros m) (Zero-zeros m))
+    plus-append (negsuc 0) (zeros m) (zeros m) v u refl
+    ∙ ap (λ (t : List ℤ). t ++ minus u v) (plus-zeros (negsuc 0) (zeros m) (zeros m) (Zero-zeros m))
 
 -- ---- entries
 pub entry-plus : (i : ℕ) (c : ℤ) (r v : List ℤ) → i < length v → entry i (plus c r v) ≡ entry i v +ℤ c *ℤ entry i r

@@ -3,7 +3,7 @@
 --   Len n r             r has n numbers
 --   Span T v            some whole multiples of T's rows, added to v, give zeros: v lies in the row span of T
 --   Same n T U          T and U span the same lists of n numbers
---   Independent n T     only zero times a row of n numbers lies in the span of the rows below it
+--   Independent n T     of n columns: only 0 times a row lies in the span of the rows below it
 --   T ~ U               U comes from T by elementary row steps: exchange of neighbours, negation, adding a multiple of a row to the next one
 --   all-..              properties of all rows
 --   span-..             the span has zeros, each row, multiples and sums

@@ -30,7 +30,7 @@ reduced-steps : (c : ℕ) (r s : List ℤ) (B : List (List ℤ)) → (r ∷ s �
 unfolding reduced
 reduced-steps c r s B = add (negℤ (floorQuotient (entry c s) (entry c r))) r s
 
-passColumn-steps : (c : ℕ) (A B : List (List ℤ)) (z : Choice) → (A ++ B) ~ (passColumn c A B z .above ++ passColumn c A B z .below)
+pub passColumn-steps : (c : ℕ) (A B : List (List ℤ)) (z : Choice) → (A ++ B) ~ (passColumn c A B z .above ++ passColumn c A B z .below)
 unfolding passColumn
 passColumn-steps c A B none = same
 passColumn-steps c A [] (at j p) = same
@@ -43,7 +43,7 @@ passColumn-steps c A (b ∷ B) (at j p) =
     then each-steps (g .pivot) (reduced c (g .pivot)) (reduced-steps c (g .pivot)) A (g .below)
     then back A′ (g .pivot) (g .below))
 
-passColumns-steps : (d c : ℕ) (A B : List (List ℤ)) → (A ++ B) ~ passColumns d c A B .table
+pub passColumns-steps : (d c : ℕ) (A B : List (List ℤ)) → (A ++ B) ~ passColumns d c A B .table
 unfolding passColumns
 passColumns-steps zero c A B = same
 passColumns-steps (suc d) c A B =

@@ -1,16 +1,18 @@
 -- Laws of gathering: it is made of elementary row steps, it ends, and what it leaves.
---   each-steps        where f takes multiples of r away, `each f` is row steps
---   ..-steps          an exchange, a sign, clearing, a round and gathering are row steps
---   Stands c B z      z tells of the rows B: there is nothing but 0 at c, or row j has the magnitude p there, above 0
---   choose-stands     so does what `choose` chooses
+--   each-steps           where f only takes multiples of r away, `each f` is row steps
+--   ..-steps             so are an exchange, a sign, clearing, a round and gathering
+--   Stands c B z         z tells of the rows B: they have nothing but 0 at c, or row j has the magnitude p there, above 0
+--   choose-stands        what `choose` chooses does
 --   Chosen n c b B j p   column c is one of n, the rows b and B have n numbers, and the choice among them is row j with the magnitude p
---   round-lead        after a round the pivot's entry is the magnitude chosen
---   round-lower       and the magnitudes below it are smaller. Of the gathering quotient this uses the one law `gatheringQuotient-left`
---   Alone c b B       b's entry at c is above 0, and those of B are 0
---   gather-alone      with as many rounds as the first magnitude, gathering ends so
---   gather-fuel       more rounds change nothing, not the mark either
---   gathering c b B   the whole of it, with no count of rounds in sight
---   gathering-round   it is one round, and the whole from there while a lower entry is not 0: one turn of a loop
+--   round-lead, -below   after a round the pivot's entry is p, and the magnitudes below it are smaller. Of the gathering quotient this uses the
+--                        law `gatheringQuotient-left` alone
+--   round-next           so the next round's choice is none, or a smaller one
+--   Alone c b B          b's entry at c is above 0, and those of B are 0
+--   gather-alone         p rounds or more leave that: gathering ends
+--   gather-fuel          more rounds than p change nothing, not the mark either
+--   gathering c b B      the whole of it, with no count of rounds in sight
+--   gathering-first      it is what `passColumn` calls
+--   gathering-round      it is one round, and the whole from there while a lower entry is not 0: one turn of a loop
 -- Assumes nothing.
 use mathlib.Core.Path.{_≡_, refl, sym, _∙_, ap, ap₂, subst}
 use mathlib.Core.Bool.{Bool, true, false, cond, or-false}
@@ -137,7 +139,8 @@ lowered-below c p r s l e h = go (isZero (entry c s)) (isZero-true (entry c s))
     go true f = rw (f refl) l
     go false f = rw (entry-plus c (negℤ q) r s h, e) (gatheringQuotient-left (entry c s) (positive-of p l))
 
-each-below : (n c p : ℕ) (r : List ℤ) (B : List (List ℤ)) → c < n → 0 < p → entry c r ≡ pos p → All (Len n) B → All (Below c p) (each (lowered c r) B .table)
+each-below : (n c p : ℕ) (r : List ℤ) (B : List (List ℤ)) → c < n → 0 < p → entry c r ≡ pos p → All (Len n) B
+    → All (Below c p) (each (lowered c r) B .table)
 unfolding each
 each-below n c p r [] h l e a = tt
 each-below n c p r (s ∷ B) h l e a = (lowered-below c p r s l e (omega (arith, a .0)), each-below n c p r B h l e (a .1))

@@ -6,6 +6,7 @@ pub mod Generators
 pub mod GatherLaws
 pub mod FormLaws
 pub mod TableLaws
+pub mod FoundLaws
 pub mod RightLaws
 pub mod Theorems
 pub mod Within

@@ -1,17 +1,14 @@
--- Laws of the right side: it finds the answer to the set of lists that a form and a right side reach.
+-- Laws of the right side: what it finds tells the set of lists that a form and a right side reach.
 --   sweep-rows            to sweep by the rows of a form is to reduce by it
 --   indents m T           m columns of zeros before T
 --   leading-remaining     the rows of a form are the leading ones, then the remaining ones
 --   remaining-past        the remaining ones are the form past m columns, behind m zeros
 --   right-found           what is found: the residue's tail and the form past m columns, if the residue begins with m zeros
---   right-answers         that is the answer to the lists x where (m zeros, x) − v lies in the form's span
---   answers-same          the same sets have the same answers
---   answers-none          the answer is "none" exactly when the set is empty
---   answers-unique        two sets are the same exactly when their answers are
+--   right-tells           and that tells the set of lists x where (m zeros, x) − v lies in the form's span
 -- The mark `over` changes nothing in the rows.
 -- Assumes nothing.
 use mathlib.Core.Path.{_≡_, refl, sym, _∙_, ap, ap₂, subst}
-use mathlib.Core.Logic.{_↔_, Iff·symm, Iff·trans}
+use mathlib.Core.Logic.{_↔_, Iff·trans}
 use mathlib.Core.Bool.{Bool, true, false, cond, false≢true}
 use mathlib.Core.List.{List, [], _∷_, _++_, map, map-append, map-map, map-id}
 use Prim.Native.Nat.{ℕ, zero, suc, _+_, _≤_}
@@ -28,10 +25,10 @@ use Rattle.lattice.specs.Rows.{plus, minus, allZero, lead}
 use Rattle.lattice.specs.RowLaws.{length-plus, length-zeros, zeros-Zero, minus-zeros, allZero-Zero}
 use Rattle.lattice.specs.Span.{Span}
 use Rattle.lattice.specs.Hermite.{Echelon, done, skip, step, width, indent, rows, past, Reduced, Hermite, past-width, past-hermite, past-reduced, past-span, reduced-head}
-use Rattle.lattice.specs.Coset.{residue, Describes, coset-self, residue-length, residue-reduced, residue-for, describes-unique}
+use Rattle.lattice.specs.Coset.{residue, residue-length, residue-reduced, residue-for}
 use Rattle.tableau.specs.Elimination.{reduced}
 use Rattle.tableau.specs.RightSide.{sweep, leading, remaining, basis, Found, none, some, Solved, rightSide}
-use Rattle.tableau.specs.Generators.{Answers}
+use Rattle.tableau.specs.Generators.{Tells}
 
 -- ---- sweeping
 sweep-length : (T : List (List ℤ)) (v : List ℤ) → length (sweep T v .row) ≡ length v
@@ -91,7 +88,8 @@ leading-indent m (r ∷ T) = rw (leb·suc-suc (suc (lead r)) m, leading-indent m
 remaining-indent : (m : ℕ) (T : List (List ℤ)) → remaining (suc m) (indent T) ≡ indent (remaining m T)
 unfolding remaining lead
 remaining-indent m [] = refl
-remaining-indent m (r ∷ T) = rw (leb·suc-suc (suc (lead r)) m, remaining-indent m T) (indent-cond (ltb (lead r) m) (remaining m T) (r ∷ remaining m T))
+remaining-indent m (r ∷ T) =
+    rw (leb·suc-suc (suc (lead r)) m, remaining-indent m T) (indent-cond (ltb (lead r) m) (remaining m T) (r ∷ remaining m T))
 
 leading-pivot : (m : ℕ) (p : ℤ) (r : List ℤ) (T : List (List ℤ)) → Positive p → leading (suc m) ((p ∷ r) ∷ T) ≡ (p ∷ r) ∷ leading (suc m) T
 unfolding leading lead
@@ -153,7 +151,9 @@ pub right-found : (m : ℕ) (H : Echelon) (over : Bool) (v : List ℤ) → lengt
     → rightSide m (rows H) over v .found ≡ read m (residue H v) (rows (past m H))
 unfolding rightSide
 right-found m H over v l k h =
-    found-cond (allZero (take m w)) _ _ ∙ ap₂ (λ (a : List ℤ) (b : Found). cond (allZero a) b none) heads (ap₂ (λ (x : List ℤ) (N : List (List ℤ)). some (drop m x) N) whole based)
+    found-cond (allZero (take m w)) _ _
+    ∙ ap₂ (λ (a : List ℤ) (b : Found). cond (allZero a) b none) heads
+    (ap₂ (λ (x : List ℤ) (N : List (List ℤ)). some (drop m x) N) whole based)
   where
     w : List ℤ
     w = sweep (leading m (rows H)) v .row
@@ -176,11 +176,11 @@ right-found m H over v l k h =
     based : basis m (rows H) ≡ rows (past m H)
     based = ap (map (drop m)) (remaining-past m H h) ∙ indents-drop m (rows (past m H))
 
--- ---- it is the answer
-pub right-answers : (n m : ℕ) (H : Echelon) (over : Bool) (v : List ℤ) → width H ≡ m + n → Hermite H → length v ≡ m + n
-    → Answers n (λ (x : List ℤ). Span (rows H) (minus (zeros m ++ x) v)) (rightSide m (rows H) over v .found)
-right-answers n m H over v e h l =
-    subst (Answers n Q) (sym (right-found m H over v lv (omega arith) h)) (go (allZero (take m w)) refl)
+-- ---- what it tells
+pub right-tells : (n m : ℕ) (H : Echelon) (over : Bool) (v : List ℤ) → width H ≡ m + n → Hermite H → length v ≡ m + n
+    → Tells n (λ (x : List ℤ). Span (rows H) (minus (zeros m ++ x) v)) (rightSide m (rows H) over v .found)
+right-tells n m H over v e h l =
+    subst (Tells n Q) (sym (right-found m H over v lv (omega arith) h)) (go (allZero (take m w)) refl)
   where
     Q : List ℤ → Type 0
     Q x = Span (rows H) (minus (zeros m ++ x) v)
@@ -200,7 +200,7 @@ right-answers n m H over v e h l =
     lx : (x : List ℤ) → length x ≡ n → length (zeros m ++ x) ≡ width H
     lx x k = length-zeros m x ∙ ap (λ (i : ℕ). m + i) k ∙ sym e
 
-    go : (b : Bool) → allZero (take m w) ≡ b → Answers n Q (cond b (some s (rows (past m H))) none)
+    go : (b : Bool) → allZero (take m w) ≡ b → Tells n Q (cond b (some s (rows (past m H))) none)
     go true t =
         let w-is : w ≡ zeros m ++ s =
         sym (take-append-drop m w)
@@ -221,43 +221,3 @@ right-answers n m H over v e h l =
         λ x k q.
         false≢true (sym t ∙ allZero-Zero (take m w) .1
         (reduced-head m H x w (lx x k) h (residue-reduced H v h) (residue-for H (zeros m ++ x) v (lx x k) lv .0 q)))
-
--- ---- answers and sets
-pub answers-same : (n : ℕ) (Q R : List ℤ → Type 0) (a : Found) → ((x : List ℤ) → length x ≡ n → Q x ↔ R x) → Answers n Q a → Answers n R a
-answers-same n Q R none f p = λ x l r. p x l (f x l .1 r)
-answers-same n Q R (some s N) f p = record {
-  form = p .form;
-  wide = p .wide;
-  hermite = p .hermite;
-  is = p .is;
-  long = p .long;
-  reduced = p .reduced;
-  set = λ x l. Iff·trans (Iff·symm (f x l)) (p .set x l);
-}
-
--- the starting list is one of the lists
-start-in : (n : ℕ) (Q : List ℤ → Type 0) (s : List ℤ) (N : List (List ℤ)) → Describes n Q s N → Q s
-start-in n Q s N p = p .set s (p .long) .1 (coset-self N s)
-
-pub answers-none : (n : ℕ) (Q : List ℤ → Type 0) (a : Found) → ((x : List ℤ) → Q x → length x ≡ n) → Answers n Q a → (a ≡ none) ↔ ((x : List ℤ) → Q x → ⊥)
-answers-none n Q a ql p = ((λ e x q. subst (Answers n Q) e p x (ql x q) q), to a p)
-  where
-    to : (a : Found) → Answers n Q a → ((x : List ℤ) → Q x → ⊥) → a ≡ none
-    to none p f = refl
-    to (some s N) p f = absurd (f s (start-in n Q s N p))
-
-pub answers-unique : (n : ℕ) (Q R : List ℤ → Type 0) (a b : Found) → ((x : List ℤ) → Q x → length x ≡ n) → ((x : List ℤ) → R x → length x ≡ n)
-    → Answers n Q a → Answers n R b → ((x : List ℤ) → Q x ↔ R x) ↔ (a ≡ b)
-answers-unique n Q R a b ql rl p q = (to a b p q, λ e. from a p (subst (Answers n R) (sym e) q))
-  where
-    to : (a b : Found) → Answers n Q a → Answers n R b → ((x : List ℤ) → Q x ↔ R x) → a ≡ b
-    to none none p q f = refl
-    to none (some s N) p q f = absurd (p s (q .long) (f s .1 (start-in n R s N q)))
-    to (some s N) none p q f = absurd (q s (p .long) (f s .0 (start-in n Q s N p)))
-    to (some s N) (some t M) p q f =
-        let u : (s ≡ t) × (N ≡ M) = describes-unique n Q R s t N M p q (λ x l. f x) in
-        ap₂ some (u .0) (u .1)
-
-    from : (a : Found) → Answers n Q a → Answers n R a → (x : List ℤ) → Q x ↔ R x
-    from none p q x = ((λ y. absurd (p x (ql x y) y)), (λ y. absurd (q x (rl x y) y)))
-    from (some s N) p q x = ((λ y. q .set x (ql x y) .1 (p .set x (ql x y) .0 y)), (λ y. p .set x (rl x y) .1 (q .set x (rl x y) .0 y)))

@@ -97,7 +97,9 @@ from-in (suc k) j n A y x h w ly lx z e =
       subst (Span (tableauFrom k (suc j) n A)) (sym (plus-append c (column j A) y (unit n j) x (length-column j A ∙ sym ly)))
           (from-in k (suc j) n A (plus c (column j A) y) x′ (omega arith) w (length-plus c (column j A) y ∙ ly) (length-plus c (unit n j) x ∙ lx)
           (ZeroTo-next j x′ (ZeroTo-plus j c (unit n j) x (ZeroTo-unit n j) z)
-          (entry-plus j c (unit n j) x (omega (arith, lx)) ∙ ap (λ (t : ℤ). entry j x +ℤ c *ℤ t) (entry-unit-at n j (omega arith)) ∙ gone (entry j x)))
+          (entry-plus j c (unit n j) x (omega (arith, lx))
+          ∙ ap (λ (t : ℤ). entry j x +ℤ c *ℤ t) (entry-unit-at n j (omega arith))
+          ∙ gone (entry j x)))
           (sums-plus A c (unit n j) x (length-unit n j ∙ sym lx) ∙ ap₂ (plus c) (sums-unit A n j w) e)),
     )
   where

@@ -1,23 +1,23 @@
 -- The theorems on the tableau and the right side, over unbounded whole numbers.
---   gathering-ends       a. the rounds of a column end, however many are allowed
---   elimination-form     a. elimination keeps the row span and leaves a Hermite form
---   form-unique          b. a span has one Hermite form
---   reduced-unique       b. a coset has one reduced list
---   elimination-unique   b. so elimination of two tables leaves the same table exactly when they span the same lists
---   reached-answers      c. what is found is the answer to the set of lists that generator rows and a right side reach
---   reached-same         c. and is determined by that set alone, and determines it
---   solve-answers        d. so for a problem, with the set of lists that satisfy its rows:
---   solve-some           d. these are the starting list and the whole combinations of the basis added to it,
---   solve-none           d. or there are none, exactly when "none" is found
---   solve-same           e. two problems with the same number of columns find the same exactly when the same lists satisfy their rows
+--   gathering-ends       the rounds of a column end
+--   elimination-form     elimination keeps the row span and leaves a Hermite form
+--   form-unique          a span has one Hermite form
+--   reduced-unique       a coset has one reduced list
+--   elimination-unique   elimination of two tables leaves the same exactly when they span the same lists
+--   reached-tells        what generator rows and a right side find tells the set of lists that they reach
+--   reached-same         two of them find the same exactly when they reach the same lists
+--   solve-tells          what a problem finds tells the set of lists that satisfy its rows
+--   solve-some           these lists are the starting list and the whole combinations of the basis added to it
+--   solve-none           there is no such list exactly when "none" is found
+--   solve-same           two problems find the same exactly when the same lists satisfy their rows
 -- The terms: Span, Same, Independent (lattice, Span); Echelon, Hermite, Reduced (lattice, Hermite); Describes (lattice, Coset); Satisfies (lattice,
--- Sums); Generators, Reaches, Answers, Sized (Generators); Alone (GatherLaws); Eliminated (FormLaws).
+-- Sums); Generators, Reaches, Tells, Sized (Generators); Chosen, Alone (GatherLaws); Eliminated (FormLaws).
 -- Assumes nothing.
 use mathlib.Core.Path.{_≡_, sym, _∙_, ap, subst}
 use mathlib.Core.Logic.{_↔_, Iff·rfl, Iff·symm, Iff·trans}
 use mathlib.Core.Bool.{Bool}
-use mathlib.Core.List.{List, _∷_, _++_}
-use Prim.Native.Nat.{ℕ, _+_, _<_, _≤_}
+use mathlib.Core.List.{List, _++_}
+use Prim.Native.Nat.{ℕ, _+_, _≤_}
 use native.Mathlib.Omega.{arith}
 use lib.IntN.{ℤ, negsuc}
 use lib.ListN.{length}
@@ -30,35 +30,38 @@ use Rattle.lattice.specs.Hermite as Forms
 use Rattle.lattice.specs.Hermite.{Echelon, width, rows, Reduced, Hermite}
 use Rattle.lattice.specs.Coset.{Describes}
 use Rattle.tableau.specs.Table.{tableau}
-use Rattle.tableau.specs.Elimination.{at, choose, gather, eliminate}
+use Rattle.tableau.specs.Elimination.{at, gather, eliminate}
 use Rattle.tableau.specs.RightSide.{none, some, rightSide, form, solve}
-use Rattle.tableau.specs.Generators.{Generators, Reaches, Answers, Sized}
+use Rattle.tableau.specs.Generators.{Generators, Reaches, Tells, Sized}
 use Rattle.tableau.specs.GatherLaws.{Chosen, Alone, gather-alone, gather-fuel}
 use Rattle.tableau.specs.FormLaws.{Eliminated, eliminated}
 use Rattle.tableau.specs.TableLaws.{tableau-generators, tableau-reaches}
-use Rattle.tableau.specs.RightLaws.{right-answers, answers-same, answers-none, answers-unique}
+use Rattle.tableau.specs.FoundLaws.{tells-same, tells-none, tells-unique}
+use Rattle.tableau.specs.RightLaws.{right-tells}
 
--- ---- a
--- p rounds, where p is the first magnitude chosen, leave the pivot's entry above 0 and every lower entry 0, and f rounds, no fewer, leave the same
+-- ---- elimination
+-- As many rounds as the first magnitude chosen leave the pivot's entry above 0 and every lower entry 0. More rounds leave the same, and the same
+-- mark.
 pub gathering-ends : {n c : ℕ} {b : List ℤ} {B : List (List ℤ)} {j p : ℕ} → Chosen n c b B j p → (f : ℕ) → p ≤ f
     → Alone c (gather p c (at j p) b B .pivot) (gather p c (at j p) b B .below) × (gather f c (at j p) b B ≡ gather p c (at j p) b B)
 gathering-ends {j = j} {p = p} h f l = (gather-alone h p j p (omega arith), gather-fuel h f p j p j p l (omega arith))
 
--- of independent rows of n numbers, elimination leaves the rows of a Hermite form of n columns, which span the same lists
+-- Of independent rows of n numbers, elimination leaves the rows of a Hermite form of n columns (`form`, `wide`, `hermite`, `is`), and these span the
+-- same lists of n numbers as the table did (`keeps`). That it ends is `gathering-ends`: every other step is once for each row or column.
 pub elimination-form : (n : ℕ) (T : List (List ℤ)) → All (Len n) T → Independent n T → Eliminated n T
 elimination-form n T l i = eliminated n T l i
 
--- ---- b
--- two Hermite forms of one span are the same
+-- ---- uniqueness
+-- Two Hermite forms of one span are the same.
 pub form-unique : (H K : Echelon) → width H ≡ width K → Hermite H → Hermite K → Same (width H) (rows H) (rows K) → H ≡ K
 form-unique = Forms.hermite-unique
 
--- two reduced lists that differ by a list of the span are the same
+-- Two lists reduced by a form that differ by a list of its span, two of one coset, are the same.
 pub reduced-unique : (H : Echelon) (u v : List ℤ) → length u ≡ width H → length v ≡ width H → Hermite H → Reduced H u → Reduced H v
     → Span (rows H) (minus u v) → u ≡ v
 reduced-unique = Forms.reduced-unique
 
--- elimination of two tables leaves the same table exactly when they span the same lists
+-- Of two tables with independent rows elimination leaves the same table exactly when they span the same lists.
 pub elimination-unique : (n : ℕ) (T U : List (List ℤ)) → All (Len n) T → Independent n T → All (Len n) U → Independent n U
     → Same n T U ↔ (eliminate n T .table ≡ eliminate n U .table)
 elimination-unique n T U lt it lu iu =
@@ -75,49 +78,52 @@ elimination-unique n T U lt it lu iu =
       }),
     )
 
--- ---- c
--- what is found from generator rows and a right side, whatever the mark: "none" where no list is reached, or else the reached lists' description
-pub reached-answers : (n m : ℕ) (T : List (List ℤ)) (over : Bool) (v : List ℤ) → Generators n m T v
-    → Answers n (Reaches n m T v) (rightSide m (eliminate (m + n) T .table) over v .found)
-reached-answers n m T over v g =
+-- ---- generator rows, of any problem or none
+-- From generator rows and a right side "none" is found where no list is reached. Otherwise the basis found is in Hermite form, the starting list is
+-- reduced by it, and the lists reached are the starting list and the whole combinations of the basis added to it. The mark changes nothing.
+pub reached-tells : (n m : ℕ) (T : List (List ℤ)) (over : Bool) (v : List ℤ) → Generators n m T v
+    → Tells n (Reaches n m T v) (rightSide m (eliminate (m + n) T .table) over v .found)
+reached-tells n m T over v g =
     let t : Eliminated (m + n) T = eliminated (m + n) T (g .wide) (g .independent) in
     let F : List (List ℤ) = eliminate (m + n) T .table in
-    answers-same n (λ (x : List ℤ). Span F (minus (zeros m ++ x) v)) (Reaches n m T v) (rightSide m F over v .found)
+    tells-same n (λ (x : List ℤ). Span F (minus (zeros m ++ x) v)) (Reaches n m T v) (rightSide m F over v .found)
     (λ x l.
     let k : length (minus (zeros m ++ x) v) ≡ m + n = length-plus (negsuc 0) v (zeros m ++ x) ∙ length-zeros m x ∙ ap (λ (i : ℕ). m + i) l in
     ((λ s. record { long = l; spans = t .keeps .both _ k .1 s }), (λ r. t .keeps .both _ k .0 (r .spans))))
-    (rw (t .is) (right-answers n m (t .form) over v (t .wide) (t .hermite) (g .long)))
+    (rw (t .is) (right-tells n m (t .form) over v (t .wide) (t .hermite) (g .long)))
 
--- two generator tables with right sides, the heads of m and of m′ columns, find the same exactly when they reach the same lists of n numbers
+-- Two generator tables with right sides, with heads of m and of m′ columns, find the same exactly when they reach the same lists of n numbers. What
+-- is found in any other way is the same too, if it tells the same set (FoundLaws, `tells-unique`).
 pub reached-same : (n m m′ : ℕ) (T T′ : List (List ℤ)) (over over′ : Bool) (v v′ : List ℤ) → Generators n m T v → Generators n m′ T′ v′
     → ((x : List ℤ) → Reaches n m T v x ↔ Reaches n m′ T′ v′ x)
     ↔ (rightSide m (eliminate (m + n) T .table) over v .found ≡ rightSide m′ (eliminate (m′ + n) T′ .table) over′ v′ .found)
 reached-same n m m′ T T′ over over′ v v′ g g′ =
-    answers-unique n (Reaches n m T v) (Reaches n m′ T′ v′) _ _ (λ x r. r .long) (λ x r. r .long)
-    (reached-answers n m T over v g) (reached-answers n m′ T′ over′ v′ g′)
+    tells-unique n (Reaches n m T v) (Reaches n m′ T′ v′) _ _ (λ x r. r .long) (λ x r. r .long)
+    (reached-tells n m T over v g) (reached-tells n m′ T′ over′ v′ g′)
 
--- ---- d
-pub solve-answers : (n : ℕ) (A : List (List ℤ)) (b : List ℤ) → Sized n A b → Answers n (Satisfies n A b) (solve n A b .found)
+-- ---- a problem
+-- The same for a problem: what is found tells the set of lists that satisfy its rows.
+pub solve-tells : (n : ℕ) (A : List (List ℤ)) (b : List ℤ) → Sized n A b → Tells n (Satisfies n A b) (solve n A b .found)
 unfolding solve form
-solve-answers n A b z =
-    answers-same n (Reaches n (length A) (tableau n A) (neg b ++ zeros n)) (Satisfies n A b) (solve n A b .found) (λ x l. tableau-reaches n A b z x)
-    (reached-answers n (length A) (tableau n A) (form n A .over) (neg b ++ zeros n) (tableau-generators n A b z))
+solve-tells n A b z =
+    tells-same n (Reaches n (length A) (tableau n A) (neg b ++ zeros n)) (Satisfies n A b) (solve n A b .found) (λ x l. tableau-reaches n A b z x)
+    (reached-tells n (length A) (tableau n A) (form n A .over) (neg b ++ zeros n) (tableau-generators n A b z))
 
--- a list of n numbers satisfies the rows exactly when it is the starting list and a whole combination of the basis added to it
+-- A list of n numbers satisfies the rows exactly when it is the starting list and a whole combination of the basis added to it.
 pub solve-some : (n : ℕ) (A : List (List ℤ)) (b : List ℤ) → Sized n A b → (start : List ℤ) (N : List (List ℤ)) → solve n A b .found ≡ some start N
     → (x : List ℤ) → length x ≡ n → Satisfies n A b x ↔ Span N (minus x start)
 solve-some n A b z start N e x l =
-    let d : Describes n (Satisfies n A b) start N = subst (Answers n (Satisfies n A b)) e (solve-answers n A b z) in
+    let d : Describes n (Satisfies n A b) start N = subst (Tells n (Satisfies n A b)) e (solve-tells n A b z) in
     d .set x l
 
--- "none" is found exactly when no list satisfies the rows
+-- "None" is found exactly when no list satisfies the rows.
 pub solve-none : (n : ℕ) (A : List (List ℤ)) (b : List ℤ) → Sized n A b → (solve n A b .found ≡ none) ↔ ((x : List ℤ) → Satisfies n A b x → ⊥)
-solve-none n A b z = answers-none n (Satisfies n A b) (solve n A b .found) (λ x s. s .wide) (solve-answers n A b z)
+solve-none n A b z = tells-none n (Satisfies n A b) (solve n A b .found) (λ x s. s .wide) (solve-tells n A b z)
 
--- ---- e
--- the same lists satisfy the rows of two problems of n columns exactly when the same is found for them, with "none" or a starting list and a basis
+-- The same lists satisfy the rows of two problems of n columns exactly when the same is found for them: "none", or the same starting list and basis.
+-- Their matrices, their tableaus and their numbers of rows may differ.
 pub solve-same : (n : ℕ) (A A′ : List (List ℤ)) (b b′ : List ℤ) → Sized n A b → Sized n A′ b′
     → ((x : List ℤ) → Satisfies n A b x ↔ Satisfies n A′ b′ x) ↔ (solve n A b .found ≡ solve n A′ b′ .found)
 solve-same n A A′ b b′ z z′ =
-    answers-unique n (Satisfies n A b) (Satisfies n A′ b′) (solve n A b .found) (solve n A′ b′ .found) (λ x s. s .wide) (λ x s. s .wide)
-    (solve-answers n A b z) (solve-answers n A′ b′ z′)
+    tells-unique n (Satisfies n A b) (Satisfies n A′ b′) (solve n A b .found) (solve n A′ b′ .found) (λ x s. s .wide) (λ x s. s .wide)
+    (solve-tells n A b z) (solve-tells n A′ b′ z′)

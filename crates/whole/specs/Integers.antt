@@ -88,7 +88,8 @@ parts-neg-pos zero = refl
 parts-neg-pos (suc n) = omega arith
 
 parts-mul : (x y : ℤ)
-    → plusPart (x *ℤ y) + (plusPart x * minusPart y + minusPart x * plusPart y) ≡ minusPart (x *ℤ y) + (plusPart x * plusPart y + minusPart x * minusPart y)
+    → plusPart (x *ℤ y) + (plusPart x * minusPart y + minusPart x * plusPart y)
+    ≡ minusPart (x *ℤ y) + (plusPart x * plusPart y + minusPart x * minusPart y)
 unfolding plusPart minusPart
 parts-mul (pos a) (pos b) = omega arith
 parts-mul (pos a) (negsuc b) = omega (arith, parts-neg-pos (a * suc b))
