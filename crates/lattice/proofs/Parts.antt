@@ -2,7 +2,7 @@
 --   tail-is, tail-back   `&mut t[a..]`
 --   part-is, part-back   `&mut t[a..a + w]`
 -- Assumes nothing.
-use mathlib.Core.Path.{_≡_, refl, sym, _∙_, ap}
+use mathlib.Core.Path.{_≡_}
 use mathlib.Core.List.{List, _++_, append-nil}
 use Prim.Native.Nat.{ℕ, _+_, _-_, _≤_}
 use native.Mathlib.Nat.{le-refl}

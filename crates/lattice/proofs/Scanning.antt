@@ -2,9 +2,9 @@
 --   lead-on, lead-at, lead-end     the number there is 0; it is not; there is none left
 --   zero-on, zero-at, zero-end     the same of `allZero`
 -- Assumes nothing.
-use mathlib.Core.Path.{_≡_, refl, sym, _∙_, ap}
-use mathlib.Core.Bool.{Bool, true, false}
-use mathlib.Core.List.{List, [], _∷_}
+use mathlib.Core.Path.{_≡_, refl, _∙_, ap}
+use mathlib.Core.Bool.{true, false}
+use mathlib.Core.List.{List, _∷_}
 use Prim.Native.Nat.{ℕ, zero, suc, _+_, _<_, _≤_}
 use native.Mathlib.Numerals.{add-one}
 use native.Mathlib.Omega.{arith}
@@ -13,7 +13,7 @@ use lib.IntN.{ℤ, pos, negsuc, natAbs}
 use lib.ListN.{length, drop, drop-of-length-le}
 use lib.Seq.{drop-cons}
 use Rattle.whole.specs.Lists.{entry}
-use Rattle.lattice.specs.Rows.{lead, leadAt, allZero}
+use Rattle.lattice.specs.Rows.{lead, allZero}
 
 lead-zero : (x : ℤ) (r : List ℤ) → natAbs x ≡ 0 → lead (x ∷ r) ≡ suc (lead r)
 unfolding lead

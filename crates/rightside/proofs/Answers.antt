@@ -17,7 +17,7 @@ use Rattle.lattice.specs.RowLaws.{length-neg}
 use Rattle.problem.specs.declared.Problem.{Problem}
 use Rattle.tableau.specs.Elimination.{Left}
 use Rattle.tableau.specs.RightSide as RightSide
-use Rattle.tableau.specs.RightSide.{none, some, Solved, sweep, leading, remaining, basis, afterLeading, rightSide}
+use Rattle.tableau.specs.RightSide.{none, some, Solved, sweep, leading, remaining, basis, rightSide}
 use Rattle.rightside.specs.Solutions.{answerOf, solutionOf, startOf, startAfter}
 use Rattle.tableau.specs.Within.{Within, within-append, within-neg, within-zeros}
 use Rattle.rightside.specs.Halves.{Righted, Findable, foundOf}

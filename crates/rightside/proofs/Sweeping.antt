@@ -5,8 +5,8 @@
 --   starts, goes-on, stops, ends   at first, after a row, at a number beyond ±M, past the last row
 --   sweep-wide, sweep-within       a whole sweep keeps the length, and so on
 -- Assumes nothing.
-use mathlib.Core.Path.{_≡_, refl, sym, _∙_, ap, ap₂, subst}
-use mathlib.Core.Bool.{Bool, true, false, not, cond, _||_, false≢true}
+use mathlib.Core.Path.{_≡_, refl, sym, _∙_, ap, subst}
+use mathlib.Core.Bool.{Bool, true, false, not, cond, _||_}
 use mathlib.Core.List.{List, [], _∷_}
 use Prim.Native.Nat.{ℕ, zero, suc, _+_, _*_, _-_, _<_, _≤_}
 use native.Mathlib.Nat.{mul-le-mul-right, suc-mul}
@@ -15,14 +15,12 @@ use lib.Dec.{ltb}
 use lib.IntN.{ℤ, pos, negsuc}
 use lib.ListN.{length, take, drop, length-drop}
 use lib.Seq.{length-take-le, drop-drop}
-use Rattle.whole.specs.Lists.{entry}
 use Rattle.lattice.specs.Rows.{ZeroTo, lead, chop}
-use Rattle.lattice.specs.RowLaws.{length-plus}
 use Rattle.lattice.specs.Span.{All}
 use Rattle.lattice.specs.FlatLaws.{chop-next}
 use Rattle.tableau.specs.Elimination.{Left, kept, reduced}
 use Rattle.tableau.specs.RightSide.{further, sweep, leading, remaining}
-use Rattle.tableau.specs.Within.{Within, within-take, within-drop}
+use Rattle.tableau.specs.Within.{Within, neither}
 use Rattle.tableau.specs.Steps.{Pivot, Leads}
 use Rattle.rightside.specs.Halves.{wantedOf, halfOf, ownStep, Swept}
 use Rattle.rightside.specs.declared.Half.{Half}
@@ -140,10 +138,6 @@ ends {half} {m} {w} {k} {t} {v₀} {v} {at} {left} h e =
     record { answer = ap (λ (x : Left). x .over) (sym all); left = λ _. ap (λ (x : Left). x .row) (sym all) }
 
 -- ---- a whole sweep
-further-parts : (a b : Bool) → a || b ≡ false → (a ≡ false) × (b ≡ false)
-further-parts true b e = absurd (false≢true (sym e))
-further-parts false b e = (refl, e)
-
 pub sweep-wide : (T : List (List ℤ)) (v : List ℤ) → length (sweep T v .row) ≡ length v
 unfolding sweep
 sweep-wide [] v = refl
@@ -154,5 +148,5 @@ unfolding sweep
 sweep-within [] v h e = h
 sweep-within (r ∷ T) v h e =
     let x : Left = reduced (lead r) r v in
-    let d : (x .over ≡ false) × (sweep T (x .row) .over ≡ false) = further-parts (x .over) (sweep T (x .row) .over) e in
+    let d : (x .over ≡ false) × (sweep T (x .row) .over ≡ false) = neither (x .over) (sweep T (x .row) .over) e in
     sweep-within T (x .row) (reduced-step (lead r) r .holds v h (d .0)) (d .1)

@@ -6,7 +6,7 @@
 --   chosen-below   a chosen row is one of the rows
 -- Assumes nothing.
 use mathlib.Core.Path.{_≡_, refl, sym, _∙_, ap, ap₂, subst}
-use mathlib.Core.List.{List, [], _∷_}
+use mathlib.Core.List.{List, _∷_}
 use Prim.Native.Nat.{ℕ, zero, suc, _+_, _*_, _-_, _<_, _≤_}
 use native.Mathlib.Nat.{zero-mul, suc-mul}
 use native.Mathlib.Numerals.{add-one}
@@ -18,7 +18,7 @@ use lib.Seq.{drop-drop}
 use Rattle.whole.specs.Lists.{entry}
 use Rattle.lattice.specs.Rows.{chop}
 use Rattle.lattice.specs.FlatLaws.{chop-next, row-number}
-use Rattle.tableau.specs.Elimination.{Choice, none, at, shifted, prefer, choose}
+use Rattle.tableau.specs.Elimination.{Choice, none, at, prefer, choose}
 use Rattle.tableau.specs.GatherLaws.{Stands, choose-stands}
 use Rattle.tableau.specs.Choices.{choiceOf, Fewer}
 use Rattle.tableau.specs.declared.gathering.Choice as code

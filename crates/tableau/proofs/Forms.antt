@@ -5,25 +5,25 @@
 --   formed         so it is, where no number beyond ±M was met
 --   form-over, form-kept   what the buffer holds, by the mark
 -- Assumes nothing.
-use mathlib.Core.Path.{_≡_, refl, sym, _∙_, ap, ap₂, subst}
-use mathlib.Core.Bool.{Bool, true, false, cond, _&&_, _||_, false≢true}
-use mathlib.Core.List.{List, [], _∷_, _++_, map}
+use mathlib.Core.Path.{_≡_, refl, sym, _∙_, ap, subst}
+use mathlib.Core.Bool.{Bool, true, false, cond, _&&_, false≢true}
+use mathlib.Core.List.{List, [], _∷_}
 use mathlib.Core.Logic.{⊎-elim}
-use Prim.Native.Nat.{ℕ, zero, suc, _+_, _*_, _<_, _≤_}
+use Prim.Native.Nat.{ℕ, zero, suc, _+_, _<_, _≤_}
 use native.Mathlib.Nat.{eq-or-lt-of-le, le-of-suc-le-suc, le-trans}
 use native.Mathlib.Omega.{arith}
 use borrow.Author.Tests.{leb-true, le-ltb}
-use lib.Dec.{leb, lit≤}
-use lib.IntN.{ℤ, pos, negsuc, natAbs}
-use lib.ListN.{length, take, drop}
+use lib.Dec.{lit≤}
+use lib.IntN.{ℤ, pos, natAbs}
+use lib.ListN.{length}
 use Rattle.whole.specs.Lists.{entry, zeros}
 use Rattle.whole.specs.Tests.{spans, every}
 use Rattle.whole.specs.Integers.{Positive, positive}
-use Rattle.lattice.specs.Rows.{neg, allZero, lead, flat, chop}
+use Rattle.lattice.specs.Rows.{lead, flat, chop}
 use Rattle.lattice.specs.Span.{All, Len, Independent}
 use Rattle.lattice.specs.Hermite.{Echelon, done, skip, step, width, indent, rows, Hermite}
 use Rattle.lattice.specs.FlatLaws.{flat-chop, chop-flat, length-chop}
-use Rattle.problem.specs.Limits.{M, maxCoefficient, maxRight, anyBeyond}
+use Rattle.problem.specs.Limits.{M, maxCoefficient, anyBeyond}
 use Rattle.problem.specs.Checks.{allSpan}
 use Rattle.problem.specs.declared.Problem.{Problem}
 use Rattle.tableau.specs.Table.{tableauFrom, tableau}

@@ -8,7 +8,7 @@
 --   starts ..      the first column; a choice in the tail; no column or no row left
 -- Assumes nothing.
 use mathlib.Core.Path.{_≡_, refl, sym, _∙_, ap, ap₂, subst}
-use mathlib.Core.Bool.{Bool, true, false, _||_, false≢true}
+use mathlib.Core.Bool.{Bool, true, false, _||_}
 use mathlib.Core.List.{List, [], _∷_, _++_, append-nil, append-assoc}
 use Prim.Native.Nat.{ℕ, zero, suc, _+_, _*_, _-_, _<_, _≤_}
 use native.Mathlib.Nat.{le-refl, zero-mul}
@@ -21,16 +21,16 @@ use Rattle.whole.specs.Lists.{entry}
 use Rattle.lattice.specs.Rows.{ZeroTo, flat, chop}
 use Rattle.lattice.specs.RowLaws.{ZeroTo-next, ZeroTo-plus, ZeroTo-neg}
 use Rattle.lattice.specs.Span.{All, Len, all-both, all-append, steps-length, steps-all}
-use Rattle.lattice.specs.FlatLaws.{flat-append, flat-chop, chop-next, chop-rows, chop-take, chop-split, length-chop, length-flat, front-rows, front-rest}
+use Rattle.lattice.specs.FlatLaws.{flat-append, flat-chop, chop-next, chop-rows, chop-take, chop-split, length-chop, front-rows, front-rest}
 use Rattle.problem.specs.Limits.{maxRows, maxColumns}
-use Rattle.tableau.specs.Elimination.{Run, each, reduced, Choice, none, at, choose, Gathered, gather, Passed, passColumn, passColumns, eliminate}
-use Rattle.tableau.specs.GatherLaws.{Stands, choose-stands, Chosen, Alone, gather-steps, gather-alone, gathering, gathering-first}
-use Rattle.tableau.specs.Within.{Within, within-append, within-take, within-drop}
-use Rattle.tableau.specs.Steps.{Stops, StopsRun, eachOf, Pivot}
+use Rattle.tableau.specs.Elimination.{Run, each, reduced, Choice, none, at, choose, Gathered, Passed, passColumn, passColumns, eliminate}
+use Rattle.tableau.specs.GatherLaws.{Stands, choose-stands, Alone, gather-steps, gather-alone, gathering-first}
+use Rattle.tableau.specs.Within.{Within, neither, within-append, within-take, within-drop}
+use Rattle.tableau.specs.Steps.{StopsRun, eachOf, Pivot}
 use Rattle.tableau.specs.Tails.{Tail, Picked, gatheringOf}
 use Rattle.tableau.specs.Columns.{Standing, aboveOf, belowOf, passedOf, tableOf}
 use Rattle.tableau.specs.declared.rows.Way.the-variants.{Above}
-use Rattle.tableau.proofs.Walking.{Step, stepping, each-wide, each-count}
+use Rattle.tableau.proofs.Walking.{stepping, each-wide, each-count}
 use Rattle.tableau.proofs.Staying.{flat-all, all-flat, each-all, gather-all, gather-count}
 
 -- ---- the columns of the definition
@@ -162,11 +162,7 @@ module _ {n w c k j : ℕ} {t : List ℤ} (h : Standing n w c k t) (l : c < w) (
   -- ---- the table then
   module _ {u : List ℤ} (o : passedOf n w c k t .over ≡ false) (s : u ≡ flat (tableOf (passedOf n w c k t) .table)) (m : length u ≡ length t) where
     both : (G .over ≡ false) × (A .over ≡ false)
-    both = go (G .over) (sym (ap (λ (x : Passed). x .over) passed-is) ∙ o)
-      where
-        go : (b : Bool) → b || A .over ≡ false → (b ≡ false) × (A .over ≡ false)
-        go true e = absurd (false≢true (sym e))
-        go false e = (refl, e)
+    both = neither (G .over) (A .over) (sym (ap (λ (x : Passed). x .over) passed-is) ∙ o)
 
     abbrev X : List (List ℤ)
     X = A .table ++ (G .pivot ∷ [])

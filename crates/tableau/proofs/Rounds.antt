@@ -13,20 +13,21 @@ use Prim.Native.Nat.{ℕ, zero, suc, _+_, _*_, _-_, _<_, _≤_}
 use native.Mathlib.Nat.{zero-mul, zero-add, suc-mul}
 use native.Mathlib.Omega.{arith}
 use lib.IntN.{ℤ, pos, negsuc}
-use lib.ListN.{length, take, drop, length-append, length-drop, take-append-drop}
+use lib.ListN.{length, take, drop, length-append, length-drop}
 use lib.Seq.{length-take-le, take-at, drop-at, drop-drop, take-add}
 use Rattle.whole.specs.Lists.{entry}
 use Rattle.whole.specs.Integers.{Positive, positive-of}
-use Rattle.lattice.specs.Rows.{neg, ZeroTo, flat, chop}
+use Rattle.lattice.specs.Rows.{ZeroTo, flat, chop}
 use Rattle.lattice.specs.RowLaws.{length-neg, ZeroTo-neg}
-use Rattle.lattice.specs.Span.{All, all-at}
+use Rattle.lattice.specs.Span.{all-at}
 use Rattle.lattice.specs.FlatLaws.{chop-row, chop-set, length-chop, row-in-table, first-wide}
-use Rattle.tableau.specs.Elimination.{Gathered, Choice, at, choose, exchange, signed, clear, round}
-use Rattle.tableau.specs.GatherLaws.{Chosen, chosen-stands, round-lead}
-use Rattle.tableau.specs.Within.{Within, within-take, within-drop, within-append, within-neg}
+use Rattle.tableau.specs.Elimination.{Gathered, Choice, at, exchange, signed, clear, round}
+use Rattle.tableau.specs.GatherLaws.{chosen-stands, round-lead}
+use Rattle.tableau.specs.Within.{Within, within-take, within-drop, within-append}
 use Rattle.tableau.specs.Steps.{StopsRun, eachOf, Pivot}
 use Rattle.tableau.specs.Tails.{Tail, Picked, lowerFirst, liftedRow, Lifted, Gathers, roundOf}
 use Rattle.tableau.specs.declared.rows.Way.the-variants.{Below}
+use Rattle.tableau.proofs.Staying.{signed-all}
 
 -- ---- the exchange
 more : (j w : ℕ) → suc j * w ≡ w + j * w
@@ -79,10 +80,6 @@ signed-wide : (z : ℤ) (r : List ℤ) → length (signed z r) ≡ length r
 signed-wide (pos n) r = refl
 signed-wide (negsuc n) r = length-neg r
 
-signed-small : (z : ℤ) (r : List ℤ) → Within r → Within (signed z r)
-signed-small (pos n) r h = h
-signed-small (negsuc n) r h = within-neg r h
-
 signed-front : (c : ℕ) (z : ℤ) (r : List ℤ) → ZeroTo c r → ZeroTo c (signed z r)
 signed-front c (pos n) r h = h
 signed-front c (negsuc n) r h = ZeroTo-neg c r h
@@ -123,7 +120,7 @@ module _ {k w c j : ℕ} {t : List ℤ} (h : Tail k w c t) (g : Picked k w c t j
   pub lifted-pivot : Pivot w c (liftedRow w c j t)
   lifted-pivot = record {
     wide = signed-wide (entry c row) row ∙ row-wide;
-    small = signed-small (entry c row) row (within-take w (drop (j * w) t) (within-drop (j * w) t (h .small)));
+    small = signed-all (entry c row) row (within-take w (drop (j * w) t) (within-drop (j * w) t (h .small)));
     front = signed-front c (entry c row) row row-front;
     lead = lifted-lead;
   }

@@ -4,9 +4,9 @@
 --   eliminate-all        so does the whole elimination
 --   gather-count, eliminate-count   gathering and elimination keep the count of rows
 -- Assumes nothing.
-use mathlib.Core.Path.{_≡_, refl, sym, _∙_, ap}
-use mathlib.Core.Bool.{Bool, true, false, _||_, false≢true}
-use mathlib.Core.List.{List, [], _∷_, _++_}
+use mathlib.Core.Path.{_≡_, refl, _∙_}
+use mathlib.Core.Bool.{false}
+use mathlib.Core.List.{List, [], _∷_}
 use Prim.Native.Nat.{ℕ, zero, suc, _+_}
 use native.Mathlib.Nat.{zero-add}
 use native.Mathlib.Omega.{arith}
@@ -17,7 +17,7 @@ use Rattle.lattice.specs.Rows.{flat}
 use Rattle.lattice.specs.Span.{All, all-append}
 use Rattle.problem.specs.Limits.{anyBeyond}
 use Rattle.tableau.specs.Elimination.{Left, each, reduced, Choice, none, at, choose, Gathered, exchange, signed, clear, round, gather, Passed, passColumn, passColumns, eliminate}
-use Rattle.tableau.specs.Within.{Within, within-append, within-left, within-right, within-neg}
+use Rattle.tableau.specs.Within.{Within, within-append, within-left, within-right, within-neg, neither}
 use Rattle.tableau.specs.declared.rows.Way.the-variants.{Below, Above}
 use Rattle.tableau.proofs.Walking.{Step, stepping, each-count}
 
@@ -30,15 +30,11 @@ pub all-flat : (T : List (List ℤ)) → Within (flat T) → All Within T
 all-flat [] h = tt
 all-flat (r ∷ T) h = (within-left r (flat T) h, all-flat T (within-right r (flat T) h))
 
-unmarked : (a b : Bool) → a || b ≡ false → (a ≡ false) × (b ≡ false)
-unmarked true b e = absurd (false≢true (sym e))
-unmarked false b e = (refl, e)
-
 pub each-all : {f : List ℤ → Left} (B : List (List ℤ)) → Step f → All Within B → each f B .over ≡ false → All Within (each f B .table)
 unfolding each
 each-all {f} [] s a e = tt
 each-all {f} (r ∷ B) s a e =
-    let d : (f r .over ≡ false) × (each f B .over ≡ false) = unmarked (f r .over) (each f B .over) e in
+    let d : (f r .over ≡ false) × (each f B .over ≡ false) = neither (f r .over) (each f B .over) e in
     (s .holds r (a .0) (d .0), each-all B s (a .1) (d .1))
 
 row-all : (B : List (List ℤ)) (j : ℕ) (b : List ℤ) → Within b → All Within B → Within (getD B j b)
@@ -57,7 +53,7 @@ exchange-all none b B a = a
 exchange-all (at zero p) b B a = a
 exchange-all (at (suc j) p) b B a = (row-all B j b (a .0) (a .1), set-all B j b (a .0) (a .1))
 
-signed-all : (z : ℤ) (r : List ℤ) → Within r → Within (signed z r)
+pub signed-all : (z : ℤ) (r : List ℤ) → Within r → Within (signed z r)
 signed-all (pos n) r h = h
 signed-all (negsuc n) r h = within-neg r h
 
@@ -76,7 +72,7 @@ gather-all zero c z b B a e = a
 gather-all (suc f) c none b B a e = a
 gather-all (suc f) c (at j p) b B a e =
     let x : Gathered = round c b B in
-    let d : (x .over ≡ false) × (gather f c (choose c (x .below)) (x .pivot) (x .below) .over ≡ false) = unmarked (x .over) (gather f c (choose c (x .below)) (x .pivot) (x .below) .over) e in
+    let d : (x .over ≡ false) × (gather f c (choose c (x .below)) (x .pivot) (x .below) .over ≡ false) = neither (x .over) (gather f c (choose c (x .below)) (x .pivot) (x .below) .over) e in
     gather-all f c (choose c (x .below)) (x .pivot) (x .below) (round-all c b B a (d .0)) (d .1)
 
 exchange-count : (z : Choice) (b : List ℤ) (B : List (List ℤ)) → length (exchange z b B .1) ≡ length B
@@ -104,7 +100,7 @@ column-all c A B none a b e = (a, b)
 column-all c A [] (at j p) a b e = (a, tt)
 column-all c A (r ∷ B) (at j p) a b e =
     let g : Gathered = gather p c (at j p) r B in
-    let d : (g .over ≡ false) × (each (reduced c (g .pivot)) A .over ≡ false) = unmarked (g .over) (each (reduced c (g .pivot)) A .over) e in
+    let d : (g .over ≡ false) × (each (reduced c (g .pivot)) A .over ≡ false) = neither (g .over) (each (reduced c (g .pivot)) A .over) e in
     let h : All Within (g .pivot ∷ g .below) = gather-all p c (at j p) r B b (d .0) in
     (all-append Within (each (reduced c (g .pivot)) A .table) (g .pivot ∷ []) .1 (each-all A (stepping Above c (g .pivot)) a (d .1), (h .0, tt)), h .1)
 
@@ -114,7 +110,7 @@ columns-all zero c A B a b e = all-append Within A B .1 (a, b)
 columns-all (suc d) c A B a b e =
     let x : Passed = passColumn c A B (choose c B) in
     let h : (x .over ≡ false) × (passColumns d (suc c) (x .above) (x .below) .over ≡ false) =
-    unmarked (x .over) (passColumns d (suc c) (x .above) (x .below) .over) e in
+    neither (x .over) (passColumns d (suc c) (x .above) (x .below) .over) e in
     let s : All Within (x .above) × All Within (x .below) = column-all c A B (choose c B) a b (h .0) in
     columns-all d (suc c) (x .above) (x .below) (s .0) (s .1) (h .1)
 

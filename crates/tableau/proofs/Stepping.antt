@@ -5,10 +5,10 @@
 --   step-idle         so does a row whose quotient is 0
 --   step-parts        else the subtraction changes only the numbers from the pivot's column on
 -- Assumes nothing.
-use mathlib.Core.Path.{_≡_, refl, sym, _∙_, ap, ap₂, subst}
-use mathlib.Core.Bool.{Bool, true, false, cond, _||_}
+use mathlib.Core.Path.{_≡_, refl, sym, _∙_, ap, ap₂}
+use mathlib.Core.Bool.{Bool, true, false, _||_}
 use mathlib.Core.List.{List, [], _∷_, _++_}
-use Prim.Native.Nat.{ℕ, zero, suc, _+_, _*_, _/_, _<_, _≤_}
+use Prim.Native.Nat.{ℕ, zero, suc, _+_, _*_, _<_, _≤_}
 use native.Mathlib.Nat.{mul-le-mul-right, zero-div}
 use native.Mathlib.Omega.{arith}
 use borrow.Author.Tests.{ltb-true, ltb-false, eq-eqb, ne-eqb}
@@ -17,7 +17,6 @@ use lib.IntN.{ℤ, pos, negsuc, negℤ, natAbs, _+ℤ_, _*ℤ_}
 use lib.Signed.{_<ℤ_, _≤ℤ_}
 use lib.ListN.{length, take, drop, take-append-drop, List·getD-eq-default}
 use Rattle.whole.specs.Lists.{entry}
-use Rattle.whole.specs.Tests.{isZero}
 use Rattle.whole.specs.Quotient.{floorQuotient, gatheringQuotient}
 use Rattle.whole.specs.Integers.{rep, diff-rel, Positive, positive, positive-nonzero, gatheringQuotient-left, floorQuotient-low, floorQuotient-high, add-none}
 use Rattle.whole.proofs.Signed.{abs-add, abs-mul, abs-neg}

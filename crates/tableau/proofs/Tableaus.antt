@@ -5,19 +5,17 @@
 --   tableau-within           within ±M, where the matrix is
 -- Assumes nothing.
 use mathlib.Core.Path.{_≡_, refl, sym, _∙_, ap, ap₂}
-use mathlib.Core.Bool.{Bool, true, false}
-use mathlib.Core.List.{List, [], _∷_, _++_, map, append-assoc, append-nil}
+use mathlib.Core.List.{List, [], _∷_, _++_, append-assoc, append-nil}
 use Prim.Native.Nat.{ℕ, zero, suc, _+_, _*_, _-_, _<_, _≤_}
 use native.Mathlib.Nat.{zero-mul, suc-mul, mul-le-mul-right}
 use native.Mathlib.Numerals.{add-one}
 use native.Mathlib.Omega.{arith}
 use borrow.Author.Tests.{le-ltb}
 use lib.IntN.{ℤ, pos, natAbs}
-use lib.ListN.{length, take, drop, getD, set, length-append, length-drop, length-map, List·getD-map}
+use lib.ListN.{length, take, drop, set, length-append, length-drop, length-map, List·getD-map}
 use lib.Seq.{length-take-le, take-all}
 use Rattle.whole.specs.Lists.{entry, zeros}
 use Rattle.lattice.specs.Rows.{unit, flat, chop}
-use Rattle.lattice.specs.RowLaws.{length-unit}
 use Rattle.lattice.specs.Span.{All}
 use Rattle.lattice.specs.FlatLaws.{chop-row, length-chop, row-number, put-take}
 use Rattle.problem.specs.Limits.{M, anyBeyond}

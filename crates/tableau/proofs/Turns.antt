@@ -5,27 +5,26 @@
 --   finished       where the rows below have only 0 at c, gathering is done
 --   going-on       else it goes on with a smaller choice, among the rows below
 -- Assumes nothing.
-use mathlib.Core.Path.{_≡_, refl, sym, _∙_, ap, ap₂, subst}
+use mathlib.Core.Path.{_≡_, sym, _∙_, ap, ap₂, subst}
 use mathlib.Core.Bool.{Bool, true, false, _||_}
-use mathlib.Core.List.{List, [], _∷_, _++_}
-use Prim.Native.Nat.{ℕ, zero, suc, _+_, _*_, _-_, _<_, _≤_}
+use mathlib.Core.List.{List, _∷_}
+use Prim.Native.Nat.{ℕ, suc, _+_, _-_, _<_}
 use native.Mathlib.Numerals.{add-one}
 use native.Mathlib.Omega.{arith}
 use lib.IntN.{ℤ}
-use lib.ListN.{length, take, drop, length-drop}
+use lib.ListN.{length, take, drop}
 use lib.Seq.{take-at, drop-at}
 use Rattle.lattice.specs.Rows.{ZeroTo, flat, chop}
 use Rattle.lattice.specs.RowLaws.{ZeroTo-plus, ZeroTo-neg}
 use Rattle.lattice.specs.Span.{All, Len, steps-length, steps-all}
 use Rattle.lattice.specs.FlatLaws.{chop-next, chop-flat, flat-chop, length-chop}
-use Rattle.tableau.specs.Elimination.{Gathered, Choice, none, at, choose, clear, round, onward}
-use Rattle.tableau.specs.GatherLaws.{Chosen, chosen-stands, round-steps, round-next, gathering, following, gathering-round}
-use Rattle.tableau.specs.Within.{Within, within-append}
-use Rattle.tableau.specs.Steps.{Pivot}
-use Rattle.tableau.specs.Tails.{Tail, Picked, lowerFirst, liftedRow, Gathers, roundOf, gatheringOf}
-use Rattle.tableau.specs.declared.rows.Way.the-variants.{Below}
-use Rattle.tableau.proofs.Walking.{each-count, each-within, stepping}
-use Rattle.tableau.proofs.Rounds.{round-is, lifted-pivot, below-wide, below-small}
+use Rattle.tableau.specs.Elimination.{Gathered, Choice, none, at, choose, clear, onward}
+use Rattle.tableau.specs.GatherLaws.{Chosen, round-steps, round-next, gathering, following, gathering-round}
+use Rattle.tableau.specs.Within.{Within}
+use Rattle.tableau.specs.Tails.{Tail, Picked, lowerFirst, roundOf, gatheringOf}
+use Rattle.tableau.proofs.Walking.{each-count}
+use Rattle.tableau.proofs.Staying.{flat-all, all-flat, round-all}
+use Rattle.tableau.proofs.Rounds.{round-is}
 
 -- the size of the choice, which falls with each round
 abbrev pub sizeOf : Choice → ℕ
@@ -58,14 +57,10 @@ module _ {k w c j : ℕ} {t : List ℤ} (h : Tail k w c t) (g : Picked k w c t j
       ∙ length-chop (k - 1) w (drop w (lowerFirst w j t))
 
   small : x .over ≡ false → Within (flat (x .pivot ∷ x .below))
-  unfolding clear
   small e =
-      let D : List ℤ = drop w (lowerFirst w j t) in
-      subst (λ (y : Gathered). Within (flat (y .pivot ∷ y .below))) (sym (round-is h g))
-      (within-append (liftedRow w c j t) _ (lifted-pivot h g .small)
-      (each-within (chop (k - 1) w D) (stepping Below c (liftedRow w c j t))
-      (rw (flat-chop (k - 1) w D (below-wide h g)) (below-small h g))
-      (ap (λ (y : Gathered). y .over) (sym (round-is h g)) ∙ e)))
+      flat-all (x .pivot ∷ x .below)
+      (round-all c (take w t) (chop (k - 1) w (drop w t))
+      (subst (All Within) (chop-next k w t (g .some)) (all-flat (chop k w t) (rw (flat-chop k w t (h .wide)) (h .small)))) e)
 
   front : All (ZeroTo c) (x .pivot ∷ x .below)
   front =

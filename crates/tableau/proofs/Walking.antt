@@ -3,11 +3,11 @@
 --   Walk f w k t₀ t at left   the rows before the number `at` of t are done, and `left` rows of w numbers are still those of t₀
 --   starts, goes-on        it holds at first, and after a row that f does not mark
 --   stops, ends            at a row that f marks the answer is true; past the last row it is false, and the table is the definition's
---   each-within, each-wide what `each` does not mark lies within ±M; the rows keep their length
+--   each-wide, each-count  the rows keep their length, and their count
 --   reduced-step, stepping the step by a pivot is such a step
 -- Assumes nothing.
-use mathlib.Core.Path.{_≡_, refl, sym, _∙_, ap, ap₂, subst}
-use mathlib.Core.Bool.{Bool, true, false, cond, _||_, or-true, false≢true}
+use mathlib.Core.Path.{_≡_, refl, sym, _∙_, ap, ap₂}
+use mathlib.Core.Bool.{Bool, true, false, cond, _||_}
 use mathlib.Core.List.{List, [], _∷_, _++_, append-assoc, append-nil}
 use Prim.Native.Nat.{ℕ, zero, suc, _+_, _*_, _-_, _<_, _≤_}
 use native.Mathlib.Nat.{mul-le-mul-right, zero-mul, suc-mul}
@@ -23,18 +23,14 @@ use Rattle.lattice.specs.RowLaws.{length-plus}
 use Rattle.lattice.specs.Span.{All, Len}
 use Rattle.lattice.specs.FlatLaws.{chop-next, put-take, put-drop}
 use Rattle.tableau.specs.Elimination.{Left, kept, subtract, lowered, reduced, Run, each}
-use Rattle.tableau.specs.Within.{Within, within-append, within-left, within-right, within-take, within-drop}
-use Rattle.tableau.specs.Steps.{Stops, StopsRun, stepOf}
+use Rattle.tableau.specs.Within.{Within, within-append, within-take, within-drop}
+use Rattle.tableau.specs.Steps.{StopsRun, stepOf}
 use Rattle.tableau.specs.declared.rows.Way.{Way}
 use Rattle.tableau.specs.declared.rows.Way.the-variants.{Below, Above}
 
 pub record Step (f : List ℤ → Left) : Type 0 where
   pub wide : (s : List ℤ) → length (f s .row) ≡ length s
   pub holds : (s : List ℤ) → Within s → f s .over ≡ false → Within (f s .row)
-
-unmarked : (a b : Bool) → a || b ≡ false → (a ≡ false) × (b ≡ false)
-unmarked true b e = absurd (false≢true (sym e))
-unmarked false b e = (refl, e)
 
 -- ---- what `each` leaves
 pub each-wide : {f : List ℤ → Left} (w : ℕ) (B : List (List ℤ)) → Step f → All (Len w) B → All (Len w) (each f B .table)
@@ -46,13 +42,6 @@ pub each-count : (f : List ℤ → Left) (B : List (List ℤ)) → length (each 
 unfolding each
 each-count f [] = refl
 each-count f (r ∷ B) = ap suc (each-count f B)
-
-pub each-within : {f : List ℤ → Left} (B : List (List ℤ)) → Step f → Within (flat B) → each f B .over ≡ false → Within (flat (each f B .table))
-unfolding each
-each-within {f} [] s h e = h
-each-within {f} (r ∷ B) s h e =
-    let d : (f r .over ≡ false) × (each f B .over ≡ false) = unmarked (f r .over) (each f B .over) e in
-    within-append (f r .row) (flat (each f B .table)) (s .holds r (within-left r (flat B) h) (d .0)) (each-within B s (within-right r (flat B) h) (d .1))
 
 -- ---- the loop
 pub record Walk (f : List ℤ → Left) (w k : ℕ) (t₀ t : List ℤ) (at left : ℕ) : Type 0 where

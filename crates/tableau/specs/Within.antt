@@ -1,16 +1,16 @@
 -- Lists whose numbers lie within ±M.
 --   Within l           no number of l lies beyond ±M
+--   neither            two marks of which none is set
 --   within-..          of a part, of lists end to end, of a negated row, of zeros; and of one number
---   beyond-.., more    the first i numbers and the next one, for a loop that stops at a number beyond ±M
+--   beyond-at, within-next   the first i numbers and the next one, for a loop that stops at a number beyond ±M
 -- Assumes nothing.
-use mathlib.Core.Path.{_≡_, refl, sym, _∙_, ap, ap₂, subst}
-use mathlib.Core.Bool.{Bool, true, false, _||_, or-false, or-true, false≢true}
+use mathlib.Core.Path.{_≡_, refl, sym, _∙_, ap, ap₂}
+use mathlib.Core.Bool.{Bool, true, false, _||_, or-true, false≢true}
 use mathlib.Core.List.{List, [], _∷_, _++_}
 use Prim.Native.Nat.{ℕ, zero, suc, _+_, _<_, _≤_}
 use native.Mathlib.Numerals.{add-one}
 use native.Mathlib.Omega.{arith}
-use borrow.Author.Tests.{ltb-false, ltb-true, le-ltb}
-use lib.Dec.{ltb}
+use borrow.Author.Tests.{ltb-false}
 use lib.IntN.{ℤ, pos, negsuc, negℤ, natAbs}
 use lib.ListN.{length, take, drop, take-append-drop}
 use Rattle.whole.specs.Lists.{entry, zeros}
@@ -20,9 +20,9 @@ use Rattle.problem.specs.Limits.{M, beyond, anyBeyond}
 abbrev pub Within : List ℤ → Type 0
 Within l = anyBeyond l ≡ false
 
-either : (a b : Bool) → a || b ≡ false → (a ≡ false) × (b ≡ false)
-either true b e = absurd (false≢true (sym e))
-either false b e = (refl, e)
+pub neither : (a b : Bool) → a || b ≡ false → (a ≡ false) × (b ≡ false)
+neither true b e = absurd (false≢true (sym e))
+neither false b e = (refl, e)
 
 pub beyond-append : (a b : List ℤ) → anyBeyond (a ++ b) ≡ anyBeyond a || anyBeyond b
 unfolding anyBeyond
@@ -37,10 +37,10 @@ pub within-append : (a b : List ℤ) → Within a → Within b → Within (a ++ 
 within-append a b p q = beyond-append a b ∙ ap₂ _||_ p q
 
 pub within-left : (a b : List ℤ) → Within (a ++ b) → Within a
-within-left a b p = either (anyBeyond a) (anyBeyond b) (sym (beyond-append a b) ∙ p) .0
+within-left a b p = neither (anyBeyond a) (anyBeyond b) (sym (beyond-append a b) ∙ p) .0
 
 pub within-right : (a b : List ℤ) → Within (a ++ b) → Within b
-within-right a b p = either (anyBeyond a) (anyBeyond b) (sym (beyond-append a b) ∙ p) .1
+within-right a b p = neither (anyBeyond a) (anyBeyond b) (sym (beyond-append a b) ∙ p) .1
 
 pub within-take : (i : ℕ) (l : List ℤ) → Within l → Within (take i l)
 within-take i l p = within-left (take i l) (drop i l) (rw (take-append-drop i l) p)
@@ -51,8 +51,8 @@ within-drop i l p = within-right (take i l) (drop i l) (rw (take-append-drop i l
 pub within-entry : (l : List ℤ) (i : ℕ) → Within l → natAbs (entry i l) ≤ M
 unfolding anyBeyond
 within-entry [] i p = omega arith
-within-entry (x ∷ l) zero p = ltb-false M (natAbs x) (either (beyond x) (anyBeyond l) p .0)
-within-entry (x ∷ l) (suc i) p = within-entry l i (either (beyond x) (anyBeyond l) p .1)
+within-entry (x ∷ l) zero p = ltb-false M (natAbs x) (neither (beyond x) (anyBeyond l) p .0)
+within-entry (x ∷ l) (suc i) p = within-entry l i (neither (beyond x) (anyBeyond l) p .1)
 
 abs-neg : (x : ℤ) → natAbs (negℤ x) ≡ natAbs x
 abs-neg (pos zero) = refl
@@ -63,7 +63,7 @@ pub within-neg : (l : List ℤ) → Within l → Within (neg l)
 unfolding anyBeyond neg
 within-neg [] p = refl
 within-neg (x ∷ l) p =
-    let e : (beyond x ≡ false) × Within l = either (beyond x) (anyBeyond l) p in
+    let e : (beyond x ≡ false) × Within l = neither (beyond x) (anyBeyond l) p in
     rw (abs-neg x, e .0) (within-neg l (e .1))
 
 pub within-zeros : (n : ℕ) → Within (zeros n)
@@ -83,7 +83,7 @@ unfolding anyBeyond
 next [] i p e = refl
 next (x ∷ l) zero p e = rw e
 next (x ∷ l) (suc i) p e =
-    let d : (beyond x ≡ false) × Within (take i l) = either (beyond x) (anyBeyond (take i l)) p in
+    let d : (beyond x ≡ false) × Within (take i l) = neither (beyond x) (anyBeyond (take i l)) p in
     rw (d .0) (next l i (d .1) e)
 
 pub within-next : (l : List ℤ) (i : ℕ) → Within (take i l) → beyond (entry i l) ≡ false → Within (take (i + 1) l)

@@ -1,8 +1,6 @@
 ghost use mathlib.Core.Path.{_≡_};
-ghost use mathlib.Core.List.{_∷_};
 ghost use Prim.Native.Nat.{_+_, _*_, _-_, _<_, _≤_};
-ghost use lib.IntN.{natAbs};
-ghost use lib.ListN.{length, take, drop};
+ghost use lib.ListN.{length};
 ghost use Rattle.whole.specs.Lists.{entry};
 ghost use Rattle.lattice.specs.Rows.{chop};
 ghost use Rattle.tableau.specs.Elimination as Elimination;

@@ -1,5 +1,5 @@
 ghost use mathlib.Core.Path.{_≡_};
-ghost use lib.IntN.{ℤ, pos, natAbs, negℤ};
+ghost use lib.IntN.{pos, natAbs, negℤ};
 ghost use lib.Signed.{_<ℤ_};
 ghost use Prim.Native.Nat.{_≤_};
 ghost use lib.ListN.{length};

@@ -3,7 +3,6 @@ use Prim.Native.Nat.{_-_}
 use native.Mathlib.Omega.{arith}
 use lib.ListN.{length}
 use borrow.Author.Needs.{needs}
-use Rattle.whole.proofs.Signed.{back}
 use Rattle.lattice.proofs.Writing.{Written, starts, goes-on, ends}
 use Rattle.lattice.proofs.copy.Statement.{statement}
 use Rattle.lattice.proofs.copy.Tie as tie

@@ -1,18 +1,17 @@
 -- `rightside::find` meets its contract: the right side of the list (−b, then zeros), whose last numbers are copied where a list is found.
 -- Assumes nothing.
-use mathlib.Core.Path.{_≡_, refl, sym, _∙_, ap, ap₂, subst}
+use mathlib.Core.Path.{_≡_, sym, _∙_, ap}
 use mathlib.Core.Bool.{false}
-use mathlib.Core.List.{List, _++_}
-use Prim.Native.Nat.{ℕ, _+_, _*_, _-_, _≤_}
+use mathlib.Core.List.{List}
+use Prim.Native.Nat.{ℕ, _-_}
 use native.Mathlib.Omega.{arith}
 use lib.IntN.{ℤ}
 use lib.ListN.{length, drop, length-drop}
 use Rattle.lattice.specs.Rows.{chop}
-use Rattle.lattice.specs.Span.{All}
 use Rattle.lattice.proofs.Parts.{tail-is}
 use Rattle.tableau.specs.RightSide.{Solved, rightSide}
-use Rattle.rightside.specs.Solutions.{solutionOf, startAfter}
-use Rattle.rightside.specs.Halves.{Righted, foundOf}
+use Rattle.rightside.specs.Solutions.{solutionOf}
+use Rattle.rightside.specs.Halves.{foundOf}
 use Rattle.rightside.proofs.Answers.{work-wide, list-wide, list-small, found-is, start-over, start-none, start-found}
 use borrow.Author.Needs.{needs}
 use Rattle.rightside.proofs.find.Statement.{statement}

@@ -1,17 +1,15 @@
 -- `rightside::right_side` meets its contract: its tests are the definition's, in their order. Assumes nothing.
-use mathlib.Core.Path.{_≡_, refl, sym, _∙_, ap, subst}
-use mathlib.Core.Bool.{Bool, true, false, not}
+use mathlib.Core.Path.{_≡_, sym, _∙_, ap, subst}
+use mathlib.Core.Bool.{true, false}
 use mathlib.Core.List.{List}
-use Prim.Native.Nat.{ℕ, _*_, _≤_}
 use native.Mathlib.Omega.{arith}
 use borrow.Author.Tests.{not-true, not-false}
 use lib.IntN.{ℤ}
 use lib.ListN.{length, take}
 use lib.Seq.{length-take-le}
 use Rattle.lattice.specs.Rows.{allZero, chop}
-use Rattle.lattice.specs.Span.{All}
 use Rattle.tableau.specs.Within.{Within}
-use Rattle.tableau.specs.RightSide.{sweep, leading, remaining}
+use Rattle.tableau.specs.RightSide.{sweep, leading}
 use Rattle.rightside.specs.Halves.{Swept}
 use Rattle.rightside.specs.declared.Half.the-variants.{Remaining}
 use Rattle.rightside.proofs.Sweeping.{sweep-within}

@@ -1,16 +1,13 @@
 -- `rightside::sweep` meets its contract: the rows are taken from the top, and what is left to take from v is what was to take at first.
 -- Assumes nothing.
-use mathlib.Core.Path.{_≡_, refl, sym, _∙_, ap, subst}
-use mathlib.Core.Bool.{Bool, true, false, true≢false}
-use mathlib.Core.List.{List}
-use Prim.Native.Nat.{ℕ, _+_, _-_, _*_, _≤_}
+use mathlib.Core.Path.{sym, _∙_}
+use mathlib.Core.Bool.{true≢false}
+use Prim.Native.Nat.{ℕ, _-_}
 use native.Mathlib.Omega.{arith}
-use borrow.Author.Needs.{needs}
-use lib.IntN.{ℤ}
-use lib.ListN.{length, take, drop}
+use lib.ListN.{length, drop}
 use Rattle.lattice.proofs.Parts.{part-is}
 use Rattle.tableau.specs.Elimination.{Left}
-use Rattle.tableau.specs.Within.{Within, within-take, within-drop}
+use Rattle.tableau.specs.Within.{within-take, within-drop}
 use Rattle.tableau.specs.Steps.{Stops}
 use Rattle.rightside.specs.Halves.{ownStep}
 use Rattle.rightside.proofs.Sweeping.{Sweeps, starts, goes-on, stops, ends, ahead, row, row-wide, row-leads}

@@ -1,5 +1,5 @@
 -- `rightside::wanted` meets its contract: the lead lies in the first m columns, or it does not. Assumes nothing.
-use mathlib.Core.Path.{_≡_, refl, sym}
+use mathlib.Core.Path.{_≡_, refl}
 use mathlib.Core.Bool.{Bool, true, false, not}
 use Prim.Native.Nat.{ℕ}
 use borrow.Author.Tests.{leb-true, leb-false, le-ltb, lt-ltb}

@@ -1,17 +1,14 @@
 -- `tableau::form` meets its contract: elimination of the filled table leaves the form, or a number beyond M is met and the table is wiped.
 -- Assumes nothing.
-use mathlib.Core.Path.{_≡_, refl, sym, _∙_, ap, subst}
-use mathlib.Core.Bool.{Bool, true, false, cond}
-use mathlib.Core.List.{List}
-use Prim.Native.Nat.{ℕ, _+_, _*_, _≤_}
+use mathlib.Core.Path.{sym, _∙_, ap, subst}
+use mathlib.Core.Bool.{Bool, cond}
 use native.Mathlib.Omega.{arith}
-use lib.IntN.{ℤ}
 use lib.ListN.{length}
 use Rattle.whole.specs.Lists.{zeros}
 use Rattle.lattice.specs.Rows.{flat}
 use Rattle.tableau.specs.Within.{Within}
 use Rattle.tableau.specs.Steps.{StopsRun}
-use Rattle.tableau.specs.Buffers.{formOf, formAfter}
+use Rattle.tableau.specs.Buffers.{formOf}
 use Rattle.tableau.proofs.Forms.{table-within, form-stops}
 use borrow.Author.Needs.{needs}
 use Rattle.tableau.proofs.form.Statement.{statement}

@@ -1,6 +1,6 @@
 -- `whole::less_product` meets its contract: 2 to the 31st and its square together stay below 2 to the 63rd. Assumes nothing.
-use mathlib.Core.Path.{_≡_, sym}
-use Prim.Native.Nat.{ℕ, _+_, _*_, _<_, _≤_, _^_}
+use mathlib.Core.Path.{_≡_}
+use Prim.Native.Nat.{_+_, _*_, _≤_}
 use native.Mathlib.Nat.{mul-le-mul}
 use native.Mathlib.Omega.{arith}
 use lib.IntN.{ℤ, natAbs, negℤ, _+ℤ_, _*ℤ_, _-ℤ_}

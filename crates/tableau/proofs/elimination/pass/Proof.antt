@@ -1,7 +1,7 @@
 -- `tableau::elimination::pass` meets its contract: the rows from row k on are gathered, and the pivot is taken from the rows above.
 -- Assumes nothing.
-use mathlib.Core.Path.{_≡_, sym, _∙_, ap, ap₂, subst}
-use mathlib.Core.Bool.{true, false, true≢false}
+use mathlib.Core.Path.{_≡_, sym, _∙_, ap, subst}
+use mathlib.Core.Bool.{false, true≢false}
 use mathlib.Core.List.{List, _++_}
 use Prim.Native.Nat.{ℕ, _+_, _-_, _*_, _≤_}
 use native.Mathlib.Omega.{arith}
@@ -10,7 +10,6 @@ use lib.IntN.{ℤ}
 use lib.ListN.{length, take, drop, length-append}
 use lib.Seq.{length-take-le, take-at, drop-at}
 use Rattle.lattice.proofs.Parts.{tail-is, tail-back}
-use Rattle.tableau.specs.Elimination.{Gathered}
 use Rattle.tableau.specs.Within.{Within, within-take}
 use Rattle.tableau.specs.Steps.{StopsRun, Pivot, eachOf}
 use Rattle.tableau.specs.Columns.{passedOf, tableOf}

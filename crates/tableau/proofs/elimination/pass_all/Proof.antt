@@ -1,16 +1,16 @@
 -- `tableau::elimination::pass_all` meets its contract: what the columns left make of the present table is what all columns make of the
 -- first. Assumes nothing.
-use mathlib.Core.Path.{_≡_, refl, sym, _∙_, ap, ap₂, subst}
-use mathlib.Core.Bool.{true, false, true≢false}
+use mathlib.Core.Path.{_≡_, refl, sym, _∙_, ap, ap₂}
+use mathlib.Core.Bool.{true≢false}
 use mathlib.Core.List.{List}
-use Prim.Native.Nat.{ℕ, _+_, _-_, _*_, _<_, _≤_}
+use Prim.Native.Nat.{ℕ, _+_, _-_, _*_, _≤_}
 use native.Mathlib.Omega.{arith}
 use borrow.Author.Needs.{needs}
 use lib.IntN.{ℤ}
-use lib.ListN.{length, take, drop}
+use lib.ListN.{length, drop}
 use Rattle.lattice.specs.Rows.{chop}
 use Rattle.lattice.proofs.Parts.{tail-is}
-use Rattle.tableau.specs.Elimination.{Run, Passed, none, at, choose, passColumns, eliminate}
+use Rattle.tableau.specs.Elimination.{Run, at, choose, passColumns, eliminate}
 use Rattle.tableau.specs.Choices.{choiceOf}
 use Rattle.tableau.specs.Tails.{Picked}
 use Rattle.tableau.specs.Columns.{Standing, aboveOf, belowOf, passedOf, tableOf}

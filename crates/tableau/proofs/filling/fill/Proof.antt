@@ -1,12 +1,10 @@
 -- `tableau::filling::fill` meets its contract: the rows are filled from the top. Assumes nothing.
-use mathlib.Core.Path.{_≡_, sym, _∙_, ap}
+use mathlib.Core.Path.{_∙_, ap}
 use mathlib.Core.List.{List}
-use Prim.Native.Nat.{ℕ, _+_, _*_, _-_, _≤_}
+use Prim.Native.Nat.{ℕ, _+_, _-_}
 use native.Mathlib.Omega.{arith}
-use borrow.Author.Needs.{needs}
-use borrow.Rule.Slice.PartMut.{same-len-mid}
 use lib.IntN.{ℤ}
-use lib.ListN.{length, take, drop}
+use lib.ListN.{length}
 use Rattle.lattice.proofs.Parts.{part-is, part-back}
 use Rattle.tableau.specs.Buffers.{matrixOf}
 use Rattle.tableau.proofs.Tableaus.{Filled, starts, goes-on, ends, ahead, row-wide}

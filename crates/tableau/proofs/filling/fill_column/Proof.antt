@@ -1,9 +1,8 @@
 -- `tableau::filling::fill_column` meets its contract: from the left, the number of row i at column j is stored at i. Assumes nothing.
-use mathlib.Core.Path.{_≡_, sym, _∙_}
-use Prim.Native.Nat.{ℕ, _+_, _-_, _*_, _<_}
+use mathlib.Core.Path.{sym, _∙_}
+use Prim.Native.Nat.{_+_, _-_, _*_, _<_}
 use native.Mathlib.Omega.{arith}
 use borrow.Author.Needs.{needs}
-use lib.IntN.{ℤ}
 use lib.ListN.{length}
 use Rattle.whole.proofs.Signed.{back}
 use Rattle.lattice.specs.Rows.{chop}

@@ -1,5 +1,5 @@
 -- `tableau::filling::fill_unit` meets its contract: zeros, with a 1 at j. Assumes nothing.
-use mathlib.Core.Path.{_≡_, _∙_, ap}
+use mathlib.Core.Path.{_∙_, ap}
 use mathlib.Core.List.{List}
 use lib.IntN.{ℤ, pos}
 use lib.ListN.{length, set}

@@ -1,5 +1,5 @@
 -- `tableau::gathering::choose` meets its contract: from the last row up, the choice is that among the rows passed. Assumes nothing.
-use mathlib.Core.Path.{_≡_, refl, sym, _∙_, ap, ap₂}
+use mathlib.Core.Path.{_≡_, sym, _∙_, ap₂}
 use mathlib.Core.List.{List}
 use Prim.Native.Nat.{ℕ, _+_, _*_, _-_, _<_, _≤_}
 use native.Mathlib.Nat.{mul-le-mul-left}
@@ -12,7 +12,7 @@ use Rattle.whole.proofs.Signed.{back}
 use Rattle.lattice.specs.Rows.{chop}
 use Rattle.lattice.specs.FlatLaws.{in-table, length-chop}
 use Rattle.tableau.specs.Elimination as Elimination
-use Rattle.tableau.specs.Choices.{choiceOf, Fewer}
+use Rattle.tableau.specs.Choices.{choiceOf}
 use Rattle.tableau.specs.declared.gathering.Choice.{Choice}
 use Rattle.tableau.proofs.Choosing.{choose-none, choose-up, choose-all, chosen-below}
 use Rattle.tableau.proofs.gathering.choose.Statement.{statement}

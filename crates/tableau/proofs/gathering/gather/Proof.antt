@@ -1,16 +1,16 @@
 -- `tableau::gathering::gather` meets its contract: what is left to gather of the present tail is what was to gather at first, and the size
 -- of the choice falls with each round. Assumes nothing.
-use mathlib.Core.Path.{_≡_, refl, sym, _∙_, ap, ap₂, subst}
-use mathlib.Core.Bool.{Bool, true, false, true≢false}
+use mathlib.Core.Path.{_≡_, refl, sym, _∙_, ap, subst}
+use mathlib.Core.Bool.{Bool, false, true≢false}
 use mathlib.Core.List.{List, _∷_}
-use Prim.Native.Nat.{ℕ, _+_, _-_, _*_, _<_, _≤_}
+use Prim.Native.Nat.{ℕ, _+_, _-_, _<_, _≤_}
 use native.Mathlib.Omega.{arith}
 use borrow.Author.Needs.{needs}
 use lib.IntN.{ℤ}
 use lib.ListN.{length, take, drop, length-drop}
 use Rattle.lattice.specs.Rows.{flat, chop}
 use Rattle.lattice.proofs.Parts.{tail-is}
-use Rattle.tableau.specs.Elimination.{Gathered, none, at, choose}
+use Rattle.tableau.specs.Elimination.{Gathered, at, choose}
 use Rattle.tableau.specs.GatherLaws.{Chosen}
 use Rattle.tableau.specs.Choices.{choiceOf}
 use Rattle.tableau.specs.Tails.{Tail, Picked, Gathers, roundOf, gatheringOf}

@@ -2,7 +2,7 @@
 -- the top. Assumes nothing.
 use mathlib.Core.Path.{_≡_, sym, _∙_, ap, ap₂, subst}
 use mathlib.Core.List.{List, _++_}
-use Prim.Native.Nat.{ℕ, _+_, _*_, _≤_}
+use Prim.Native.Nat.{_+_, _*_}
 use native.Mathlib.Omega.{arith}
 use lib.IntN.{ℤ}
 use lib.ListN.{length, take, drop}
@@ -11,7 +11,6 @@ use Rattle.whole.specs.Lists.{entry}
 use Rattle.lattice.proofs.Parts.{part-is}
 use Rattle.tableau.specs.Elimination.{signed}
 use Rattle.tableau.specs.Within.{Within, within-take, within-drop}
-use Rattle.tableau.specs.Tails.{liftedRow}
 use borrow.Author.Needs.{needs}
 use Rattle.tableau.proofs.gathering.lift.Statement.{statement}
 use Rattle.tableau.proofs.gathering.lift.Tie as tie

@@ -1,8 +1,6 @@
 -- `tableau::gathering::prefer` meets its contract: its tests are the definition's. Assumes nothing.
-use mathlib.Core.Path.{_≡_, sym, _∙_, ap}
+use mathlib.Core.Path.{sym}
 use native.Mathlib.Omega.{arith}
-use Rattle.tableau.specs.Elimination as Elimination
-use Rattle.tableau.specs.Choices.{choiceOf, Fewer}
 use Rattle.tableau.proofs.Choosing.{prefer-none, prefer-only, prefer-upper, prefer-lower}
 use borrow.Author.Needs.{needs}
 use Rattle.tableau.proofs.gathering.prefer.Statement.{statement}

@@ -1,14 +1,13 @@
 -- `tableau::gathering::round` meets its contract: the chosen row comes to the top, and each row below it has its step. Assumes nothing.
-use mathlib.Core.Path.{_≡_, sym, _∙_, ap, ap₂, subst}
-use mathlib.Core.List.{List, _++_}
-use Prim.Native.Nat.{ℕ, _-_, _*_, _≤_}
+use mathlib.Core.Path.{sym, _∙_, ap, subst}
+use mathlib.Core.List.{List}
+use Prim.Native.Nat.{ℕ, _-_}
 use native.Mathlib.Omega.{arith}
 use lib.IntN.{ℤ}
-use lib.ListN.{length, take, drop}
+use lib.ListN.{length}
 use Rattle.lattice.proofs.Parts.{tail-is, tail-back}
 use Rattle.tableau.specs.Within.{Within}
-use Rattle.tableau.specs.Tails.{Gathers}
-use Rattle.tableau.proofs.Rounds.{ends-inside, all-wide, pivot-is, below-is-wide, below-is-small, round-stops}
+use Rattle.tableau.proofs.Rounds.{ends-inside, pivot-is, below-is-wide, below-is-small, round-stops}
 use borrow.Author.Needs.{needs}
 use Rattle.tableau.proofs.gathering.round.Statement.{statement}
 use Rattle.tableau.proofs.gathering.round.Tie as tie

@@ -3,20 +3,19 @@
 use mathlib.Core.Path.{_≡_, refl, sym, _∙_, ap, ap₂}
 use mathlib.Core.Bool.{false}
 use mathlib.Core.List.{List}
-use Prim.Native.Nat.{_<_}
 use native.Mathlib.Omega.{arith}
 use native.Mathlib.Nat.{le-trans}
 use lib.IntN.{ℤ, natAbs}
-use lib.ListN.{length, length-drop}
+use lib.ListN.{length-drop}
 use mir.Syntax.{w64}
 use mir.Val.{toZ, ofZ}
 use Rattle.whole.specs.Lists.{entry}
 use Rattle.whole.specs.Integers.{positive-above}
 use Rattle.whole.proofs.Signed.{back}
 use Rattle.lattice.proofs.Parts.{tail-is, tail-back}
-use Rattle.tableau.specs.Within.{Within, within-drop, within-entry}
+use Rattle.tableau.specs.Within.{within-drop, within-entry}
 use Rattle.tableau.specs.Elimination.{Left, kept}
-use Rattle.tableau.specs.Steps.{Stops, quotientOf, stepOf}
+use Rattle.tableau.specs.Steps.{Stops, quotientOf}
 use Rattle.tableau.proofs.Stepping.{inside, quotient-small, step-none, step-idle, step-parts}
 use borrow.Author.Needs.{needs}
 use Rattle.tableau.proofs.rows.step.Statement.{statement}

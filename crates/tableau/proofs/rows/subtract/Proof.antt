@@ -1,11 +1,11 @@
 -- `tableau::rows::subtract` meets its contract: from the left, each number becomes that of the difference, unless that lies beyond M.
 -- Assumes nothing.
-use mathlib.Core.Path.{_≡_, refl, sym, _∙_, ap, ap₂}
-use mathlib.Core.Bool.{Bool, true, false, true≢false}
+use mathlib.Core.Path.{_≡_, sym, _∙_, ap, ap₂}
+use mathlib.Core.Bool.{true, false, true≢false}
 use mathlib.Core.List.{List}
 use Prim.Native.Nat.{ℕ, _-_, _<_, _≤_}
 use native.Mathlib.Omega.{arith}
-use lib.IntN.{ℤ, pos, negℤ, natAbs, _+ℤ_, _*ℤ_}
+use lib.IntN.{ℤ, negℤ, _+ℤ_, _*ℤ_}
 use lib.ListN.{length, take}
 use lib.Seq.{take-all}
 use mir.Syntax.{w64}
@@ -18,7 +18,7 @@ use Rattle.whole.proofs.Signed.{back}
 use Rattle.lattice.specs.Rows.{plus}
 use Rattle.lattice.specs.RowLaws.{length-plus, entry-plus}
 use Rattle.lattice.proofs.Writing.{Written, starts, goes-on, ends, unread}
-use Rattle.problem.specs.Limits.{M, beyond, anyBeyond}
+use Rattle.problem.specs.Limits.{M, beyond}
 use Rattle.tableau.specs.Within.{Within, within-entry, within-none, within-next, beyond-at}
 use Rattle.tableau.proofs.rows.subtract.Statement.{statement}
 use Rattle.tableau.proofs.rows.subtract.Tie as tie

@@ -1,16 +1,13 @@
 use borrow.Rule.Slice.PartMut.{same-len-mid}
 -- `tableau::tables::each` meets its contract: the rows are taken from the top, and each becomes its step. Assumes nothing.
-use mathlib.Core.Path.{_≡_, refl, sym, _∙_, ap}
-use mathlib.Core.Bool.{Bool, true, false, true≢false}
-use mathlib.Core.List.{List}
-use Prim.Native.Nat.{ℕ, _+_, _-_, _*_, _≤_}
+use mathlib.Core.Path.{sym, _∙_}
+use mathlib.Core.Bool.{true≢false}
+use Prim.Native.Nat.{_+_, _-_}
 use native.Mathlib.Omega.{arith}
-use borrow.Author.Needs.{needs}
-use lib.IntN.{ℤ}
-use lib.ListN.{length, take, drop}
+use lib.ListN.{length}
 use Rattle.lattice.proofs.Parts.{part-is, part-back}
 use Rattle.tableau.specs.Elimination.{Left}
-use Rattle.tableau.specs.Steps.{Stops, stepOf, Pivot}
+use Rattle.tableau.specs.Steps.{Stops, stepOf}
 use Rattle.tableau.proofs.Walking.{Walk, starts, goes-on, stops, ends, ahead, row, row-wide, row-small, stepping}
 use Rattle.tableau.proofs.tables.each.Statement.{statement}
 use Rattle.tableau.proofs.tables.each.Tie as tie
