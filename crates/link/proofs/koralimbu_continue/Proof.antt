@@ -1,0 +1,66 @@
+-- `link::koralimbu_continue` meets its contract: the report's length decides, and the rest is Continue. Assumes nothing.
+use Rattle.problem.specs.Checks.{Posed}
+use Rattle.engine.specs.Assign.{Buffers, posed, buffers, continue}
+use Rattle.link.specs.Calls.{problemOf}
+use Rattle.link.proofs.Telling.{is-told, is-untold}
+use borrow.Author.Needs.{needs}
+use Rattle.link.proofs.koralimbu_continue.Statement.{statement}
+use Rattle.link.proofs.koralimbu_continue.Tie as tie
+
+module _ (a : tie.Start) where
+  abbrev P : Posed
+  P = posed (problemOf (a .args .n) (a .args .m) (a .args .limit)) (a .args .coefficients .now) (a .args .rights .now) (a .args .lower .now) (a .args .upper .now) (a .args .goals .now)
+
+  abbrev B : Buffers
+  B = buffers (a .args .tableau .now) (a .args .values .now) (a .args .strides .now)
+
+number-requires : tie.Need-number-requires
+number-requires c κs = search needs
+
+returns : tie.Need-returns
+returns c =
+    let a = c .before .before .before .before in
+    is-untold (B a) (a .args .report .now) (continue (P a) (B a)) _ (c .before .if1 .taken) (c .number .ensures)
+
+continue-from-requires : tie.Need-continue-from-requires
+continue-from-requires c κs = search needs
+
+tell-requires : tie.Need-tell-requires
+tell-requires c κs = search needs
+
+number-requires-2 : tie.Need-number-requires-2
+number-requires-2 c κs = search needs
+
+same-length : tie.Need-same-length
+same-length c = search needs
+
+same-length-2 : tie.Need-same-length-2
+same-length-2 c = search needs
+
+same-length-3 : tie.Need-same-length-3
+same-length-3 c = search needs
+
+same-length-4 : tie.Need-same-length-4
+same-length-4 c = search needs
+
+returns-2 : tie.Need-returns-2
+returns-2 c =
+    let a = c .before .before .before .before .before .before .before .before .before .before .before .before .before .before .before .before in
+    let e = c .before .before .before .before .before .before .before .before .before .continue-from in
+    is-told (B a) (a .args .report .now) (continue (P a) (B a)) (e .result) _ _ _ _ _ (c .before .before .before .before .before .before .before .before .before .before .before .before .before .if1 .left)
+    (e .ensures .0) (e .ensures .1 .0) (e .ensures .1 .1 .0) (e .ensures .1 .1 .1) (c .before .before .before .tell .ensures) (c .number2 .ensures)
+
+pub koralimbu-continue-spec : {M : Type 1} → statement M
+koralimbu-continue-spec =
+    tie.close
+    (tie.spec
+    number-requires
+    returns
+    continue-from-requires
+    tell-requires
+    number-requires-2
+    same-length
+    same-length-2
+    same-length-3
+    same-length-4
+    returns-2)

@@ -1,0 +1,45 @@
+-- `link::tell` meets its contract: the three numbers are stored in their order. Assumes nothing.
+use mathlib.Core.Path.{_∙_, ap, ap₂}
+use mathlib.Core.List.{List, [], _∷_}
+use Prim.Native.Nat.{ℕ}
+use Rattle.problem.specs.declared.Counts.{Counts}
+use Rattle.link.proofs.Telling.{stored}
+use borrow.Author.Needs.{needs}
+use Rattle.link.proofs.tell.Statement.{statement}
+use Rattle.link.proofs.tell.Tie as tie
+
+verdict-number-requires : tie.Need-verdict-number-requires
+verdict-number-requires c κs = search needs
+
+counts-requires : tie.Need-counts-requires
+counts-requires c κs = search needs
+
+slice-write-report : tie.Need-slice-write-report
+slice-write-report c = search needs
+
+slice-write-report-2 : tie.Need-slice-write-report-2
+slice-write-report-2 c = search needs
+
+slice-write-report-3 : tie.Need-slice-write-report-3
+slice-write-report-3 c = search needs
+
+same-length : tie.Need-same-length
+same-length c = search needs
+
+returns : tie.Need-returns
+returns c =
+    let a = c .before .before .before in
+    stored (a .args .report .now) (c .before .verdict-number .result) (c .counts .result .bounds) (c .counts .result .goals) (a .pre)
+    ∙ ap₂ (λ (v : ℕ) (k : Counts). v ∷ k .bounds ∷ k .goals ∷ []) (c .before .verdict-number .ensures) (c .counts .ensures)
+
+pub tell-spec : {M : Type 1} → statement M
+tell-spec =
+    tie.close
+    (tie.spec
+    verdict-number-requires
+    counts-requires
+    slice-write-report
+    slice-write-report-2
+    slice-write-report-3
+    same-length
+    returns)

@@ -1,0 +1,125 @@
+// The engine's calls for C: include/koralimbu.h. They have no `requires`: what a caller can break is an answer.
+ghost use mathlib.Core.Path.{_≡_};
+ghost use lib.ListN.{length};
+ghost use Rattle.engine.specs.Assign.{posed, buffers, assign, continue};
+ghost use Rattle.link.specs.Calls.{problemOf, verdictNumber, reportOf, reportLength, called};
+use problem::Answer;
+use problem::Problem;
+use problem::Refusal;
+
+// How many numbers a report has: the verdict's, and the steps of the two parts.
+const REPORT: usize = 3;
+
+fn verdict_number(answer: Answer) -> u32
+    ensures { λ r. ⌜ r ≡ verdictNumber answer ⌝ }
+{
+    match answer {
+        Answer::Fitted(_) => 1,
+        Answer::Outside(_) => 2,
+        Answer::Spent(_) => 3,
+        Answer::Refused(_) => 0,
+    }
+}
+
+fn tell(answer: Answer, report: &mut [u32])
+    requires { ⌜ length (now report) ≡ reportLength ⌝ }
+    ensures { λ _. ⌜ now (report .exit) ≡ reportOf answer ⌝ }
+{
+    let verdict = verdict_number(answer);
+    let counts = answer.counts();
+    let bounds = counts.bounds;
+    let goals = counts.goals;
+    report[0] = verdict;
+    report[1] = bounds;
+    report[2] = goals;
+}
+
+// A whole assignment.
+#[no_mangle]
+pub extern "C" fn koralimbu_assign(
+    n: usize,
+    m: usize,
+    limit: u32,
+    coefficients: &[i64],
+    rights: &[i64],
+    lower: &[i64],
+    upper: &[i64],
+    goals: &[i64],
+    tableau: &mut [i64],
+    values: &mut [i64],
+    strides: &mut [u64],
+    report: &mut [u32],
+) -> u32
+    ensures { λ r. ⌜ r ≡ called (buffers (now (tableau .entry)) (now (values .entry)) (now (strides .entry))) (now (report .entry)) (assign (posed (problemOf n m limit) (now (coefficients .entry)) (now (rights .entry)) (now (lower .entry)) (now (upper .entry)) (now (goals .entry))) (buffers (now (tableau .entry)) (now (values .entry)) (now (strides .entry)))) .number ⌝ }
+    ensures { λ _. ⌜ now (tableau .exit) ≡ called (buffers (now (tableau .entry)) (now (values .entry)) (now (strides .entry))) (now (report .entry)) (assign (posed (problemOf n m limit) (now (coefficients .entry)) (now (rights .entry)) (now (lower .entry)) (now (upper .entry)) (now (goals .entry))) (buffers (now (tableau .entry)) (now (values .entry)) (now (strides .entry)))) .tableau ⌝ }
+    ensures { λ _. ⌜ now (values .exit) ≡ called (buffers (now (tableau .entry)) (now (values .entry)) (now (strides .entry))) (now (report .entry)) (assign (posed (problemOf n m limit) (now (coefficients .entry)) (now (rights .entry)) (now (lower .entry)) (now (upper .entry)) (now (goals .entry))) (buffers (now (tableau .entry)) (now (values .entry)) (now (strides .entry)))) .values ⌝ }
+    ensures { λ _. ⌜ now (strides .exit) ≡ called (buffers (now (tableau .entry)) (now (values .entry)) (now (strides .entry))) (now (report .entry)) (assign (posed (problemOf n m limit) (now (coefficients .entry)) (now (rights .entry)) (now (lower .entry)) (now (upper .entry)) (now (goals .entry))) (buffers (now (tableau .entry)) (now (values .entry)) (now (strides .entry)))) .strides ⌝ }
+    ensures { λ _. ⌜ now (report .exit) ≡ called (buffers (now (tableau .entry)) (now (values .entry)) (now (strides .entry))) (now (report .entry)) (assign (posed (problemOf n m limit) (now (coefficients .entry)) (now (rights .entry)) (now (lower .entry)) (now (upper .entry)) (now (goals .entry))) (buffers (now (tableau .entry)) (now (values .entry)) (now (strides .entry)))) .report ⌝ }
+{
+    if report.len() != REPORT {
+        return Refusal::Length.number();
+    }
+    let p = Problem {
+        columns: n,
+        rows: m,
+        limit: limit,
+    };
+    let answer = engine::assign(
+        p,
+        coefficients,
+        rights,
+        lower,
+        upper,
+        goals,
+        tableau,
+        values,
+        strides,
+    );
+    tell(answer, report);
+    answer.number()
+}
+
+// Continue, from the lent values.
+#[no_mangle]
+pub extern "C" fn koralimbu_continue(
+    n: usize,
+    m: usize,
+    limit: u32,
+    coefficients: &[i64],
+    rights: &[i64],
+    lower: &[i64],
+    upper: &[i64],
+    goals: &[i64],
+    tableau: &mut [i64],
+    values: &mut [i64],
+    strides: &mut [u64],
+    report: &mut [u32],
+) -> u32
+    ensures { λ r. ⌜ r ≡ called (buffers (now (tableau .entry)) (now (values .entry)) (now (strides .entry))) (now (report .entry)) (continue (posed (problemOf n m limit) (now (coefficients .entry)) (now (rights .entry)) (now (lower .entry)) (now (upper .entry)) (now (goals .entry))) (buffers (now (tableau .entry)) (now (values .entry)) (now (strides .entry)))) .number ⌝ }
+    ensures { λ _. ⌜ now (tableau .exit) ≡ called (buffers (now (tableau .entry)) (now (values .entry)) (now (strides .entry))) (now (report .entry)) (continue (posed (problemOf n m limit) (now (coefficients .entry)) (now (rights .entry)) (now (lower .entry)) (now (upper .entry)) (now (goals .entry))) (buffers (now (tableau .entry)) (now (values .entry)) (now (strides .entry)))) .tableau ⌝ }
+    ensures { λ _. ⌜ now (values .exit) ≡ called (buffers (now (tableau .entry)) (now (values .entry)) (now (strides .entry))) (now (report .entry)) (continue (posed (problemOf n m limit) (now (coefficients .entry)) (now (rights .entry)) (now (lower .entry)) (now (upper .entry)) (now (goals .entry))) (buffers (now (tableau .entry)) (now (values .entry)) (now (strides .entry)))) .values ⌝ }
+    ensures { λ _. ⌜ now (strides .exit) ≡ called (buffers (now (tableau .entry)) (now (values .entry)) (now (strides .entry))) (now (report .entry)) (continue (posed (problemOf n m limit) (now (coefficients .entry)) (now (rights .entry)) (now (lower .entry)) (now (upper .entry)) (now (goals .entry))) (buffers (now (tableau .entry)) (now (values .entry)) (now (strides .entry)))) .strides ⌝ }
+    ensures { λ _. ⌜ now (report .exit) ≡ called (buffers (now (tableau .entry)) (now (values .entry)) (now (strides .entry))) (now (report .entry)) (continue (posed (problemOf n m limit) (now (coefficients .entry)) (now (rights .entry)) (now (lower .entry)) (now (upper .entry)) (now (goals .entry))) (buffers (now (tableau .entry)) (now (values .entry)) (now (strides .entry)))) .report ⌝ }
+{
+    if report.len() != REPORT {
+        return Refusal::Length.number();
+    }
+    let p = Problem {
+        columns: n,
+        rows: m,
+        limit: limit,
+    };
+    let answer = engine::continue_from(
+        p,
+        coefficients,
+        rights,
+        lower,
+        upper,
+        goals,
+        tableau,
+        values,
+        strides,
+    );
+    tell(answer, report);
+    answer.number()
+}
