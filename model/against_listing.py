@@ -1,0 +1,103 @@
+"""The proved listing program against the plain model, byte for byte.
+
+    python3 model/against_listing.py [COUNT SEED]
+
+Builds the program, and runs it on document 01's deck cases, the sample decks, texts
+at and past the longest, and COUNT texts of generate.py: as laid out, damaged,
+truncated and binary. Each listing must be the expected one or the model's, and the
+program must end with status 0 and write nothing else. The last line is
+'N passed, M failed'.
+"""
+
+import glob
+import os
+import subprocess
+import sys
+
+from generate import rng_for, text_case
+from listing import listing
+from text import MAX_TEXT
+
+ROOT = os.path.dirname(os.path.dirname(os.path.abspath(__file__)))
+PROGRAM = os.path.join(ROOT, "target", "bin", "listing")
+MOST_SHOWN = 5
+
+CHAIN = "0 0 2 %d 1000 %d -1\n"
+
+# Document 01's deck cases under the program's limit of 10,000 steps. A case that gives
+# no bounds has wide ones here.
+DECK_CASES = [
+    ("1\n-100 100 0\n1\n0 1 1 1 2\n", "NONE\n"),
+    ("1\n1 9 0\n1\n0 2 1 1 2\n", "FITTED 0 0\n1 1 0\n"),
+    ("2\n-100 100 0\n-100 100 0\n2\n0 1 2 1 1 2 1\n0 0 2 1 1 2 -1\n", "NONE\n"),
+    ("1\n-100 100 0\n2\n0 1 1 1 1\n0 2 1 1 1\n", "NONE\n"),
+    ("1\n3 5 0\n0\n", "FITTED 0 0\n1 3 1\n"),
+    ("1\n1 1000000 400\n0\n", "FITTED 0 0\n1 1 1\n"),
+    ("1\n1 1000000 1414\n0\n", "FITTED 0 0\n1 1 1\n"),
+    ("1\n1 1000000 1415\n0\n", "FITTED 0 0\n1 2 1\n"),
+    ("1\n1 1000000 2449\n0\n", "FITTED 0 0\n1 2 1\n"),
+    ("1\n1 1000000 2450\n0\n", "FITTED 0 0\n1 3 1\n"),
+    ("2\n1 100 2500\n1 100 4000\n1\n0 0 2 1 3 2 -2\n", "FITTED 0 1\n1 2 2\n2 3 3\n"),
+    ("2\n1 1 0\n1 10 0\n1\n0 0 2 1 1 2 -2\n", "OUTSIDE 0 0\n1 2 2\n2 1 1\n"),
+    ("2\n1 10 0\n5 10 0\n1\n0 0 2 1 1 2 -1\n", "FITTED 4 0\n1 5 1\n2 5 1\n"),
+    ("4\n" + "0 10 0\n" * 4 + "3\n" + "".join(CHAIN % (k, k + 1) for k in (1, 2, 3)),
+     "FITTED 0 0\n1 0 1\n2 0 1000\n3 0 1000000\n4 0 1000000000\n"),
+    ("5\n" + "0 10 0\n" * 5 + "4\n" + "".join(CHAIN % (k, k + 1) for k in (1, 2, 3, 4)),
+     "REFUSED 7\n"),
+    ("3\n1 1000000 1000000000\n1 1000000 0\n1 1000000 0\n2\n" + CHAIN % (1, 2) + CHAIN % (2, 3),
+     "REFUSED 9\n"),
+]
+
+
+def samples():
+    """The sample decks with their listings, by name."""
+    for name in sorted(glob.glob(os.path.join(ROOT, "decks", "*.txt"))):
+        with open(name, "rb") as deck, open(name[:-len(".txt")] + ".listing", "rb") as wanted:
+            yield os.path.basename(name), deck.read(), wanted.read()
+
+
+def long_texts():
+    """A deck filled up to the longest text, one byte past it, and far past it."""
+    deck = DECK_CASES[4][0].encode()
+    for length in (MAX_TEXT - 1, MAX_TEXT, MAX_TEXT + 1, MAX_TEXT + 2, 9 * MAX_TEXT):
+        data = deck + b"\n" * (length - len(deck))
+        yield "a text of %d bytes" % length, data, listing(data)
+    data = b"\0" * (3 * MAX_TEXT)
+    yield "a long text of no deck", data, listing(data)
+
+
+def cases(count, seed):
+    """What a case is, its text, and the listing wanted."""
+    for number, (deck, wanted) in enumerate(DECK_CASES, 1):
+        yield "deck case %d" % number, deck.encode(), wanted.encode()
+    yield from samples()
+    yield from long_texts()
+    for number in range(1, count + 1):
+        data = text_case(rng_for(seed, number))
+        yield "text %d of seed %d" % (number, seed), data, listing(data)
+        # cut short at a place of its own
+        if number % 4 == 0:
+            data = data[:rng_for(seed + 1, number).randrange(len(data) + 1)]
+            yield "text %d of seed %d, cut short" % (number, seed), data, listing(data)
+
+
+def main(arguments):
+    count, seed = [int(word) for word in arguments] + [2000, 1][len(arguments):]
+    if subprocess.run(["rt", "check", "listing"], cwd=ROOT, stdout=subprocess.DEVNULL).returncode != 0:
+        sys.exit("rt check listing failed")
+    passed = failed = 0
+    for what, data, wanted in cases(count, seed):
+        done = subprocess.run([PROGRAM], input=data, stdout=subprocess.PIPE, stderr=subprocess.PIPE)
+        if (done.returncode, done.stdout, done.stderr) == (0, wanted, b""):
+            passed += 1
+            continue
+        failed += 1
+        if failed <= MOST_SHOWN:
+            print("%s: status %d, printed %r, wanted %r, said %r"
+                  % (what, done.returncode, done.stdout[:300], wanted[:300], done.stderr[:300]))
+    print("%d passed, %d failed" % (passed, failed))
+    return 1 if failed else 0
+
+
+if __name__ == "__main__":
+    sys.exit(main(sys.argv[1:]))
