@@ -101,16 +101,16 @@ rowsRead (TurnedBack why) = 0
 never : {A : Type 0} → _≡_ {A = ℕ} 0 1 → A
 never e = absurd (omega arith)
 
-pub refused-into : (o s : List ℕ) (B : DeckBuffers) (why : Refusal) → lengthsFit B ≡ true → TurnedBack why ≡ read s B .reading
-    → writeListing o (Refused why) [] [] ≡ printInto o s
-unfolding printInto printed
-refused-into o s B why f e = by (readDeck s) refl
+pub refused-into : (o s : List ℕ) (B : DeckBuffers) (why : Refusal) (v : List ℤ) (d : List ℕ) → length v ≡ length d → lengthsFit B ≡ true
+    → TurnedBack why ≡ read s B .reading → writeListing o (Refused why) v d ≡ printInto o s
+unfolding printInto printed listing
+refused-into o s B why v d k f e = by (readDeck s) refl
   where
-    by : (x : Outcome Deck) → readDeck s ≡ x → writeListing o (Refused why) [] [] ≡ printInto o s
+    by : (x : Outcome Deck) → readDeck s ≡ x → writeListing o (Refused why) v d ≡ printInto o s
     by (ok d ts) h = never (ap isRead (e ∙ ap (λ (D : ReadDone). D .reading) (read-fit s B f) ∙ ap (λ (x : Outcome Deck). onDeck x B .reading) h))
     by (no w) h =
         let q : why ≡ w = ap reason (e ∙ ap (λ (D : ReadDone). D .reading) (read-fit s B f) ∙ ap (λ (x : Outcome Deck). onDeck x B .reading) h) in
-        rw (h, ← q) (write-even o (Refused why) [] [] refl)
+        rw (h, ← q) (write-even o (Refused why) v d k)
 
 pub record Taken (s : List ℕ) (n m : ℕ) (c b l u g : List ℤ) : Type 0 where
   pub deck : Deck

@@ -93,7 +93,7 @@ fn list_parts(
     )
 }
 
-// Reads a text and lists its problem, or why it is turned back.
+// Reads a text and lists its problem, or why it is turned back: then no column is listed.
 fn list_lent(
     text: &[u8],
     coefficients: &mut [i64],
@@ -113,12 +113,7 @@ fn list_lent(
 {
     let reading = read_deck(text, coefficients, rights, lower, upper, goals);
     match reading {
-        Reading::Refused(why) => write_listing(
-            out,
-            Answer::Refused(why),
-            &values[..0],
-            &strides[..0],
-        ),
+        Reading::Refused(why) => write_listing(out, Answer::Refused(why), values, strides),
         Reading::Read(n, m) => list_parts(
             n,
             m,

@@ -45,18 +45,6 @@ read-deck-requires c κs = search needs
 enum-known-reading : tie.Need-enum-known-reading
 enum-known-reading c = search needs
 
-slice-reshare-prefix-write-listing : tie.Need-slice-reshare-prefix-write-listing
-slice-reshare-prefix-write-listing c = search needs
-
-slice-aggregate-write-listing : tie.Need-slice-aggregate-write-listing
-slice-aggregate-write-listing c = search needs
-
-slice-reshare-prefix-write-listing-2 : tie.Need-slice-reshare-prefix-write-listing-2
-slice-reshare-prefix-write-listing-2 c = search needs
-
-slice-aggregate-write-listing-2 : tie.Need-slice-aggregate-write-listing-2
-slice-aggregate-write-listing-2 c = search needs
-
 write-listing-requires : tie.Need-write-listing-requires
 write-listing-requires c κs = search needs
 
@@ -97,8 +85,9 @@ returns : tie.Need-returns
 returns c =
     let r = c .before .before .before .before .before .before .before .before .before .before .before .before .before .before in
     let x = start r .args in
+    let z = start r .pre .0 in
     let w = c .before .before .write-listing in
-    let e = refused-into (x .out .now) (x .text .now) (B r) _ (fits (start r .pre .0)) (sym (c .before .before .before .before .before .before .before .reading .given .1) ∙ r .read-deck .ensures .0) in
+    let e = refused-into (x .out .now) (x .text .now) (B r) _ _ _ (z .values ∙ sym (z .strides)) (fits z) (sym (c .before .before .before .before .before .before .before .reading .given .1) ∙ r .read-deck .ensures .0) in
     (w .ensures .0 ∙ ap (λ (d : ListingDone). d .written) e, w .ensures .1 ∙ ap (λ (d : ListingDone). d .out) e)
 
 same-length-9 : tie.Need-same-length-9
@@ -142,10 +131,6 @@ list-lent-spec =
     (tie.spec
     read-deck-requires
     enum-known-reading
-    slice-reshare-prefix-write-listing
-    slice-aggregate-write-listing
-    slice-reshare-prefix-write-listing-2
-    slice-aggregate-write-listing-2
     write-listing-requires
     enum-known-reading-2
     list-parts-requires
