@@ -2,6 +2,8 @@
 --   programLimit    the step limit
 --   blank P         buffers of just the lengths that a problem needs, all 0, as the program lends them
 --   printed s       the bytes that the program prints for the text s
+--   printInto o s   what a call returns and leaves that puts these bytes at the front of the lent buffer o
+--   listInto o P B  the same of the listing of an assignment
 -- Assumes nothing.
 use mathlib.Core.List.{List, []}
 use Prim.Native.Nat.{ℕ, _+_, _*_}
@@ -13,7 +15,7 @@ use Rattle.engine.specs.Assign.{Buffers, Done, n, m, assign}
 use Rattle.deck.specs.Rules.{Outcome, ok, no}
 use Rattle.deck.specs.Sections.{Deck, readDeck}
 use Rattle.deck.specs.Columns.{posed}
-use Rattle.report.specs.Listing.{listing}
+use Rattle.report.specs.Listing.{listing, ListingDone, placedIn}
 
 abbrev pub programLimit : ℕ
 programLimit = 10000
@@ -30,3 +32,9 @@ onDeck (no why) = listing (Refused why) [] []
 
 unfoldable pub printed : List ℕ → List ℕ
 printed s = onDeck (readDeck s)
+
+unfoldable pub printInto : List ℕ → List ℕ → ListingDone
+printInto o s = placedIn o (printed s)
+
+unfoldable pub listInto : List ℕ → Posed → Buffers → ListingDone
+listInto o P B = placedIn o (listed (assign P B))
