@@ -83,7 +83,7 @@ same-length-4 : tie.Need-same-length-4
 same-length-4 c = search needs
 
 returns : tie.Need-returns
-returns c = search needs
+returns c = c .before .before .before .before .before .before .list-assigned .ensures
 
 pub list-parts-spec : {M : Type 1} → statement M
 list-parts-spec =
