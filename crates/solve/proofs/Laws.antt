@@ -7,8 +7,8 @@
 --   accepted-into    the parts that n and m need are the problem, in blank buffers
 -- Assumes nothing.
 use mathlib.Core.Path.{_≡_, refl, sym, ap, _∙_}
-use mathlib.Core.Bool.{Bool, true, false}
-use mathlib.Core.List.{List, [], _∷_, _++_, map}
+use mathlib.Core.Bool.{true}
+use mathlib.Core.List.{List, _∷_, map}
 use Prim.Native.Nat.{ℕ, zero, suc, _+_, _-_, _*_, _≤_}
 use native.Mathlib.Nat.{mul-le-mul}
 use native.Mathlib.Omega.{arith}
@@ -19,7 +19,6 @@ use lib.Seq.{take-at}
 use Rattle.whole.specs.Lists.{zeros}
 use Rattle.text.specs.declared.Token.{Token}
 use Rattle.problem.specs.Checks.{Posed}
-use Rattle.problem.specs.declared.Problem.{Problem}
 use Rattle.problem.specs.declared.Refusal.{Refusal}
 use Rattle.problem.specs.declared.Refusal.the-variants.{Size}
 use Rattle.problem.specs.declared.Answer.{Answer}

@@ -1,5 +1,5 @@
 -- `solve::list_assigned` meets its contract: a call keeps the lengths of the lists, so that they are still of one length. Assumes nothing.
-use mathlib.Core.Path.{_≡_, sym, _∙_, ap}
+use mathlib.Core.Path.{sym, _∙_, ap}
 use Rattle.engine.specs.Assign.{posed, buffers}
 use Rattle.report.specs.Listing.{ListingDone}
 use Rattle.solve.proofs.Laws.{listed-into}

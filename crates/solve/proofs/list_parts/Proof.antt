@@ -1,5 +1,5 @@
 -- `solve::list_parts` meets its contract: with n and m within the limits each part lies in its buffer. Assumes nothing.
-use mathlib.Core.Path.{_≡_, sym, _∙_}
+use mathlib.Core.Path.{sym, _∙_}
 use native.Mathlib.Omega.{arith}
 use Prim.Native.Nat.{_≤_}
 use lib.ListN.{length}
@@ -83,7 +83,7 @@ same-length-4 : tie.Need-same-length-4
 same-length-4 c = search needs
 
 returns : tie.Need-returns
-returns c = search needs
+returns c = c .before .before .before .before .before .before .list-assigned .ensures
 
 pub list-parts-spec : {M : Type 1} → statement M
 list-parts-spec =
