@@ -1,0 +1,104 @@
+//! The calls of `include/koralimbu.h`, each behind a safe function.
+
+use crate::{Answer, Buffers, DeckBuffers, Problem, Refusal, Sizes, Steps, Verdict};
+
+// Line for line the header's.
+#[rustfmt::skip]
+extern "C" {
+    fn koralimbu_assign(
+        n: usize, m: usize, limit: u32,
+        coefficients: *const i64, coefficients_count: usize,
+        rights: *const i64, rights_count: usize,
+        lower: *const i64, lower_count: usize,
+        upper: *const i64, upper_count: usize,
+        goals: *const i64, goals_count: usize,
+        tableau: *mut i64, tableau_count: usize,
+        values: *mut i64, values_count: usize,
+        strides: *mut u64, strides_count: usize,
+        report: *mut u32, report_count: usize,
+    ) -> u32;
+
+    fn koralimbu_continue(
+        n: usize, m: usize, limit: u32,
+        coefficients: *const i64, coefficients_count: usize,
+        rights: *const i64, rights_count: usize,
+        lower: *const i64, lower_count: usize,
+        upper: *const i64, upper_count: usize,
+        goals: *const i64, goals_count: usize,
+        tableau: *mut i64, tableau_count: usize,
+        values: *mut i64, values_count: usize,
+        strides: *mut u64, strides_count: usize,
+        report: *mut u32, report_count: usize,
+    ) -> u32;
+
+    fn koralimbu_read(
+        text: *const u8, text_count: usize,
+        coefficients: *mut i64, coefficients_count: usize,
+        rights: *mut i64, rights_count: usize,
+        lower: *mut i64, lower_count: usize,
+        upper: *mut i64, upper_count: usize,
+        goals: *mut i64, goals_count: usize,
+        sizes: *mut usize, sizes_count: usize,
+    ) -> u32;
+}
+
+pub enum Call {
+    Assign,
+    Continue,
+}
+
+pub fn settle(call: Call, problem: &Problem, buffers: &mut Buffers) -> Result<Answer, Refusal> {
+    let function = match call {
+        Call::Assign => koralimbu_assign,
+        Call::Continue => koralimbu_continue,
+    };
+    let Problem { columns, rows, limit } = problem;
+    let (n, m) = (columns.lower.len(), rows.rights.len());
+    let mut report = [0; 3];
+    // Sound: a slice's pointer is never null, each count is its slice's, and no `&mut` slice overlaps another. The shared slices
+    // may overlap each other, and are only read.
+    #[rustfmt::skip]
+    let number = unsafe {
+        function(
+            n, m, *limit,
+            rows.coefficients.as_ptr(), rows.coefficients.len(),
+            rows.rights.as_ptr(), rows.rights.len(),
+            columns.lower.as_ptr(), columns.lower.len(),
+            columns.upper.as_ptr(), columns.upper.len(),
+            columns.goals.as_ptr(), columns.goals.len(),
+            buffers.tableau.as_mut_ptr(), buffers.tableau.len(),
+            buffers.values.as_mut_ptr(), buffers.values.len(),
+            buffers.strides.as_mut_ptr(), buffers.strides.len(),
+            report.as_mut_ptr(), report.len(),
+        )
+    };
+    Refusal::check(number)?;
+    let [verdict, bounds, goals] = report;
+    let verdict = match verdict {
+        1 => Verdict::Fitted,
+        2 => Verdict::Outside,
+        3 => Verdict::Spent,
+        _ => unreachable!("the engine reports no verdict {verdict}"),
+    };
+    Ok(Answer { verdict, steps: Steps { bounds, goals } })
+}
+
+pub fn read(text: &[u8], buffers: &mut DeckBuffers) -> Result<Sizes, Refusal> {
+    let mut sizes = [0; 2];
+    // Sound for the reasons above.
+    #[rustfmt::skip]
+    let number = unsafe {
+        koralimbu_read(
+            text.as_ptr(), text.len(),
+            buffers.coefficients.as_mut_ptr(), buffers.coefficients.len(),
+            buffers.rights.as_mut_ptr(), buffers.rights.len(),
+            buffers.lower.as_mut_ptr(), buffers.lower.len(),
+            buffers.upper.as_mut_ptr(), buffers.upper.len(),
+            buffers.goals.as_mut_ptr(), buffers.goals.len(),
+            sizes.as_mut_ptr(), sizes.len(),
+        )
+    };
+    Refusal::check(number)?;
+    let [columns, rows] = sizes;
+    Ok(Sizes { columns, rows })
+}

@@ -1,0 +1,148 @@
+//! The reader's call, and decks solved from their text.
+
+use koralimbu::*;
+
+const LIMIT: u32 = 10_000;
+const PAVING: &str = include_str!("../../../decks/paving.txt");
+
+/// The reader's buffers, as they are before a call.
+#[derive(Clone, Debug, PartialEq)]
+struct Lent {
+    coefficients: Vec<i64>,
+    rights: Vec<i64>,
+    lower: Vec<i64>,
+    upper: Vec<i64>,
+    goals: Vec<i64>,
+}
+
+impl Lent {
+    fn marked() -> Lent {
+        let [rights, lower, upper, goals] = [-2, -3, -4, -5].map(|mark| vec![mark; 48]);
+        Lent { coefficients: vec![-1; 2304], rights, lower, upper, goals }
+    }
+
+    fn read(&mut self, text: &[u8]) -> Result<Sizes, Refusal> {
+        let mut buffers = DeckBuffers {
+            coefficients: &mut self.coefficients,
+            rights: &mut self.rights,
+            lower: &mut self.lower,
+            upper: &mut self.upper,
+            goals: &mut self.goals,
+        };
+        read_deck(text, &mut buffers)
+    }
+}
+
+/// The text is refused and every buffer left as it was.
+fn refuses(text: impl AsRef<[u8]>, refusal: Refusal) {
+    let mut after = Lent::marked();
+    assert_eq!(after.read(text.as_ref()), Err(refusal));
+    assert_eq!(after, Lent::marked());
+    assert_eq!(solve_text(text, LIMIT), Err(refusal));
+}
+
+/// The numbers, and zeros up to a count.
+fn filled(numbers: &[i64], count: usize) -> Vec<i64> {
+    let mut list = numbers.to_vec();
+    list.resize(count, 0);
+    list
+}
+
+#[test]
+fn paving_is_read() {
+    let mut lent = Lent::marked();
+    assert_eq!(lent.read(PAVING.as_bytes()), Ok(Sizes { columns: 4, rows: 1 }));
+    let wanted = Lent {
+        coefficients: filled(&[1, 1, 1, -2], 2304),
+        rights: filled(&[], 48),
+        lower: filled(&[1, 1, 1, 2], 48),
+        upper: filled(&[1_000_000; 4], 48),
+        goals: filled(&[3000; 3], 48),
+    };
+    assert_eq!(lent, wanted);
+}
+
+#[test]
+fn paving_is_solved() {
+    let solved = solve_text(PAVING, LIMIT).unwrap();
+    assert_eq!((solved.verdict, solved.steps), (Verdict::Fitted, Steps { bounds: 0, goals: 0 }));
+    assert_eq!((solved.values, solved.strides), (vec![3, 3, 4, 5], vec![1, 1, 1, 1]));
+}
+
+#[test]
+fn a_deck_continues_from_its_own_answer() {
+    let deck = Deck::read(include_bytes!("../../../decks/shell-strip.txt")).unwrap();
+    let stopped = solve(&deck.problem(50)).unwrap();
+    assert_eq!(stopped.verdict, Verdict::Spent);
+    let settled = solve_from(&deck.problem(LIMIT), &stopped.values).unwrap();
+    assert_eq!(settled.values, solve(&deck.problem(LIMIT)).unwrap().values);
+}
+
+#[test]
+fn refusal_1_a_count() {
+    refuses("0\n0\n", Refusal::Size);
+    refuses("1\n3 5 0\n49\n", Refusal::Size);
+}
+
+#[test]
+fn refusal_2_a_wrong_length() {
+    for lent in [
+        Lent { coefficients: vec![-1; 2303], ..Lent::marked() },
+        Lent { rights: vec![-2; 49], ..Lent::marked() },
+        Lent { lower: vec![], ..Lent::marked() },
+        Lent { upper: vec![-4; 1], ..Lent::marked() },
+        Lent { goals: vec![-5; 47], ..Lent::marked() },
+    ] {
+        let mut after = lent.clone();
+        assert_eq!(after.read(PAVING.as_bytes()), Err(Refusal::Length));
+        assert_eq!(after, lent);
+    }
+}
+
+#[test]
+fn refusal_3_a_number_of_a_row() {
+    refuses("1\n3 5 0\n1\n0 0 1 1 1001\n", Refusal::Coefficient);
+    refuses("1\n3 5 0\n1\n0 1000001 0\n", Refusal::Coefficient);
+    refuses("1\n3 5 0\n1\n3 -1 0\n", Refusal::Coefficient);
+}
+
+#[test]
+fn refusal_4_a_bound() {
+    refuses("1\n5 3 0\n0\n", Refusal::Bound);
+}
+
+#[test]
+fn refusal_5_a_goal() {
+    refuses("1\n0 5 1000\n0\n", Refusal::Goal);
+}
+
+#[test]
+fn refusal_11_the_layout() {
+    refuses("", Refusal::Layout);
+    refuses("1\n3 5 O\n0\n", Refusal::Layout);
+    refuses("1\n3 5 0\n0\n7\n", Refusal::Layout);
+    refuses(b"1\n3 5 0\n0\n\xff", Refusal::Layout);
+    refuses(format!("1\n3 5 0\n0\n{}", " ".repeat(32_768)), Refusal::Layout);
+}
+
+#[test]
+fn refusal_12_a_term() {
+    refuses("1\n3 5 0\n1\n4 0 0\n", Refusal::Term);
+    refuses("1\n3 5 0\n1\n0 0 2 1 1 1 1\n", Refusal::Term);
+    refuses("1\n3 5 0\n1\n0 0 1 2 1\n", Refusal::Term);
+    refuses("1\n3 5 0\n1\n0 0 1 1 0\n", Refusal::Term);
+    refuses(format!("48\n{}1\n1 0 0\n", "3 5 0\n".repeat(48)), Refusal::Term);
+}
+
+#[test]
+fn what_a_deck_can_state_and_the_engine_refuses() {
+    let chain = |n: usize| {
+        let rows: String = (1..n).map(|k| format!("0 0 2 {k} 1000 {} -1\n", k + 1)).collect();
+        format!("{}{}\n{rows}", "0 10 0\n".repeat(n - 1), n - 1)
+    };
+    assert_eq!(solve_text("1\n1 9 0\n1\n0 1 1 1 2\n", LIMIT), Err(Refusal::NoWholeNumbers));
+    assert_eq!(solve_text(format!("5\n0 10 0\n{}", chain(5)), LIMIT), Err(Refusal::Elimination));
+    let pulled = format!("3\n1 1000000 1000000000\n{}", chain(3));
+    assert_eq!(solve_text(pulled, LIMIT), Err(Refusal::Seating));
+    assert_eq!(solve_text(PAVING, 65_536), Err(Refusal::Limit));
+}
