@@ -17,10 +17,12 @@ mod refusal;
 use calls::Call;
 pub use refusal::Refusal;
 
-/// The most columns and the most rows of a problem, and the coefficients that a deck's buffer has.
+/// The most columns of a problem.
 pub const MOST_COLUMNS: usize = 48;
+/// The most rows of a problem.
 pub const MOST_ROWS: usize = 48;
-pub const MOST_COEFFICIENTS: usize = MOST_COLUMNS * MOST_ROWS;
+/// The coefficients of the largest problem.
+pub const MOST_COEFFICIENTS: usize = MOST_ROWS * MOST_COLUMNS;
 
 /// The bounds and the goal of each column. There are as many columns as lower bounds.
 #[derive(Clone, Copy, Debug)]

@@ -1,0 +1,87 @@
+/* The listing of a deck, byte for byte as the program `listing` prints it.
+ *
+ *     paving [DECK]
+ *
+ * Without a name it is that of the paving deck below.
+ */
+#include <inttypes.h>
+#include <stdio.h>
+#include <string.h>
+
+#include "koralimbu.h"
+
+/* The largest problem, and the step limit of the listing program. */
+#define COLUMNS 48
+#define ROWS 48
+#define LIMIT 10000
+/* One byte more than a text may have, so that a longer one is refused and not cut. */
+#define ROOM (32768 + 1)
+
+static const char paving[] = "3\n"
+                             "1 1000000 3000\n"
+                             "1 1000000 3000\n"
+                             "1 1000000 3000\n"
+                             "1\n"
+                             "3 2 3 1 1 2 1 3 1\n";
+
+static uint8_t text[ROOM];
+static int64_t coefficients[ROWS * COLUMNS], rights[ROWS];
+static int64_t lower[COLUMNS], upper[COLUMNS], goals[COLUMNS];
+static int64_t tableau[COLUMNS * (ROWS + COLUMNS)], values[COLUMNS];
+static uint64_t strides[COLUMNS];
+
+/* Fills text from a file; returns 0 where that cannot be read. */
+static int load(const char *name, size_t *count)
+{
+    FILE *file = fopen(name, "rb");
+    int loaded;
+
+    if (file == NULL)
+        return 0;
+    *count = fread(text, 1, ROOM, file);
+    loaded = !ferror(file);
+    fclose(file);
+    return loaded;
+}
+
+/* Reads and solves the text. Returns 0 or the refusal's number; n is then the count of columns. */
+static uint32_t solve(size_t text_count, size_t *n, uint32_t report[3])
+{
+    size_t sizes[2], m;
+    uint32_t number = koralimbu_read(text, text_count, coefficients, ROWS * COLUMNS, rights, ROWS, lower, COLUMNS,
+                                     upper, COLUMNS, goals, COLUMNS, sizes, 2);
+
+    if (number != 0)
+        return number;
+    *n = sizes[0];
+    m = sizes[1];
+    /* The counts are exactly what n and m need; what lies behind them is not lent. */
+    return koralimbu_assign(*n, m, LIMIT, coefficients, m * *n, rights, m, lower, *n, upper, *n, goals, *n,
+                            tableau, *n * (m + *n), values, *n, strides, *n, report, 3);
+}
+
+int main(int argc, char **argv)
+{
+    static const char *const verdicts[] = {
+        [KORALIMBU_FITTED] = "FITTED", [KORALIMBU_OUTSIDE] = "OUTSIDE", [KORALIMBU_SPENT] = "SPENT"};
+    size_t text_count = sizeof paving - 1, n, j;
+    uint32_t report[3], number;
+
+    if (argc < 2) {
+        memcpy(text, paving, text_count);
+    } else if (!load(argv[1], &text_count)) {
+        perror(argv[1]);
+        return 1;
+    }
+    number = solve(text_count, &n, report);
+    if (number == 8) {
+        printf("NONE\n");
+    } else if (number != 0) {
+        printf("REFUSED %" PRIu32 "\n", number);
+    } else {
+        printf("%s %" PRIu32 " %" PRIu32 "\n", verdicts[report[0]], report[1], report[2]);
+        for (j = 0; j < n; j++)
+            printf("%zu %" PRId64 " %" PRIu64 "\n", j + 1, values[j], strides[j]);
+    }
+    return 0;
+}
