@@ -6,9 +6,9 @@ A row Hermite form is unique, so the form that koralimbu_assign leaves in the ta
 must be, entry for entry, what FLINT's fmpz_mat_hnf makes of the same table: column j
 of the matrix, then the j-th unit list. It is left with a verdict and with refusals 8
 and 9; problems past the elimination limit (7) have none and are counted apart. FLINT
-is called by a few lines of C, compiled below target/ with FLINT's own headers, since
-the layout of its matrices differs between versions. Where it is missing nothing is
-compared. The last line is 'N passed, M failed'.
+is called by a few lines of C, compiled below target/, so that the layout of its
+matrices is its headers' matter. Where it is missing nothing is compared. The last
+line is 'N passed, M failed'.
 """
 
 import ctypes
