@@ -138,6 +138,14 @@ fn no_rows() {
 }
 
 #[test]
+fn one_list_as_both_bounds() {
+    let fixed = [4, 4];
+    let columns = Columns { lower: &fixed, upper: &fixed, goals: &[0, 0] };
+    let problem = Problem { columns, rows: Rows { coefficients: &[1, -1], rights: &[0] }, limit: LIMIT };
+    assert_eq!(solve(&problem).unwrap().values, [4, 4]);
+}
+
+#[test]
 fn the_largest_problem() {
     let mut posed = Posed::chain(48, 0, 10);
     posed.coefficients.iter_mut().for_each(|a| *a = a.signum());
