@@ -1,6 +1,7 @@
-/* Koralimbu: whole assignments and Continue on lent buffers. The functions lie in liblink.a (`rt staticlib link`), which is proved.
+/* Koralimbu: deck texts, whole assignments and Continue on lent buffers. The functions lie in liblink.a (`rt staticlib link`), which is proved.
  *
  * Buffers. Each is a pointer and then its count of numbers. A pointer is not null, even with a count of 0, and no two buffers overlap.
+ * Those of koralimbu_assign and koralimbu_continue (koralimbu_read has its own account below):
  *
  *                 count        holds
  *   coefficients  m * n        the rows, n to a row
@@ -14,7 +15,7 @@
  *
  * The first five are only read.
  *
- * What is returned, and what is then left. No call allocates, prints or ends the program.
+ * What these two return, and what is then left. No call allocates, prints or ends the program.
  *
  *                                                              tableau    values, strides
  *    0  a verdict                                              the form   the values and strides
@@ -77,6 +78,57 @@ uint32_t koralimbu_continue(size_t n, size_t m, uint32_t limit,
                             int64_t *values, size_t values_count,
                             uint64_t *strides, size_t strides_count,
                             uint32_t *report, size_t report_count);
+
+/* The reader: makes the problem of a deck text, in buffers of the largest size.
+ *
+ *                 count  holds
+ *   text          any    the bytes of the text; only read
+ *   coefficients  2304   afterwards the rows, n to a row without gaps
+ *   rights        48     afterwards what each row must add up to
+ *   lower, upper  48     afterwards the bounds of each column
+ *   goals         48     afterwards the goal of each column, in thousandths; 0 for none
+ *   sizes         2      afterwards n and m
+ *
+ * What is returned, and what is then left:
+ *
+ *                                                              coefficients, rights,  sizes
+ *                                                              lower, upper, goals
+ *    0  the text is read                                       the problem, then 0s   n, m
+ *    1  the count of intervals is not 1 to 48, or that of      as they were           0, 0
+ *       rows is not 0 to 48
+ *    2  a count of coefficients, rights, lower, upper or       as they were           0, 0
+ *       goals is not the one above
+ *    3  a coefficient is beyond 1,000, or a row's number       as they were           0, 0
+ *       beyond 1,000,000, of either sign, or a least half is
+ *       not 0 to 1,000,000
+ *    4  a bound is beyond 1,000,000 of either sign, or a       as they were           0, 0
+ *       lower bound is above its upper bound
+ *    5  a goal is not 0 to 1,000,000,000, or stands with a     as they were           0, 0
+ *       lower bound below 1
+ *   11  a word is no number, a number is missing or one too    as they were           0, 0
+ *       many, or the text is over 32,768 bytes
+ *   12  a kind is not 0 to 3 or makes a 49th column, a count   as they were           0, 0
+ *       of terms is wrong, an index does not rise or names no
+ *       interval, or a coefficient is 0
+ *
+ * The counts are looked at first (2), then the length of the text (11); after that the first place of the text that breaks its rule decides.
+ * A sizes whose count is not 2 is refused with 2 before anything else is looked at, and every buffer is left as it was, sizes too.
+ *
+ * n counts the intervals and then the columns that rows of kinds 1 to 3 add, in row order. A call goes on with the parts that n and m need:
+ *
+ *   if (koralimbu_read(text, length, coefficients, 2304, rights, 48, lower, 48, upper, 48, goals, 48, sizes, 2) == 0) {
+ *     size_t n = sizes[0], m = sizes[1];
+ *     number = koralimbu_assign(n, m, 10000, coefficients, m * n, rights, m, lower, n, upper, n, goals, n,
+ *                               tableau, n * (m + n), values, n, strides, n, report, 3);
+ *   }
+ */
+uint32_t koralimbu_read(const uint8_t *text, size_t text_count,
+                        int64_t *coefficients, size_t coefficients_count,
+                        int64_t *rights, size_t rights_count,
+                        int64_t *lower, size_t lower_count,
+                        int64_t *upper, size_t upper_count,
+                        int64_t *goals, size_t goals_count,
+                        size_t *sizes, size_t sizes_count);
 
 #ifdef __cplusplus
 }

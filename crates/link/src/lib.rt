@@ -1,4 +1,6 @@
-// The engine's calls for C: include/koralimbu.h. They have no `requires`: what a caller can break is an answer.
+// The engine's calls for C: include/koralimbu.h; the reader's stands in reading.rt. They have no `requires`: what a caller can break is an answer.
+mod reading;
+
 ghost use mathlib.Core.Path.{_≡_};
 ghost use lib.ListN.{length};
 ghost use Rattle.engine.specs.Assign.{posed, buffers, assign, continue};

@@ -1,0 +1,70 @@
+-- `link::reading::koralimbu_read` meets its contract: the length of the sizes decides, and the rest is the reader. Assumes nothing.
+use Rattle.deck.specs.Reader.{DeckBuffers, deckBuffers}
+use Rattle.link.proofs.Sizes.{is-read-told, is-read-untold}
+use borrow.Author.Needs.{needs}
+use Rattle.link.proofs.reading.koralimbu_read.Statement.{statement}
+use Rattle.link.proofs.reading.koralimbu_read.Tie as tie
+
+module _ (a : tie.Start) where
+  abbrev B : DeckBuffers
+  B = deckBuffers (a .args .coefficients .now) (a .args .rights .now) (a .args .lower .now) (a .args .upper .now) (a .args .goals .now)
+
+number-requires : tie.Need-number-requires
+number-requires c κs = search needs
+
+returns : tie.Need-returns
+returns c =
+    let a = c .before .before .before .before in
+    is-read-untold (a .args .text .now) (B a) (a .args .sizes .now) _ (c .before .if1 .taken) (c .number .ensures)
+
+read-deck-requires : tie.Need-read-deck-requires
+read-deck-requires c κs = search needs
+
+tell-sizes-requires : tie.Need-tell-sizes-requires
+tell-sizes-requires c κs = search needs
+
+reading-number-requires : tie.Need-reading-number-requires
+reading-number-requires c κs = search needs
+
+same-length : tie.Need-same-length
+same-length c = search needs
+
+same-length-2 : tie.Need-same-length-2
+same-length-2 c = search needs
+
+same-length-3 : tie.Need-same-length-3
+same-length-3 c = search needs
+
+same-length-4 : tie.Need-same-length-4
+same-length-4 c = search needs
+
+same-length-5 : tie.Need-same-length-5
+same-length-5 c = search needs
+
+same-length-6 : tie.Need-same-length-6
+same-length-6 c = search needs
+
+returns-2 : tie.Need-returns-2
+returns-2 c =
+    let a = c .before .before .before .before .before .before .before .before .before .before .before .before .before .before .before .before .before .before .before in
+    let d = c .before .before .before .before .before .before .before .before .before .before .read-deck in
+    let r = d .ensures in
+    is-read-told (a .args .text .now) (B a) (a .args .sizes .now) (d .result) _ _ _ _ _ _ _ (c .before .before .before .before .before .before .before .before .before .before .before .before .before .before .before .before .if1 .left)
+    (r .0) (r .1 .0) (r .1 .1 .0) (r .1 .1 .1 .0) (r .1 .1 .1 .1 .0) (r .1 .1 .1 .1 .1) (c .before .before .before .tell-sizes .ensures) (c .reading-number .ensures)
+
+pub koralimbu-read-spec : {M : Type 1} → statement M
+koralimbu-read-spec =
+    tie.close
+    (tie.spec
+    number-requires
+    returns
+    read-deck-requires
+    tell-sizes-requires
+    reading-number-requires
+    same-length
+    same-length-2
+    same-length-3
+    same-length-4
+    same-length-5
+    same-length-6
+    returns-2)

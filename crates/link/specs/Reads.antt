@@ -1,0 +1,75 @@
+-- The reader as C calls it: what it returns and what it leaves in each lent buffer.
+--   readingNumber r   0 for a text that is read, or the refusal's number
+--   sizesOf r         the two numbers that tell of r: n and m; 0 and 0 with a refusal
+--   ReadCalled        what the call returns, and what the buffers that it fills then hold
+--   readTold d        of a reader that has done d: the number, the five buffers of a problem, and the sizes
+--   readUntold B z    where the sizes z have a wrong length: refusal 2, "nothing changed"
+--   readCalled s B z  either, by the length of z; s is the text
+--   read-called-told, read-called-untold   which of the two it is
+-- Assumes nothing.
+use mathlib.Core.Path.{_≡_}
+use mathlib.Core.Bool.{cond}
+use mathlib.Core.List.{List, [], _∷_}
+use Prim.Native.Nat.{ℕ}
+use lib.Dec.{eqb}
+use lib.IntN.{ℤ}
+use lib.ListN.{length}
+use borrow.Author.Tests.{eq-eqb, ne-eqb}
+use Rattle.problem.specs.Answers.{refusalNumber}
+use Rattle.problem.specs.declared.Refusal.the-variants.{Length}
+use Rattle.deck.specs.Reader.{DeckBuffers, ReadDone, read}
+use Rattle.deck.specs.declared.Reading.{Reading}
+use Rattle.deck.specs.declared.Reading.the-variants.{Read, Refused}
+
+abbrev pub readingNumber : Reading → ℕ
+readingNumber (Read n m) = 0
+readingNumber (Refused why) = refusalNumber why
+
+abbrev pub sizesLength : ℕ
+sizesLength = 2
+
+abbrev pub sizesOf : Reading → List ℕ
+sizesOf (Read n m) = n ∷ m ∷ []
+sizesOf (Refused why) = 0 ∷ 0 ∷ []
+
+pub record ReadCalled : Type 0 where
+  pub number : ℕ
+  pub coefficients : List ℤ
+  pub rights : List ℤ
+  pub lower : List ℤ
+  pub upper : List ℤ
+  pub goals : List ℤ
+  pub sizes : List ℕ
+
+abbrev pub readTold : ReadDone → ReadCalled
+readTold d = record {
+  number = readingNumber (d .reading);
+  coefficients = d .buffers .coefficients;
+  rights = d .buffers .rights;
+  lower = d .buffers .lower;
+  upper = d .buffers .upper;
+  goals = d .buffers .goals;
+  sizes = sizesOf (d .reading);
+}
+
+abbrev pub readUntold : DeckBuffers → List ℕ → ReadCalled
+readUntold B z = record {
+  number = refusalNumber Length;
+  coefficients = B .coefficients;
+  rights = B .rights;
+  lower = B .lower;
+  upper = B .upper;
+  goals = B .goals;
+  sizes = z;
+}
+
+unfoldable pub readCalled : List ℕ → DeckBuffers → List ℕ → ReadCalled
+readCalled s B z = cond (eqb (length z) sizesLength) (readTold (read s B)) (readUntold B z)
+
+pub read-called-told : (s : List ℕ) (B : DeckBuffers) (z : List ℕ) → length z ≡ sizesLength → readCalled s B z ≡ readTold (read s B)
+unfolding readCalled
+read-called-told s B z e = rw (eq-eqb (length z) sizesLength e)
+
+pub read-called-untold : (s : List ℕ) (B : DeckBuffers) (z : List ℕ) → (length z ≡ sizesLength → ⊥) → readCalled s B z ≡ readUntold B z
+unfolding readCalled
+read-called-untold s B z e = rw (ne-eqb (length z) sizesLength e)

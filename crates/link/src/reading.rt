@@ -1,0 +1,62 @@
+// The reader's call for C, which has no `requires` either.
+ghost use mathlib.Core.Path.{_≡_};
+ghost use lib.ListN.{length};
+ghost use Rattle.deck.specs.Reader.{deckBuffers};
+ghost use Rattle.link.specs.Reads.{readingNumber, sizesOf, sizesLength, readCalled};
+use deck::Reading;
+use problem::Refusal;
+
+// How many numbers tell the sizes of a text's problem: n and m.
+const SIZES: usize = 2;
+
+fn reading_number(reading: Reading) -> u32
+    ensures { λ r. ⌜ r ≡ readingNumber reading ⌝ }
+{
+    match reading {
+        Reading::Read(_, _) => 0,
+        Reading::Refused(why) => why.number(),
+    }
+}
+
+fn tell_sizes(reading: Reading, sizes: &mut [usize])
+    requires { ⌜ length (now sizes) ≡ sizesLength ⌝ }
+    ensures { λ _. ⌜ now (sizes .exit) ≡ sizesOf reading ⌝ }
+{
+    match reading {
+        Reading::Read(n, m) => {
+            sizes[0] = n;
+            sizes[1] = m;
+        }
+        Reading::Refused(_) => {
+            sizes[0] = 0;
+            sizes[1] = 0;
+        }
+    }
+}
+
+// Reads a text into buffers of the largest size.
+#[no_mangle]
+pub extern "C" fn koralimbu_read(
+    text: &[u8],
+    coefficients: &mut [i64],
+    rights: &mut [i64],
+    lower: &mut [i64],
+    upper: &mut [i64],
+    goals: &mut [i64],
+    sizes: &mut [usize],
+) -> u32
+    ensures { λ r. ⌜ r ≡ readCalled (now (text .entry)) (deckBuffers (now (coefficients .entry)) (now (rights .entry)) (now (lower .entry)) (now (upper .entry)) (now (goals .entry))) (now (sizes .entry)) .number ⌝ }
+    ensures { λ _. ⌜ now (coefficients .exit) ≡ readCalled (now (text .entry)) (deckBuffers (now (coefficients .entry)) (now (rights .entry)) (now (lower .entry)) (now (upper .entry)) (now (goals .entry))) (now (sizes .entry)) .coefficients ⌝ }
+    ensures { λ _. ⌜ now (rights .exit) ≡ readCalled (now (text .entry)) (deckBuffers (now (coefficients .entry)) (now (rights .entry)) (now (lower .entry)) (now (upper .entry)) (now (goals .entry))) (now (sizes .entry)) .rights ⌝ }
+    ensures { λ _. ⌜ now (lower .exit) ≡ readCalled (now (text .entry)) (deckBuffers (now (coefficients .entry)) (now (rights .entry)) (now (lower .entry)) (now (upper .entry)) (now (goals .entry))) (now (sizes .entry)) .lower ⌝ }
+    ensures { λ _. ⌜ now (upper .exit) ≡ readCalled (now (text .entry)) (deckBuffers (now (coefficients .entry)) (now (rights .entry)) (now (lower .entry)) (now (upper .entry)) (now (goals .entry))) (now (sizes .entry)) .upper ⌝ }
+    ensures { λ _. ⌜ now (goals .exit) ≡ readCalled (now (text .entry)) (deckBuffers (now (coefficients .entry)) (now (rights .entry)) (now (lower .entry)) (now (upper .entry)) (now (goals .entry))) (now (sizes .entry)) .goals ⌝ }
+    ensures { λ _. ⌜ now (sizes .exit) ≡ readCalled (now (text .entry)) (deckBuffers (now (coefficients .entry)) (now (rights .entry)) (now (lower .entry)) (now (upper .entry)) (now (goals .entry))) (now (sizes .entry)) .sizes ⌝ }
+{
+    if sizes.len() != SIZES {
+        return Refusal::Length.number();
+    }
+    let reading = deck::read_deck(text, coefficients, rights, lower, upper, goals);
+    tell_sizes(reading, sizes);
+    reading_number(reading)
+}
