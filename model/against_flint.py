@@ -17,14 +17,14 @@ import shutil
 import subprocess
 import sys
 
-from against_engine import ROOT, Buffer, build, run
+from against_engine import NUMBERS, engine_functions
+from boundary import MOST_SHOWN, ROOT, Buffer, call, load, run
 from engine import ELIMINATION_BEYOND, MAX_COLUMNS, MAX_ROWS, NO_WHOLE_NUMBERS, SEATING_BEYOND
 from generate import rng_for
 
 SOURCE = os.path.join(ROOT, "target", "against", "flint_form.c")
 SHARED = os.path.join(ROOT, "target", "against", "libflint_form.so")
 LIBRARIES = ["-lflint", "-lgmp"]
-MOST_SHOWN = 5
 
 HEADERS = """
 #include <stddef.h>
@@ -154,15 +154,14 @@ def engine_form(assign, rng, n, rows):
     m = len(rows)
     rights = [rng.randint(-9, 9) for _ in range(m)] if rng.random() < 0.5 else [0] * m
     goals = [10 ** 9] * n if rng.random() < 0.2 else [0] * n
-    buffers = [Buffer("coefficients", [a for row in rows for a in row]), Buffer("rights", rights),
-               Buffer("lower", [1] * n), Buffer("upper", [10 ** 6] * n), Buffer("goals", goals),
-               Buffer("tableau", [7] * (n * (m + n))), Buffer("values", [0] * n),
-               Buffer("strides", [0] * n), Buffer("report", [0] * 3)]
+    lists = {"coefficients": [a for row in rows for a in row], "rights": rights, "lower": [1] * n,
+             "upper": [10 ** 6] * n, "goals": goals, "tableau": [7] * (n * (m + n)),
+             "values": [0] * n, "strides": [0] * n, "report": [0] * 3}
+    buffers = {name: Buffer(NUMBERS.get(name, ctypes.c_int64), numbers)
+               for name, numbers in lists.items()}
     # No step is taken: the form stands before settling.
-    arguments = [n, m, 0]
-    for buffer in buffers:
-        arguments += buffer.arguments
-    return assign(*arguments), buffers[5].numbers()
+    after = call(assign, [n, m, 0], buffers)
+    return after["number"], after["tableau"]
 
 
 def table_of(n, rows):
@@ -179,7 +178,7 @@ def main(arguments):
         print("0 passed, 0 failed")
         return 0
     flint_differences = build_flint(compiler)
-    assign = build(compiler)["assign"]
+    assign = engine_functions(load())["assign"]
     passed = failed = 0
     numbers = {}
     for number in range(1, count + 1):
