@@ -58,7 +58,7 @@ impl fmt::Display for Refusal {
             NoWholeNumbers => "no whole numbers satisfy the rows",
             Seating => "a goal pulls some column beyond ±2,147,483,647",
             Standing => "the list to continue from fails a row, or has a value beyond ±2,147,483,647",
-            Layout => "a word that is no number, a number missing or one too many, or a text over 32,768 bytes",
+            Layout => "a word is no number, a number is missing or one too many, or the text is over 32,768 bytes",
             Term => {
                 "a row's kind is not 0 to 3, its count of terms is wrong, an index does not rise or names no interval, \
                  a coefficient is 0, or there is a 49th column"
