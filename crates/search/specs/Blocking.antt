@@ -1,6 +1,6 @@
 -- What the search may skip. Along the ranking the measure to come below only falls: a move that improves a column also improves each higher
 -- column that it changes, so that it has to be tried only at the highest column that it changes.
---   every-at, -not     a test that holds at every place, and one that fails at some place
+--   every-not          a test that fails at some place does not hold at every one
 --   Proper p C v j     the measure of column j is a fraction
 --   weak               proper columns are ordered by their measures
 --   unchanged          a move improves no column that it leaves as it is
@@ -15,6 +15,7 @@ use native.Mathlib.Nat.{eq-or-lt-of-le, mul-le-mul-right, mul-lt-mul-of-pos-righ
 use native.Mathlib.Omega.{arith}
 use borrow.Author.Tests.{lt-ltb, le-ltb, ltb-true, ltb-false}
 use lib.IntN.{ℤ}
+use Rattle.whole.specs.Counted.{every-at, every-all}
 use Rattle.whole.specs.Tests.{isZero, every}
 use Rattle.settling.specs.declared.Move.{Move}
 use Rattle.settling.specs.declared.Measure.{Measure}
@@ -29,21 +30,6 @@ use Rattle.search.specs.Rankings.{Weak}
 pub and-true : (a b : Bool) → a && b ≡ true → (a ≡ true) × (b ≡ true)
 and-true true b e = (refl, e)
 and-true false b e = absurd (false≢true e)
-
-pub every-at : (n : ℕ) (f : ℕ → Bool) (j : ℕ) → every n f ≡ true → j < n → f j ≡ true
-unfolding every
-every-at zero f j e h = absurd (omega arith)
-every-at (suc n) f j e h =
-    let x = and-true (every n f) (f n) e in
-    ⊎-elim (λ p. ap f p ∙ x .1) (λ p. every-at n f j (x .0) p) (last j n h)
-  where
-    last : (j n : ℕ) → j < suc n → (j ≡ n) ⊎ (j < n)
-    last j n h = eq-or-lt-of-le (omega arith)
-
-every-all : (n : ℕ) (f : ℕ → Bool) → ((j : ℕ) → j < n → f j ≡ true) → every n f ≡ true
-unfolding every
-every-all zero f h = refl
-every-all (suc n) f h = ap₂ _&&_ (every-all n f (λ j l. h j (omega arith))) (h n (omega arith))
 
 pub every-not : (n : ℕ) (f : ℕ → Bool) (j : ℕ) → j < n → f j ≡ false → every n f ≡ false
 every-not n f j h e = go (every n f) refl

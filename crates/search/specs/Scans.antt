@@ -4,7 +4,7 @@
 --   scan imp L R z           after the moves of the list R
 --   scan-first               a scan of all moves finds the step of the definition
 --   scan-append, scan-still  of moves one list after another; nothing is better than the first place
---   consider-.., scan-..     what one move leaves; the place never rises
+--   consider-.., scan-falls  what one move leaves; the place never rises
 --   singles-.., with-.., pairs-..   the lists of moves, a vector at a time
 -- Assumes nothing.
 use mathlib.Core.Path.{_≡_, refl, sym, _∙_, ap, ap₂}
@@ -82,8 +82,8 @@ scan-small imp L (o ∷ R) z = omega (arith, scan-small imp L R (consider imp L 
 pub consider-within : (imp : Move → ℕ → Bool) (L : List ℕ) (o : Move) (z y : Best) → y ≡ consider imp L o z → z .at ≤ length L → y .at ≤ length L
 consider-within imp L o z y e h = omega (arith, ap (λ (x : Best). x .at) e, consider-small imp L o z)
 
-pub scan-within : (imp : Move → ℕ → Bool) (L : List ℕ) (R : List Move) (z y : Best) → y ≡ scan imp L R z → z .at ≤ length L → y .at ≤ length L
-scan-within imp L R z y e h = omega (arith, ap (λ (x : Best). x .at) e, scan-small imp L R z)
+pub scan-falls : (imp : Move → ℕ → Bool) (L : List ℕ) (R : List Move) (z y : Best) → y ≡ scan imp L R z → y .at ≤ z .at
+scan-falls imp L R z y e = omega (arith, ap (λ (x : Best). x .at) e, scan-small imp L R z)
 
 -- ---- the first column's first move, when a move is put in front of the others
 orElse-assoc : (a b c : Step) → orElse a (orElse b c) ≡ orElse (orElse a b) c

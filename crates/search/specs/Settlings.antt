@@ -16,6 +16,7 @@ use borrow.Author.Tests.{eqb-true, ltb-false, not-true}
 use lib.IntN.{ℤ, pos, negsuc, natAbs}
 use lib.ListN.{length, List·getD-eq-default}
 use Rattle.whole.specs.Lists.{entry}
+use Rattle.whole.specs.Counted.{every-at}
 use Rattle.whole.specs.Tests.{every}
 use Rattle.problem.specs.Limits.{M, maxBound}
 use Rattle.problem.specs.declared.Counts.{Counts}
@@ -35,7 +36,7 @@ use Rattle.settling.specs.Settle.{ended, atRest, counted, onStep, settleFrom}
 use Rattle.settling.specs.Sizes.{inside-small}
 use Rattle.settling.specs.Views.{vectors, OfBasis, rows-length, moved-length}
 use Rattle.settling.specs.Ready.{cols, Ready}
-use Rattle.search.specs.Blocking.{and-true, every-at}
+use Rattle.search.specs.Blocking.{and-true}
 use Rattle.search.specs.Scans.{signs}
 
 -- ---- the moves

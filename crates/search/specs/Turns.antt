@@ -19,6 +19,7 @@ use lib.IntN.{ℤ, pos, natAbs}
 use lib.ListN.{length}
 use lib.Signed.{leZ}
 use Rattle.whole.specs.Lists.{entry}
+use Rattle.whole.specs.Counted.{every-at}
 use Rattle.whole.specs.Tests.{isZero, every}
 use Rattle.problem.specs.Limits.{M, maxColumns, maxBound}
 use Rattle.settling.specs.declared.Basis.{Basis}
@@ -35,7 +36,8 @@ use Rattle.settling.specs.Ready.{cols, Ready}
 use Rattle.search.specs.declared.Search.{Search}
 use Rattle.search.specs.declared.Turn.{Turn}
 use Rattle.search.specs.Cells.{cellAt, columnsOf, valuesOf, pack, length-pack, pack-columns, pack-values, cell-at}
-use Rattle.search.specs.Blocking.{Proper, every-at}
+use Rattle.search.specs.Blocking.{Proper}
+use Rattle.search.specs.Notes.{above-zero}
 use Rattle.search.specs.Searches.{columnsIn, valuesIn, Packed, Searchable}
 
 pub record Sound (S : Search) (l b : List ℤ) : Type 0 where
@@ -120,11 +122,7 @@ module _ (B : Basis) (v lo hi gs b l : List ℤ) (r : Ready B v lo hi gs b) (d :
         go false = a
 
     above : (z : ℤ) → isZero z ≡ false → 0 < natAbs z
-    above z e = go (natAbs z) (eqb-false (natAbs z) 0 e)
-      where
-        go : (k : ℕ) → (k ≡ 0 → ⊥) → 0 < k
-        go zero f = absurd (f refl)
-        go (suc k) f = omega arith
+    above z e = above-zero (natAbs z) (eqb-false (natAbs z) 0 e)
 
     wanted : (j : ℕ) → isZero (entry j gs) ≡ false → leZ (pos 1) (entry j lo) ≡ true
     wanted j e = sym (ap (λ (t : Bool). t || leZ (pos 1) (entry j lo)) e) ∙ r .goal-above j

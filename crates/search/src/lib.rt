@@ -11,11 +11,11 @@ ghost use Rattle.search.specs.Searches.{columnsIn, valuesIn, Packed};
 ghost use Rattle.search.specs.Turns.{Sound, Turnable, insideOf, turnOf, turnOver};
 use cells::cell_at;
 use cells::pack;
+use pairs::first_step;
 use problem::Answer;
 use problem::Counts;
 use problem::Problem;
 use ranking::rank;
-use scan::first_step;
 use settling::Basis;
 use settling::Move;
 use settling::Part;
@@ -24,6 +24,8 @@ use settling::measures::distance;
 use settling::moves::take_move;
 
 mod cells;
+mod notes;
+mod pairs;
 mod ranking;
 mod scan;
 
@@ -39,35 +41,56 @@ struct Best {
     pub step: Step,
 }
 
+// What the search notes of a vector: the first place of the ranking whose column it changes, and for each sign a column that does not pass.
+struct Note {
+    pub top: usize,
+    pub plus: usize,
+    pub minus: usize,
+}
+
+// The best after a vector was tried alone, and its note.
+struct Tried {
+    pub best: Best,
+    pub note: Note,
+}
+
 // Two vectors of the basis.
 struct Pair {
     pub s: usize,
     pub t: usize,
 }
 
-impl Pair {
-    // a Ns + b Nt.
-    fn signed(self, a: i64, b: i64) -> Move
-        ensures { λ r. ⌜ r ≡ Moves.pair (self .s) a (self .t) b ⌝ }
-    {
-        Move {
-            s: self.s,
-            a: a,
-            t: self.t,
-            b: b,
-        }
-    }
+// A move that changes no column before the place `from`. If something is told of it, it improves no column unless the vector changes the
+// column noted here.
+struct Trial {
+    pub o: Move,
+    pub told: bool,
+    pub from: usize,
+    pub vector: usize,
+    pub column: usize,
 }
 
-// The step of a part. The order is room for its ranking.
+// The same of the four moves of a pair, each with a column of its own.
+struct Hints {
+    pub told: bool,
+    pub from: usize,
+    pub vector: usize,
+    pub pp: usize,
+    pub pm: usize,
+    pub mp: usize,
+    pub mm: usize,
+}
+
+// The step of a part. The order is room for its ranking, and the notes for three numbers a vector.
 fn step_of(search: Search, cells: &[i64], basis: &[i64]) -> Step
     requires { ⌜ Sound search (now cells) (now basis) ⌝ }
     ensures { λ r. ⌜ r ≡ stepOf (search .part) (columnsIn search (now (cells .entry))) (vectors (search .view) (now (basis .entry))) (valuesIn search (now (cells .entry))) ⌝ }
 {
     let mut order = [0usize; Problem::MAX_COLUMNS];
+    let mut notes = [0usize; 3 * Problem::MAX_COLUMNS];
     let part = search.part;
     let len = rank(part, cells, &mut order, search.view.columns);
-    first_step(search, cells, basis, &order[..len])
+    first_step(search, cells, basis, &order[..len], &mut notes)
 }
 
 // The part that n packed columns have come to.

@@ -1,21 +1,24 @@
 ghost use mathlib.Core.Path.{_≡_};
-ghost use mathlib.Core.Bool.{true};
-ghost use Prim.Native.Nat.{_+_, _-_, _<_, _≤_};
-ghost use lib.ListN.{length, take};
-ghost use Rattle.whole.specs.Tests.{every};
-ghost use Rattle.settling.specs.Moves.{signPairs};
+ghost use Prim.Native.Nat.{_*_, _<_, _≤_};
+ghost use lib.ListN.{length};
+ghost use Rattle.problem.specs.Limits.{maxColumns};
 ghost use Rattle.settling.specs.Moves as Moves;
-ghost use Rattle.settling.specs.Steps.{passesAt, firstColumn, stepAt};
+ghost use Rattle.settling.specs.Steps.{passesAt};
 ghost use Rattle.settling.specs.Sizes.{Room};
-ghost use Rattle.settling.specs.Views.{vectors, OfBasis};
-ghost use Rattle.search.specs.Places as Places;
-ghost use Rattle.search.specs.Scans.{signs};
+ghost use Rattle.settling.specs.Views.{vectors, Viewed, OfBasis};
+ghost use Rattle.search.specs.Notes.{Failing, Blamed, Listed, Still, First, Noted, AllNoted};
+ghost use Rattle.search.specs.Notes as Notes;
+ghost use Rattle.settling.specs.declared.Step.the-variants.{Take};
+ghost use Rattle.search.specs.Scans.{best, signs};
 ghost use Rattle.search.specs.Scans as Scans;
-ghost use Rattle.search.specs.Searches.{columnsIn, valuesIn, better, Searchable, InOrder, Setup};
+ghost use Rattle.search.specs.Searches.{columnsIn, valuesIn, better, Searchable, Setup};
 use crate::Best;
-use crate::Pair;
+use crate::Note;
 use crate::Search;
+use crate::Tried;
 use crate::cells::cell_at;
+use crate::notes::put_note;
+use settling::Basis;
 use settling::Cell;
 use settling::Measure;
 use settling::Move;
@@ -43,71 +46,106 @@ fn passes_at(search: Search, cells: &[i64], basis: &[i64], o: Move, q: Measure, 
     passes(part, moved, e, q)
 }
 
-// Whether every column passes under a move. Column i, which it changes, is tried first.
-fn all_pass(search: Search, cells: &[i64], basis: &[i64], o: Move, q: Measure, i: usize) -> bool
+// The first column that does not pass under a move, or n. Column i, which the move changes, is tried first.
+fn failing(search: Search, cells: &[i64], basis: &[i64], o: Move, q: Measure, i: usize) -> usize
     requires { ⌜ Searchable search (now cells) (now basis) × OfBasis (search .view .vectors) o × Room q × (i < search .view .columns) ⌝ }
-    ensures { λ r. ⌜ r ≡ every (search .view .columns) (passesAt (search .part) (columnsIn search (now (cells .entry))) (vectors (search .view) (now (basis .entry))) (valuesIn search (now (cells .entry))) o q) ⌝ }
+    ensures { λ r. ⌜ Failing (search .view .columns) (passesAt (search .part) (columnsIn search (now (cells .entry))) (vectors (search .view) (now (basis .entry))) (valuesIn search (now (cells .entry))) o q) r ⌝ }
 {
     if !passes_at(search, cells, basis, o, q, i) {
-        return false;
+        return i;
     }
     let n = search.view.columns;
     let mut j = 0;
     while j < n {
         if !passes_at(search, cells, basis, o, q, j) {
-            return false;
+            return j;
         }
         j += 1;
     }
-    true
+    n
 }
 
-// Whether a move that changes column i improves it.
-fn improves(search: Search, cells: &[i64], basis: &[i64], o: Move, i: usize) -> bool
-    requires { ⌜ Searchable search (now cells) (now basis) × OfBasis (search .view .vectors) o × (i < search .view .columns) × (Moves.changes (vectors (search .view) (now basis)) o i ≡ true) ⌝ }
-    ensures { λ r. ⌜ r ≡ better search (now (cells .entry)) (now (basis .entry)) o i ⌝ }
+// A column that does not pass under a move that changes column i, or n where the move improves column i.
+fn blame(search: Search, cells: &[i64], basis: &[i64], o: Move, i: usize) -> usize
+    requires { ⌜ Searchable search (now cells) (now basis) × OfBasis (search .view .vectors) o × (i < search .view .columns) ⌝ }
+    ensures { λ r. ⌜ Blamed search (now (cells .entry)) (now (basis .entry)) o i r ⌝ }
 {
     let part = search.part;
     let q = measure(part, cell_at(cells, i));
-    all_pass(search, cells, basis, o, q, i)
+    failing(search, cells, basis, o, q, i)
 }
 
-// The first of the first b places whose column the move improves, or b. Only the first column that it changes has to be tried.
-fn least(search: Search, cells: &[i64], basis: &[i64], order: &[usize], o: Move, b: usize) -> usize
-    requires { ⌜ Setup search (now cells) (now basis) (now order) × OfBasis (search .view .vectors) o × (b ≤ length (now order)) ⌝ }
-    ensures { λ r. ⌜ r ≡ Places.least (better search (now (cells .entry)) (now (basis .entry)) o) (take b (now (order .entry))) ⌝ }
+// The first of the places from `from` on, below b, whose column a move changes; or b. It changes none before `from`.
+fn first_changed(
+    basis: &[i64],
+    view: Basis,
+    order: &[usize],
+    o: Move,
+    from: usize,
+    b: usize,
+) -> usize
+    requires { ⌜ Viewed view (now basis) × OfBasis (view .vectors) o × Listed (view .columns) (now order) × (b ≤ length (now order)) × Still (vectors view (now basis)) (now order) o from ⌝ }
+    ensures { λ r. ⌜ First (vectors view (now (basis .entry))) (now (order .entry)) o b r ⌝ }
 {
-    let mut k = 0;
+    let mut k = from;
     while k < b {
-        let i = order[k];
-        if changes(basis, search.view, o, i) {
-            if improves(search, cells, basis, o, i) {
-                return k;
-            }
-            return b;
+        if changes(basis, view, o, order[k]) {
+            return k;
         }
         k += 1;
     }
-    b
+    k
 }
 
-// The best so far, after one more move.
-fn consider(search: Search, cells: &[i64], basis: &[i64], order: &[usize], o: Move, z: Best) -> Best
-    requires { ⌜ Setup search (now cells) (now basis) (now order) × OfBasis (search .view .vectors) o × (z .at ≤ length (now order)) ⌝ }
+// The move o at place k, whose column is i.
+fn found(k: usize, i: usize, o: Move) -> Best
+    ensures { λ r. ⌜ r ≡ best k (Take i o) ⌝ }
+{
+    Best {
+        at: k,
+        step: Step::Take(i, o),
+    }
+}
+
+// The best so far, after one more move, which changes no column before the place `from`. Only the first column that it changes has to be tried.
+pub(crate) fn consider(
+    search: Search,
+    cells: &[i64],
+    basis: &[i64],
+    order: &[usize],
+    o: Move,
+    from: usize,
+    z: Best,
+) -> Best
+    requires { ⌜ Setup search (now cells) (now basis) (now order) × OfBasis (search .view .vectors) o × Still (vectors (search .view) (now basis)) (now order) o from × (z .at ≤ length (now order)) ⌝ }
     ensures { λ r. ⌜ r ≡ Scans.consider (better search (now (cells .entry)) (now (basis .entry))) (now (order .entry)) o z ⌝ }
 {
     let b = z.at;
-    let k = least(search, cells, basis, order, o, b);
-    if k < b {
-        return Best {
-            at: k,
-            step: Step::Take(order[k], o),
-        };
+    let k = first_changed(basis, search.view, order, o, from, b);
+    if b <= k {
+        return z;
     }
-    z
+    let i = order[k];
+    if blame(search, cells, basis, o, i) < search.view.columns {
+        return z;
+    }
+    found(k, i, o)
 }
 
-// After +Ns and −Ns.
+fn tried(best: Best, top: usize, plus: usize, minus: usize) -> Tried
+    ensures { λ r. ⌜ r ≡ Notes.tried best top plus minus ⌝ }
+{
+    Tried {
+        best: best,
+        note: Note {
+            top: top,
+            plus: plus,
+            minus: minus,
+        },
+    }
+}
+
+// After +Ns and −Ns, and what they tell of the vector. Both change the same columns.
 fn both_signs(
     search: Search,
     cells: &[i64],
@@ -115,9 +153,10 @@ fn both_signs(
     order: &[usize],
     s: usize,
     z: Best,
-) -> Best
+) -> Tried
     requires { ⌜ Setup search (now cells) (now basis) (now order) × (s < search .view .vectors) × (z .at ≤ length (now order)) ⌝ }
-    ensures { λ r. ⌜ r ≡ Scans.scan (better search (now (cells .entry)) (now (basis .entry))) (now (order .entry)) (signs s) z ⌝ }
+    ensures { λ r. ⌜ r .best ≡ Scans.scan (better search (now (cells .entry)) (now (basis .entry))) (now (order .entry)) (signs s) z ⌝ }
+    ensures { λ r. ⌜ Noted search (now (cells .entry)) (now (basis .entry)) (now (order .entry)) (r .best .at) s (r .note) ⌝ }
 {
     let plus = Move {
         s: s,
@@ -125,38 +164,41 @@ fn both_signs(
         t: s,
         b: 0,
     };
+    let k = first_changed(basis, search.view, order, plus, 0, z.at);
+    if z.at <= k {
+        return tried(z, k, 0, 0);
+    }
+    let i = order[k];
+    let n = search.view.columns;
+    let f = blame(search, cells, basis, plus, i);
+    if n <= f {
+        return tried(found(k, i, plus), k, f, 0);
+    }
     let minus = Move {
         s: s,
         a: -1,
         t: s,
         b: 0,
     };
-    let y = consider(search, cells, basis, order, plus, z);
-    consider(search, cells, basis, order, minus, y)
+    let g = blame(search, cells, basis, minus, i);
+    if n <= g {
+        return tried(found(k, i, minus), k, f, g);
+    }
+    tried(z, k, f, g)
 }
 
-// After the pairs of two vectors: ++, +−, −+, −−.
-fn four_signs(
+// After all single vectors, each of which is noted. Nothing is better than the first place.
+pub(crate) fn singles(
     search: Search,
     cells: &[i64],
     basis: &[i64],
     order: &[usize],
-    p: Pair,
+    notes: &mut [usize],
     z: Best,
 ) -> Best
-    requires { ⌜ Setup search (now cells) (now basis) (now order) × (p .s < search .view .vectors) × (p .t < search .view .vectors) × (z .at ≤ length (now order)) ⌝ }
-    ensures { λ r. ⌜ r ≡ Scans.scan (better search (now (cells .entry)) (now (basis .entry))) (now (order .entry)) (signPairs (p .s) (p .t)) z ⌝ }
-{
-    let y = consider(search, cells, basis, order, p.signed(1, 1), z);
-    let x = consider(search, cells, basis, order, p.signed(1, -1), y);
-    let w = consider(search, cells, basis, order, p.signed(-1, 1), x);
-    consider(search, cells, basis, order, p.signed(-1, -1), w)
-}
-
-// After all single vectors. Nothing is better than the first place.
-fn singles(search: Search, cells: &[i64], basis: &[i64], order: &[usize], z: Best) -> Best
-    requires { ⌜ Setup search (now cells) (now basis) (now order) × (z .at ≤ length (now order)) ⌝ }
+    requires { ⌜ Setup search (now cells) (now basis) (now order) × (length (now notes) ≡ 3 * maxColumns) × (z .at ≤ length (now order)) ⌝ }
     ensures { λ r. ⌜ r ≡ Scans.scan (better search (now (cells .entry)) (now (basis .entry))) (now (order .entry)) (Moves.singles (search .view .vectors) 0) z ⌝ }
+    ensures { λ r. ⌜ AllNoted search (now (cells .entry)) (now (basis .entry)) (now (order .entry)) (r .at) (search .view .vectors) (now (notes .exit)) ⌝ }
 {
     let r = search.view.vectors;
     let mut y = z;
@@ -165,65 +207,10 @@ fn singles(search: Search, cells: &[i64], basis: &[i64], order: &[usize], z: Bes
         if y.at == 0 {
             return y;
         }
-        y = both_signs(search, cells, basis, order, s, y);
+        let d = both_signs(search, cells, basis, order, s, y);
+        put_note(notes, s, d.note);
+        y = d.best;
         s += 1;
     }
     y
-}
-
-// After the pairs of Ns with the vectors behind it.
-fn pairs_with(
-    search: Search,
-    cells: &[i64],
-    basis: &[i64],
-    order: &[usize],
-    s: usize,
-    z: Best,
-) -> Best
-    requires { ⌜ Setup search (now cells) (now basis) (now order) × (s < search .view .vectors) × (z .at ≤ length (now order)) ⌝ }
-    ensures { λ r. ⌜ r ≡ Scans.scan (better search (now (cells .entry)) (now (basis .entry))) (now (order .entry)) (Moves.pairsWith (search .view .vectors - (s + 1)) s (s + 1)) z ⌝ }
-{
-    let r = search.view.vectors;
-    let mut y = z;
-    let mut t = s + 1;
-    while t < r {
-        if y.at == 0 {
-            return y;
-        }
-        y = four_signs(search, cells, basis, order, Pair { s: s, t: t }, y);
-        t += 1;
-    }
-    y
-}
-
-// After all pairs.
-fn pairs(search: Search, cells: &[i64], basis: &[i64], order: &[usize], z: Best) -> Best
-    requires { ⌜ Setup search (now cells) (now basis) (now order) × (z .at ≤ length (now order)) ⌝ }
-    ensures { λ r. ⌜ r ≡ Scans.scan (better search (now (cells .entry)) (now (basis .entry))) (now (order .entry)) (Moves.pairs (search .view .vectors) 0) z ⌝ }
-{
-    let r = search.view.vectors;
-    let mut y = z;
-    let mut s = 0;
-    while s < r {
-        if y.at == 0 {
-            return y;
-        }
-        y = pairs_with(search, cells, basis, order, s, y);
-        s += 1;
-    }
-    y
-}
-
-// The first improving move of the first column of the order that has one.
-pub(crate) fn first_step(search: Search, cells: &[i64], basis: &[i64], order: &[usize]) -> Step
-    requires { ⌜ Setup search (now cells) (now basis) (now order) ⌝ }
-    ensures { λ r. ⌜ r ≡ firstColumn (stepAt (search .part) (columnsIn search (now (cells .entry))) (vectors (search .view) (now (basis .entry))) (valuesIn search (now (cells .entry)))) (now (order .entry)) ⌝ }
-{
-    let z = Best {
-        at: order.len(),
-        step: Step::Rest,
-    };
-    let y = singles(search, cells, basis, order, z);
-    let x = pairs(search, cells, basis, order, y);
-    x.step
 }

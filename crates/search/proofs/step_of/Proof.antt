@@ -1,5 +1,5 @@
 -- `search::step_of` meets its contract: the order holds the ranking, which is in order. Assumes nothing.
-use mathlib.Core.Path.{_≡_, sym, _∙_, ap, subst}
+use mathlib.Core.Path.{_≡_, refl, sym, _∙_, ap, subst}
 use native.Mathlib.Omega.{arith}
 use borrow.Author.Needs.{needs}
 use lib.ListN.{take, length-take}
@@ -32,20 +32,25 @@ slice-aggregate-first-step c =
     let s = c .before .before .before .before in
     sym (length-take (c .before .before .rank .result) (c .before .before .rank .last .1 .1 .0) ∙ omega (arith, c .before .before .rank .ensures .0, c .before .before .rank .kept .1 .1 .0, s .pre .few))
 
+slice-aggregate-first-step-2 : tie.Need-slice-aggregate-first-step-2
+slice-aggregate-first-step-2 c = search needs
+
 first-step-requires : tie.Need-first-step-requires
 first-step-requires c κs =
-    let s = c .before .before .before .before in
-    record {
-      searchable = s .pre .searchable;
-      order = subst (InOrder (s .args .search) (s .args .cells .now)) (sym (ranked (c .before .before))) (ranking-in-order (s .args .search) (s .args .cells .now) (s .pre .proper));
-    }
+    let s = c .before .before .before .before .before in (
+      record {
+        searchable = s .pre .searchable;
+        order = subst (InOrder (s .args .search) (s .args .cells .now)) (sym (ranked (c .before .before .before))) (ranking-in-order (s .args .search) (s .args .cells .now) (s .pre .proper));
+      },
+      refl,
+    )
 
 returns : tie.Need-returns
 unfolding Steps.stepOf
 returns c =
-    let s = c .before .before .before .before .before in
-    c .first-step .ensures
-    ∙ ap (Steps.firstColumn (Steps.stepAt (s .args .search .part) (columnsIn (s .args .search) (s .args .cells .now)) (vectors (s .args .search .view) (s .args .basis .now)) (valuesIn (s .args .search) (s .args .cells .now)))) (ranked (c .before .before .before))
+    let s = c .before .before .before .before .before .before .before in
+    c .before .first-step .ensures
+    ∙ ap (Steps.firstColumn (Steps.stepAt (s .args .search .part) (columnsIn (s .args .search) (s .args .cells .now)) (vectors (s .args .search .view) (s .args .basis .now)) (valuesIn (s .args .search) (s .args .cells .now)))) (ranked (c .before .before .before .before .before))
 
 pub step-of-spec : {M : Type 1} → statement M
 step-of-spec =
@@ -55,5 +60,6 @@ step-of-spec =
     rank-requires
     array-share-prefix-order
     slice-aggregate-first-step
+    slice-aggregate-first-step-2
     first-step-requires
     returns)

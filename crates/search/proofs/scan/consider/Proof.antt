@@ -1,30 +1,59 @@
--- `search::scan::consider` meets its contract: the place that was found is better, or the best is kept. Assumes nothing.
-use mathlib.Core.Bool.{Bool}
-use Prim.Native.Nat.{ℕ}
+-- `search::scan::consider` meets its contract: the first column that the move changes decides. Assumes nothing.
+use native.Mathlib.Omega.{arith}
+use Prim.Native.Nat.{_<_}
+use lib.ListN.{length}
+use mathlib.Core.Path.{_∙_}
+use Rattle.search.specs.Notes.{late, hit, shut}
 use borrow.Author.Needs.{needs}
-use Rattle.settling.specs.declared.Move.{Move}
-use Rattle.search.specs.Scans.{consider-better, consider-same}
-use Rattle.search.specs.Searches.{better}
 use Rattle.search.proofs.scan.consider.Statement.{statement}
 use Rattle.search.proofs.scan.consider.Tie as tie
 
-abbrev imp : (s : tie.Start) → Move → ℕ → Bool
-imp s = better (s .args .search) (s .args .cells .now) (s .args .basis .now)
-
-least-requires : tie.Need-least-requires
-least-requires c κs = search needs
-
-mul-t10 : tie.Need-mul-t10
-mul-t10 c = search needs
-
-shared-slice-read-t12 : tie.Need-shared-slice-read-t12
-shared-slice-read-t12 c = search needs
+first-changed-requires : tie.Need-first-changed-requires
+first-changed-requires c κs = let s = c .before in (s .pre .0 .searchable .basis, s .pre .1, record { each = s .pre .0 .order .below }, s .pre .3, s .pre .2)
 
 returns : tie.Need-returns
-returns c = let s = c .before .before .before .before in consider-better (imp s) (s .args .order .now) (s .args .o) (s .args .z) (c .before .before .least .result) (c .before .before .least .ensures) (c .before .if1 .taken)
+returns c =
+    let s = c .before .before .before in
+    late (s .args .search) (s .args .cells .now) (s .args .basis .now) (s .args .order .now) (s .args .o) (c .before .first-changed .result) (c .before .first-changed .ensures .still) (s .args .z) (s .pre .3) (c .if1 .taken)
+
+mul-i : tie.Need-mul-i
+mul-i c = search needs
+
+shared-slice-read-i : tie.Need-shared-slice-read-i
+shared-slice-read-i c = search needs
+
+blame-requires : tie.Need-blame-requires
+blame-requires c κs =
+    let s = c .before .before .before .before in
+    (s .pre .0 .searchable, s .pre .1, s .pre .0 .order .below (c .before .before .first-changed .result) (omega (arith, s .pre .3, c .before .if1 .left)))
 
 returns-2 : tie.Need-returns-2
-returns-2 c = let s = c .before .before .before in consider-same (imp s) (s .args .order .now) (s .args .o) (s .args .z) (c .before .least .result) (c .before .least .ensures) (c .if1 .left)
+returns-2 c =
+    let s = c .before .before .before .before .before .before .before in
+    let k = c .before .before .before .before .before .first-changed .result in
+    shut (s .args .search) (s .args .cells .now) (s .args .basis .now) (s .args .order .now) (s .args .o) k (c .before .before .before .before .before .first-changed .ensures .still) (s .args .z) (s .pre .3) (c .before .before .before .before .if1 .left) (c .before .before .before .before .before .first-changed .ensures .changed (c .before .before .before .before .if1 .left))
+    (s .pre .0 .order) (c .before .before .blame .result) (c .if2 .taken) (c .before .before .blame .ensures .bad (c .if2 .taken))
+
+found-requires : tie.Need-found-requires
+found-requires c κs = search needs
+
+returns-3 : tie.Need-returns-3
+returns-3 c =
+    let s = c .before .before .before .before .before .before .before .before in
+    let k = c .before .before .before .before .before .before .first-changed .result in
+    c .found .ensures
+    ∙ hit (s .args .search) (s .args .cells .now) (s .args .basis .now) (s .args .order .now) (s .args .o) k (c .before .before .before .before .before .before .first-changed .ensures .still) (s .args .z) (s .pre .3) (c .before .before .before .before .before .if1 .left) (c .before .before .before .before .before .before .first-changed .ensures .changed (c .before .before .before .before .before .if1 .left))
+    (c .before .before .before .blame .ensures .good (c .before .if2 .left))
 
 pub consider-spec : {M : Type 1} → statement M
-consider-spec = tie.close (tie.spec least-requires mul-t10 shared-slice-read-t12 returns returns-2)
+consider-spec =
+    tie.close
+    (tie.spec
+    first-changed-requires
+    returns
+    mul-i
+    shared-slice-read-i
+    blame-requires
+    returns-2
+    found-requires
+    returns-3)
