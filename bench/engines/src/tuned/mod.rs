@@ -1,4 +1,4 @@
-//! Document 01 for speed: everything in the lent buffers and on the stack, no list of moves, and each move tried once in a step.
+//! Document 01 for speed: the form in place, no list of moves, and each move tried once in a step.
 
 mod basis;
 mod columns;

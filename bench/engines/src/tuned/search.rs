@@ -26,30 +26,25 @@ struct Late {
 
 const NOTHING: u16 = u16::MAX;
 
-/// A pair waits at most once as a sum and once as a difference.
-const MOST_LATE: usize = MAX_COLUMNS * (MAX_COLUMNS - 1);
-
 /// The pairs that wait for a later place, and the last put of each place.
 pub struct Waiting {
-    pairs: [Late; MOST_LATE],
-    count: usize,
+    pairs: Vec<Late>,
     last: [u16; MAX_COLUMNS],
 }
 
 impl Waiting {
     pub fn new() -> Waiting {
-        Waiting { pairs: [Late { s: 0, t: 0, differ: false, next: NOTHING }; MOST_LATE], count: 0, last: [NOTHING; MAX_COLUMNS] }
+        Waiting { pairs: Vec::new(), last: [NOTHING; MAX_COLUMNS] }
     }
 
     fn clear(&mut self) {
-        self.count = 0;
+        self.pairs.clear();
         self.last = [NOTHING; MAX_COLUMNS];
     }
 
     fn put(&mut self, place: usize, s: usize, t: usize, differ: bool) {
-        self.pairs[self.count] = Late { s: s as u8, t: t as u8, differ, next: self.last[place] };
-        self.last[place] = self.count as u16;
-        self.count += 1;
+        self.pairs.push(Late { s: s as u8, t: t as u8, differ, next: self.last[place] });
+        self.last[place] = (self.pairs.len() - 1) as u16;
     }
 }
 
