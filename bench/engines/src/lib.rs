@@ -32,7 +32,7 @@ fn call(assign: fn(&Problem, &mut Lent) -> Result<Settled, u32>, problem: &Probl
 /// The two C calls of an engine.
 macro_rules! engine {
     ($engine:ident, $assign:ident, $form:ident) => {
-        /// # Safety
+/// # Safety
         /// Each pointer has as many numbers behind it as its count says, and no two buffers overlap.
         #[no_mangle]
         #[rustfmt::skip]

@@ -271,8 +271,7 @@ pub fn form(n: usize, m: usize, coefficients: &[i64], tableau: &mut [i64]) -> bo
 
 pub fn assign(p: &Problem, lent: &mut Lent) -> Result<Settled, u32> {
     let mut table = fill(p.n, p.m, p.coefficients);
-    let formed = bring_to_form(&mut table, p.m + p.n)
-        .and_then(|leads| starting_list(&table, &leads, p.rights).map(|start| (leads, start)));
+    let formed = bring_to_form(&mut table, p.m + p.n).and_then(|leads| starting_list(&table, &leads, p.rights).map(|start| (leads, start)));
     let Ok((leads, start)) = formed else {
         lent.tableau.fill(0);
         return Err(ELIMINATION_BEYOND);

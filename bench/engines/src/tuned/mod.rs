@@ -71,11 +71,7 @@ fn settle(p: &Problem, basis: &Basis, values: &mut [i64]) -> Settled {
     let mut steps = [0, 0];
     let verdict = loop {
         let outside = columns.rank();
-        let step = if outside {
-            search::<false>(&columns, basis, &mut waiting)
-        } else {
-            search::<true>(&columns, basis, &mut waiting)
-        };
+        let step = if outside { search::<false>(&columns, basis, &mut waiting) } else { search::<true>(&columns, basis, &mut waiting) };
         let Some(step) = step else {
             break if outside { Verdict::Outside } else { Verdict::Fitted };
         };
