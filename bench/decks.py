@@ -161,10 +161,11 @@ def edges(down, across):
 
 
 def plate_for(n, columns=edges):
-    """The plate (down, across) with most columns, at most n; squarer ones first."""
+    """The plate (down, across) with most columns, at most n, but never less than a panel;
+    squarer ones first."""
     plates = [(columns(p, q), -abs(p - q), -p, -q)
               for p in range(1, 8) for q in range(p, 24) if columns(p, q) <= n]
-    _, _, down, across = max(plates)
+    _, _, down, across = max(plates, default=(0, 0, -1, -1))
     return -down, -across
 
 
@@ -280,7 +281,7 @@ def heatsink(n, rng):
 
 
 def mix_panel(deck, panel, chance):
-    """65 in 100 panels are mapped (or submapped, where an edge is split), 25 paved, 10 midpoint."""
+    """65 in 100 panels are mapped (submapped where an edge is split), 25 paved, 10 midpoint."""
     top, right, bottom, left = panel
     if chance < .65:
         deck.mapped(panel)
@@ -291,7 +292,7 @@ def mix_panel(deck, panel, chance):
 
 
 def mixed(n, rng):
-    """A plate whose panels have their schemes by chance; on every second one a curve is prescribed."""
+    """A plate whose panels have their schemes by chance, half the time with a prescribed curve."""
     def draw():
         deck = Deck()
         plate = plate_for(max(4, n - rng.randrange(0, n // 2 + 1)))

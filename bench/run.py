@@ -160,7 +160,8 @@ def machine():
     with open("/proc/cpuinfo") as file:
         model = re.search(r"^model name\s*: (.*)$", file.read(), re.M)
     facts = [model.group(1) if model else None, "Linux " + os.uname().release,
-             first_line("g++", "--version"), first_line("rustc", "--version"),
+             first_line("rt", "version"), first_line("g++", "--version"),
+             first_line("rustc", "--version"),
              first_line("valgrind", "--version")]
     facts += [fields[1] for fields in program("versions")]
     return "Machine: " + "; ".join(fact for fact in facts if fact) + "."
@@ -170,8 +171,8 @@ def memory(deck):
     """One line on the memory that a call takes."""
     stacks = {engine: int(bytes_) for _, _, engine, bytes_ in
               program("stack", os.path.join(DECKS, deck + ".numbers"))}
-    words = ("Memory on %s: one call takes {:,} bytes of stack beside the lent buffers and "
-             "allocates nothing".format(stacks["ours"]) % deck)
+    words = "Memory on {}: one call takes {:,} bytes of stack beside the lent buffers".format(
+        deck, stacks["ours"])
     peak = peak_of_listing(deck)
     if peak is not None:
         words += "; the listing program's peak is {:,} KiB resident".format(peak)
