@@ -1,29 +1,31 @@
 -- What the notes of two vectors tell of their pairs. Where one of them leaves as it is the column that the other one fails at alone, the pair
 -- fails there too.
---   untold k             nothing, but that no column before place k is changed
---   hintsOf p x y        what the notes x and y tell of the pair p
+--   untold n k           nothing, but that none of n columns before place k is changed; a column n is none
+--   hintsOf n p x y      what the notes x and y tell of the pair p
 --   trialOf h p a b f    the move a Ns + b Nt of the pair p, with the column f that is told of it
 --   Tryable S l b L t    the trial t tells the truth
 --   Hinted S l b L p h   so do the four trials of a pair
 --   Alike N o s a t      where vector t changes nothing, the move o does what a Ns does
 --   pair-shut            a pair that is blocked by the column noted for one of its vectors improves nothing
 --   hinted, hinted-none  what the notes tell is true, and nothing told is always true
---   signs-out, left-out  the moves that are left out do not change the best so far
+--   shutBy B b v f       vector v leaves column f as it is; `shut-..` what follows
+--   signs-out, signs-shut, left-out   the moves that are left out do not change the best so far
 -- Assumes nothing.
 use mathlib.Core.Path.{_≡_, refl, sym, _∙_, ap, ap₂, subst}
 use mathlib.Core.Logic.{⊎-elim}
-use mathlib.Core.Bool.{Bool, true, false, not, cond, true≢false}
+use mathlib.Core.Bool.{Bool, true, false, not, cond, _&&_}
 use mathlib.Core.List.{List, [], _∷_}
 use Prim.Native.Nat.{ℕ, zero, suc, _+_, _*_, _<_, _≤_}
 use native.Mathlib.Nat.{le-antisymm}
 use native.Mathlib.Omega.{arith}
-use borrow.Author.Tests.{ltb-true, ltb-false}
+use borrow.Author.Tests.{ltb-true, ltb-false, lt-ltb, le-ltb, not-true}
 use lib.Dec.{ltb}
 use lib.IntN.{ℤ, pos, negsuc, natAbs, _+ℤ_, _*ℤ_, +ℤ-comm}
 use lib.ListN.{length, getD}
 use Rattle.whole.specs.Integers.{add-none}
 use Rattle.whole.specs.Lists.{entry}
 use Rattle.whole.specs.Tests.{isZero}
+use Rattle.settling.specs.declared.Basis.{Basis}
 use Rattle.settling.specs.declared.Measure.{Measure}
 use Rattle.settling.specs.declared.Move.{Move}
 use Rattle.settling.specs.declared.Part.{Part}
@@ -37,41 +39,74 @@ use Rattle.search.specs.declared.Note.{Note}
 use Rattle.search.specs.declared.Pair.{Pair}
 use Rattle.search.specs.declared.Search.{Search}
 use Rattle.search.specs.declared.Trial.{Trial}
+use Rattle.search.specs.Blocking.{and-true}
 use Rattle.search.specs.Cells.{pick-length}
 use Rattle.search.specs.Notes.{alone, unit-changes, none, tests, Still, Stuck, Noted, better-not, late}
 use Rattle.search.specs.Places.{least-miss}
 use Rattle.search.specs.Scans.{consider, scan, consider-same}
 use Rattle.search.specs.Searches.{columnsIn, valuesIn, better, InOrder, least-blocked}
 
-abbrev pub untold : ℕ → Hints
-untold k = record { told = false; from = k; vector = 0; pp = 0; pm = 0; mp = 0; mm = 0 }
+abbrev pub untold : ℕ → ℕ → Hints
+untold n k = record { from = k; vector = 0; pp = n; pm = n; mp = n; mm = n }
 
 -- the first vector's note decides, or the second's
 abbrev pub byFirst : Pair → Note → Hints
-byFirst p x = record { told = true; from = x .top; vector = p .t; pp = x .plus; pm = x .plus; mp = x .minus; mm = x .minus }
+byFirst p x = record { from = x .top; vector = p .t; pp = x .plus; pm = x .plus; mp = x .minus; mm = x .minus }
 
 abbrev pub bySecond : Pair → Note → Hints
-bySecond p y = record { told = true; from = y .top; vector = p .s; pp = y .plus; pm = y .minus; mp = y .plus; mm = y .minus }
+bySecond p y = record { from = y .top; vector = p .s; pp = y .plus; pm = y .minus; mp = y .plus; mm = y .minus }
 
-unfoldable pub hintsOf : Pair → Note → Note → Hints
-hintsOf p x y = cond (ltb (x .top) (y .top)) (byFirst p x) (cond (ltb (y .top) (x .top)) (bySecond p y) (untold (x .top)))
+unfoldable pub hintsOf : ℕ → Pair → Note → Note → Hints
+hintsOf n p x y = cond (ltb (x .top) (y .top)) (byFirst p x) (cond (ltb (y .top) (x .top)) (bySecond p y) (untold n (x .top)))
 
 abbrev pub trialOf : Hints → Pair → ℤ → ℤ → ℕ → Trial
-trialOf h p a b f = record { o = pair (p .s) a (p .t) b; told = h .told; from = h .from; vector = h .vector; column = f }
+trialOf h p a b f = record { o = pair (p .s) a (p .t) b; from = h .from; vector = h .vector; column = f }
+
+-- vector v leaves column f as it is, which is one of the columns
+unfoldable pub shutBy : Basis → List ℤ → ℕ → ℕ → Bool
+shutBy B b v f = ltb f (B .columns) && not (changes (vectors B b) (single v (pos 1)) f)
 
 pub record Tryable (S : Search) (l b : List ℤ) (L : List ℕ) (t : Trial) : Type 0 where
   pub of : OfBasis (S .view .vectors) (t .o)
   pub still : Still (vectors (S .view) b) L (t .o) (t .from)
-  pub vector-in : t .told ≡ true → t .vector < S .view .vectors
-  pub column-in : t .told ≡ true → t .column < S .view .columns
-  pub nothing : t .told ≡ true → changes (vectors (S .view) b) (single (t .vector) (pos 1)) (t .column) ≡ false
-      → (x : ℕ) → x < length L → better S l b (t .o) (getD L x 0) ≡ false
+  pub vector-in : t .column < S .view .columns → t .vector < S .view .vectors
+  pub nothing : shutBy (S .view) b (t .vector) (t .column) ≡ true → (x : ℕ) → x < length L → better S l b (t .o) (getD L x 0) ≡ false
 
 pub record Hinted (S : Search) (l b : List ℤ) (L : List ℕ) (p : Pair) (h : Hints) : Type 0 where
   pub pp : Tryable S l b L (trialOf h p (pos 1) (pos 1) (h .pp))
   pub pm : Tryable S l b L (trialOf h p (pos 1) (negsuc 0) (h .pm))
   pub mp : Tryable S l b L (trialOf h p (negsuc 0) (pos 1) (h .mp))
   pub mm : Tryable S l b L (trialOf h p (negsuc 0) (negsuc 0) (h .mm))
+
+-- the vector that is told is one, where a column is told
+pub record HintsIn (B : Basis) (h : Hints) : Type 0 where
+  pub pp : h .pp < B .columns → h .vector < B .vectors
+  pub pm : h .pm < B .columns → h .vector < B .vectors
+  pub mp : h .mp < B .columns → h .vector < B .vectors
+  pub mm : h .mm < B .columns → h .vector < B .vectors
+
+pub hints-in : {S : Search} {l b : List ℤ} {L : List ℕ} {p : Pair} {h : Hints} → Hinted S l b L p h → HintsIn (S .view) h
+hints-in d = record { pp = d .pp .vector-in; pm = d .pm .vector-in; mp = d .mp .vector-in; mm = d .mm .vector-in }
+
+-- ---- what shuts a move out
+module _ (B : Basis) (b : List ℤ) (v f : ℕ) where
+  pub shut-is : (c : Bool) → f < B .columns → c ≡ changes (vectors B b) (single v (pos 1)) f → not c ≡ shutBy B b v f
+  unfolding shutBy
+  shut-is c h e = ap not e ∙ sym (ap (λ (t : Bool). t && not (changes (vectors B b) (single v (pos 1)) f)) (lt-ltb f (B .columns) h))
+
+  pub shut-none : B .columns ≤ f → false ≡ shutBy B b v f
+  unfolding shutBy
+  shut-none h = sym (ap (λ (t : Bool). t && not (changes (vectors B b) (single v (pos 1)) f)) (le-ltb f (B .columns) h))
+
+  parts : shutBy B b v f ≡ true → (ltb f (B .columns) ≡ true) × (not (changes (vectors B b) (single v (pos 1)) f) ≡ true)
+  unfolding shutBy
+  parts = and-true (ltb f (B .columns)) (not (changes (vectors B b) (single v (pos 1)) f))
+
+  shut-column : shutBy B b v f ≡ true → f < B .columns
+  shut-column e = ltb-true f (B .columns) (parts e .0)
+
+  shut-quiet : shutBy B b v f ≡ true → changes (vectors B b) (single v (pos 1)) f ≡ false
+  shut-quiet e = not-true (changes (vectors B b) (single v (pos 1)) f) (parts e .1)
 
 -- ---- what a pair changes
 abbrev pub Alike : List (List ℤ) → Move → ℕ → ℤ → ℕ → Type 0
@@ -93,6 +128,33 @@ passes-alike : (p : Part) (C : Columns) (N : List (List ℤ)) (v : List ℤ) (o 
 passes-alike p C N v o u q j h e =
     ap₂ (λ (y d : ℤ). passes p (entry j (C .lower)) (entry j (C .upper)) (entry j (C .goals)) y d q)
     (moved-at N o v j h ∙ ap (λ (d : ℤ). entry j v +ℤ d) e ∙ sym (moved-at N u v j h)) e
+
+-- four moves that leave the best as it is
+four-out : (S : Search) (l b : List ℤ) (L : List ℕ) (p : Pair) (z : Best)
+    → z ≡ consider (better S l b) L (pair (p .s) (pos 1) (p .t) (pos 1)) z → z ≡ consider (better S l b) L (pair (p .s) (pos 1) (p .t) (negsuc 0)) z
+    → z ≡ consider (better S l b) L (pair (p .s) (negsuc 0) (p .t) (pos 1)) z → z ≡ consider (better S l b) L (pair (p .s) (negsuc 0) (p .t) (negsuc 0)) z
+    → z ≡ scan (better S l b) L (signPairs (p .s) (p .t)) z
+unfolding scan
+four-out S l b L p z pp pm mp mm =
+    mm ∙ ap (try (negsuc 0) (negsuc 0)) (mp ∙ ap (try (negsuc 0) (pos 1)) (pm ∙ ap (try (pos 1) (negsuc 0)) pp))
+  where
+    try : ℤ → ℤ → Best → Best
+    try a c = consider (better S l b) L (pair (p .s) a (p .t) c)
+
+-- a move that improves no column leaves the best as it is
+pub left-out : (S : Search) (l b : List ℤ) (L : List ℕ) (o : Move) (z : Best) → z .at ≤ length L → ((x : ℕ) → x < length L → better S l b o (getD L x 0) ≡ false) → z ≡ consider (better S l b) L o z
+left-out S l b L o z h f = consider-same (better S l b) L o z (z .at) (least-miss (better S l b o) L (z .at) h (λ x m. f x (omega arith))) (omega arith)
+
+pub signs-shut : {S : Search} {l b : List ℤ} {L : List ℕ} {p : Pair} {h : Hints} (z : Best) → Hinted S l b L p h → z .at ≤ length L →
+    let shut = shutBy (S .view) b (h .vector) in
+    shut (h .pp) && (shut (h .pm) && (shut (h .mp) && shut (h .mm))) ≡ true → z ≡ scan (better S l b) L (signPairs (p .s) (p .t)) z
+signs-shut {S} {l} {b} {L} {p} {h} z d g e =
+    let shut = shutBy (S .view) b (h .vector) in
+    let a = and-true (shut (h .pp)) (shut (h .pm) && (shut (h .mp) && shut (h .mm))) e in
+    let c = and-true (shut (h .pm)) (shut (h .mp) && shut (h .mm)) (a .1) in
+    let f = and-true (shut (h .mp)) (shut (h .mm)) (c .1) in
+    four-out S l b L p z (left-out S l b L _ z g (d .pp .nothing (a .0))) (left-out S l b L _ z g (d .pm .nothing (c .0)))
+    (left-out S l b L _ z g (d .mp .nothing (f .0))) (left-out S l b L _ z g (d .mm .nothing (f .1)))
 
 -- ---- a pair that is blocked
 module _ (S : Search) (l b : List ℤ) (L : List ℕ) (order : InOrder S l L) where
@@ -119,19 +181,18 @@ module _ (S : Search) (l b : List ℤ) (L : List ℕ) (order : InOrder S l L) wh
     of-pair : (a c : ℤ) → natAbs a ≡ 1 → natAbs c ≡ 1 → OfBasis (S .view .vectors) (pair (p .s) a (p .t) c)
     of-pair a c h g = record { s = s-in; t = t-in; a = omega arith; b = omega arith }
 
-    unblocked : (a c : ℤ) (k : ℕ) → natAbs a ≡ 1 → natAbs c ≡ 1 → Still N L (pair (p .s) a (p .t) c) k → Tryable S l b L (trialOf (untold k) p a c 0)
+    unblocked : (a c : ℤ) (k : ℕ) → natAbs a ≡ 1 → natAbs c ≡ 1 → Still N L (pair (p .s) a (p .t) c) k → Tryable S l b L (trialOf (untold (S .view .columns) k) p a c (S .view .columns))
     unblocked a c k h g d = record {
       of = of-pair a c h g;
       still = d;
-      vector-in = λ q. absurd (true≢false (sym q));
-      column-in = λ q. absurd (true≢false (sym q));
-      nothing = λ q. absurd (true≢false (sym q));
+      vector-in = λ q. absurd (omega arith);
+      nothing = λ q. absurd (omega (arith, shut-column (S .view) b 0 (S .view .columns) q));
     }
 
     at-first : (o : Move) → Still N L o 0
     at-first o = record { each = λ z m. absurd (omega arith) }
 
-    pub hinted-none : Hinted S l b L p (untold 0)
+    pub hinted-none : Hinted S l b L p (untold (S .view .columns) 0)
     hinted-none = record {
       pp = unblocked (pos 1) (pos 1) 0 refl refl (at-first _);
       pm = unblocked (pos 1) (negsuc 0) 0 refl refl (at-first _);
@@ -149,10 +210,9 @@ module _ (S : Search) (l b : List ℤ) (L : List ℕ) (order : InOrder S l L) wh
         of = of-pair a c h g;
         still = pair-still (pair (p .s) a (p .t) c) (p .s) (p .t) a (x .top) h (alike-first N (p .s) (p .t) a c) (nx .still) (upto (x .top) (y .top) _ (omega arith) (ny .still));
         vector-in = λ _. t-in;
-        column-in = λ _. i;
-        nothing = λ _ q.
+        nothing = λ q.
             pair-shut (pair (p .s) a (p .t) c) (p .s) (p .t) a (x .top) f h (alike-first N (p .s) (p .t) a c) (omega arith) (nx .still)
-            (upto (suc (x .top)) (y .top) _ lower (ny .still)) (nx .stuck m .changed) i w q;
+            (upto (suc (x .top)) (y .top) _ lower (ny .still)) (nx .stuck m .changed) i w (shut-quiet (S .view) b (p .t) f q);
       }
 
       by-second : (a c : ℤ) (f : ℕ) → natAbs a ≡ 1 → natAbs c ≡ 1 → y .top < x .top → y .top < e → f < S .view .columns
@@ -161,10 +221,9 @@ module _ (S : Search) (l b : List ℤ) (L : List ℕ) (order : InOrder S l L) wh
         of = of-pair a c h g;
         still = pair-still (pair (p .s) a (p .t) c) (p .t) (p .s) c (y .top) g (alike-second N (p .s) (p .t) a c) (ny .still) (upto (y .top) (x .top) _ (omega arith) (nx .still));
         vector-in = λ _. s-in;
-        column-in = λ _. i;
-        nothing = λ _ q.
+        nothing = λ q.
             pair-shut (pair (p .s) a (p .t) c) (p .t) (p .s) c (y .top) f g (alike-second N (p .s) (p .t) a c) (omega arith) (ny .still)
-            (upto (suc (y .top)) (x .top) _ lower (nx .still)) (ny .stuck m .changed) i w q;
+            (upto (suc (y .top)) (x .top) _ lower (nx .still)) (ny .stuck m .changed) i w (shut-quiet (S .view) b (p .s) f q);
       }
 
       both-still : (a c : ℤ) (k : ℕ) → natAbs a ≡ 1 → k ≤ x .top → k ≤ y .top → Still N L (pair (p .s) a (p .t) c) k
@@ -172,37 +231,32 @@ module _ (S : Search) (l b : List ℤ) (L : List ℕ) (order : InOrder S l L) wh
           pair-still (pair (p .s) a (p .t) c) (p .s) (p .t) a k h (alike-first N (p .s) (p .t) a c) (upto k (x .top) _ i (nx .still)) (upto k (y .top) _ j (ny .still))
 
       -- the place that is told lies before neither top
-      low : (hintsOf p x y .from ≤ x .top) × (hintsOf p x y .from ≤ y .top)
+      low : (hintsOf (S .view .columns) p x y .from ≤ x .top) × (hintsOf (S .view .columns) p x y .from ≤ y .top)
       unfolding hintsOf
       low = go (ltb (x .top) (y .top)) (ltb (y .top) (x .top)) refl refl
         where
           go :
               (t u : Bool) → ltb (x .top) (y .top) ≡ t → ltb (y .top) (x .top) ≡ u →
-              let h = cond t (byFirst p x) (cond u (bySecond p y) (untold (x .top))) in
+              let h = cond t (byFirst p x) (cond u (bySecond p y) (untold (S .view .columns) (x .top))) in
               (h .from ≤ x .top) × (h .from ≤ y .top)
           go true u g h = (omega arith, omega (arith, ltb-true (x .top) (y .top) g))
           go false true g h = (omega (arith, ltb-true (y .top) (x .top) h), omega arith)
           go false false g h = (omega arith, ltb-false (y .top) (x .top) h)
 
       -- the pairs change no column before the best place
-      pub signs-out : (z : Best) → z .at ≤ length L → z .at ≤ hintsOf p x y .from → z ≡ scan (better S l b) L (signPairs (p .s) (p .t)) z
-      unfolding scan
-      signs-out z h g =
-          one (negsuc 0) (negsuc 0) refl ∙ ap (try (negsuc 0) (negsuc 0)) (one (negsuc 0) (pos 1) refl ∙ ap (try (negsuc 0) (pos 1)) (one (pos 1) (negsuc 0) refl ∙ ap (try (pos 1) (negsuc 0)) (one (pos 1) (pos 1) refl)))
+      pub signs-out : (z : Best) → z .at ≤ length L → z .at ≤ hintsOf (S .view .columns) p x y .from → z ≡ scan (better S l b) L (signPairs (p .s) (p .t)) z
+      signs-out z h g = four-out S l b L p z (one (pos 1) (pos 1) refl) (one (pos 1) (negsuc 0) refl) (one (negsuc 0) (pos 1) refl) (one (negsuc 0) (negsuc 0) refl)
         where
-          try : ℤ → ℤ → Best → Best
-          try a c = consider (better S l b) L (pair (p .s) a (p .t) c)
+          one : (a c : ℤ) → natAbs a ≡ 1 → z ≡ consider (better S l b) L (pair (p .s) a (p .t) c) z
+          one a c i = late S l b L (pair (p .s) a (p .t) c) (hintsOf (S .view .columns) p x y .from) (both-still a c (hintsOf (S .view .columns) p x y .from) i (low .0) (low .1)) z h g
 
-          one : (a c : ℤ) → natAbs a ≡ 1 → z ≡ try a c z
-          one a c i = late S l b L (pair (p .s) a (p .t) c) (hintsOf p x y .from) (both-still a c (hintsOf p x y .from) i (low .0) (low .1)) z h g
-
-      pub hinted : hintsOf p x y .from < e → Hinted S l b L p (hintsOf p x y)
+      pub hinted : hintsOf (S .view .columns) p x y .from < e → Hinted S l b L p (hintsOf (S .view .columns) p x y)
       unfolding hintsOf
       hinted = go (ltb (x .top) (y .top)) (ltb (y .top) (x .top)) refl refl
         where
           go :
               (t u : Bool) → ltb (x .top) (y .top) ≡ t → ltb (y .top) (x .top) ≡ u
-              → cond t (byFirst p x) (cond u (bySecond p y) (untold (x .top))) .from < e → Hinted S l b L p (cond t (byFirst p x) (cond u (bySecond p y) (untold (x .top))))
+              → cond t (byFirst p x) (cond u (bySecond p y) (untold (S .view .columns) (x .top))) .from < e → Hinted S l b L p (cond t (byFirst p x) (cond u (bySecond p y) (untold (S .view .columns) (x .top))))
           go true u g h m =
               let d = nx .stuck m in
               let i = ltb-true (x .top) (y .top) g in
@@ -229,7 +283,3 @@ module _ (S : Search) (l b : List ℤ) (L : List ℕ) (order : InOrder S l L) wh
                 mp = unblocked (negsuc 0) (pos 1) (x .top) refl refl (both-still (negsuc 0) (pos 1) (x .top) refl (omega arith) i);
                 mm = unblocked (negsuc 0) (negsuc 0) (x .top) refl refl (both-still (negsuc 0) (negsuc 0) (x .top) refl (omega arith) i);
               }
-
--- a move that improves no column leaves the best as it is
-pub left-out : (S : Search) (l b : List ℤ) (L : List ℕ) (o : Move) (z : Best) → z .at ≤ length L → ((x : ℕ) → x < length L → better S l b o (getD L x 0) ≡ false) → z ≡ consider (better S l b) L o z
-left-out S l b L o z h f = consider-same (better S l b) L o z (z .at) (least-miss (better S l b o) L (z .at) h (λ x m. f x (omega arith))) (omega arith)

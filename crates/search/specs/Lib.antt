@@ -5,6 +5,7 @@ pub mod Places
 pub mod Scans
 pub mod Blocking
 pub mod Searches
+pub mod Kept
 pub mod Notes
 pub mod Hints
 pub mod Turns

@@ -37,7 +37,6 @@ use Rattle.whole.specs.Tests.{isZero, every}
 use Rattle.whole.proofs.Signed.{abs-mul}
 use Rattle.problem.specs.Limits.{maxColumns}
 use Rattle.settling.specs.declared.Move.{Move}
-use Rattle.settling.specs.declared.Step.the-variants.{Take}
 use Rattle.settling.specs.Moves.{single, vector, change, changes}
 use Rattle.settling.specs.Steps.{passesAt, measureAt, improves}
 use Rattle.settling.specs.Views.{vectors}
@@ -239,7 +238,7 @@ module _ (S : Search) (l b : List ℤ) (L : List ℕ) (o : Move) (k : ℕ) (stil
       consider-same (better S l b) L o z (z .at) (least-miss (better S l b o) L (z .at) h (λ x m. quiet x (omega arith) (omega arith))) (omega arith)
 
   module _ (g : k < z .at) (c : changes (vectors (S .view) b) o (getD L k 0) ≡ true) where
-    pub hit : every (S .view .columns) (tests S l b o (getD L k 0)) ≡ true → best k (Take (getD L k 0) o) ≡ consider (better S l b) L o z
+    pub hit : every (S .view .columns) (tests S l b o (getD L k 0)) ≡ true → best k o ≡ consider (better S l b) L o z
     hit e =
         consider-better (better S l b) L o z k
         (least-hit (better S l b o) L (z .at) h k g (λ x m. quiet x m (omega arith)) (better-is S l b o (getD L k 0) c e)) g
@@ -267,14 +266,14 @@ module _ (S : Search) (l b : List ℤ) (L : List ℕ) (s k : ℕ) (still : Still
     minus-changes : changes (vectors (S .view) b) (single s (negsuc 0)) (getD L k 0) ≡ true
     minus-changes = unit-changes (vectors (S .view) b) s (getD L k 0) (negsuc 0) refl ∙ c
 
-    pub signs-plus : every (S .view .columns) (tests S l b (single s (pos 1)) (getD L k 0)) ≡ true → best k (Take (getD L k 0) (single s (pos 1))) ≡ scan (better S l b) L (signs s) z
+    pub signs-plus : every (S .view .columns) (tests S l b (single s (pos 1)) (getD L k 0)) ≡ true → best k (single s (pos 1)) ≡ scan (better S l b) L (signs s) z
     unfolding scan
     signs-plus e =
-        late S l b L (single s (negsuc 0)) k minus-still (best k (Take (getD L k 0) (single s (pos 1)))) (omega arith) (omega arith)
+        late S l b L (single s (negsuc 0)) k minus-still (best k (single s (pos 1))) (omega arith) (omega arith)
         ∙ ap then-minus (hit S l b L (single s (pos 1)) k still z h g c e)
 
     module _ (order : InOrder S l L) (f : ℕ) (f-in : f < S .view .columns) (plus : tests S l b (single s (pos 1)) (getD L k 0) f ≡ false) where
-      pub signs-minus : every (S .view .columns) (tests S l b (single s (negsuc 0)) (getD L k 0)) ≡ true → best k (Take (getD L k 0) (single s (negsuc 0))) ≡ scan (better S l b) L (signs s) z
+      pub signs-minus : every (S .view .columns) (tests S l b (single s (negsuc 0)) (getD L k 0)) ≡ true → best k (single s (negsuc 0)) ≡ scan (better S l b) L (signs s) z
       unfolding scan
       signs-minus e =
           hit S l b L (single s (negsuc 0)) k minus-still z h g minus-changes e ∙ ap then-minus (shut S l b L (single s (pos 1)) k still z h g c order f f-in plus)

@@ -1,5 +1,6 @@
 -- One pass over the moves instead of one for each column: each move is looked for along the ranking only as far as the best place so far.
---   Best                     the best place so far and its step (declared in src/); at first the place behind the ranking, with no step
+--   Best                     the best place so far and its move (declared in src/); at first the place behind the ranking
+--   stepIn L z               the step that it stands for, along the ranking L
 --   consider imp L o z       after the move o, where `imp` says which columns of the ranking L a move improves
 --   scan imp L R z           after the moves of the list R
 --   scan-first               a scan of all moves finds the step of the definition
@@ -26,14 +27,18 @@ use Rattle.settling.specs.Steps.{orElse, firstMove, firstColumn}
 use Rattle.search.specs.declared.Best.{Best}
 use Rattle.search.specs.Places.{least, least-small}
 
-abbrev pub best : ℕ → Step → Best
-best k z = record { at = k; step = z }
+abbrev pub best : ℕ → Move → Best
+best k o = record { at = k; o = o }
+
+-- a place behind the ranking is none
+unfoldable pub stepIn : List ℕ → Best → Step
+stepIn L z = cond (ltb (z .at) (length L)) (Take (getD L (z .at) 0) (z .o)) Rest
 
 -- where the move improves a column before the best place
 unfoldable pub consider : (Move → ℕ → Bool) → List ℕ → Move → Best → Best
 consider imp L o z =
     let k = least (imp o) (take (z .at) L) in
-    cond (ltb k (z .at)) (best k (Take (getD L k 0) o)) z
+    cond (ltb k (z .at)) (best k o) z
 
 unfoldable pub scan : (Move → ℕ → Bool) → List ℕ → List Move → Best → Best
 scan imp L [] z = z
@@ -41,16 +46,16 @@ scan imp L (o ∷ R) z = scan imp L R (consider imp L o z)
 
 -- ---- one move
 module _ (imp : Move → ℕ → Bool) (L : List ℕ) (o : Move) (z : Best) where
-  pub consider-better : (k : ℕ) → k ≡ least (imp o) (take (z .at) L) → k < z .at → best k (Take (getD L k 0) o) ≡ consider imp L o z
+  pub consider-better : (k : ℕ) → k ≡ least (imp o) (take (z .at) L) → k < z .at → best k o ≡ consider imp L o z
   unfolding consider
   consider-better k e h =
-      ap (λ (x : ℕ). best x (Take (getD L x 0) o)) e
-      ∙ sym (ap (λ (t : Bool). cond t (best (least (imp o) (take (z .at) L)) (Take (getD L (least (imp o) (take (z .at) L)) 0) o)) z) (lt-ltb (least (imp o) (take (z .at) L)) (z .at) (omega arith)))
+      ap (λ (x : ℕ). best x o) e
+      ∙ sym (ap (λ (t : Bool). cond t (best (least (imp o) (take (z .at) L)) o) z) (lt-ltb (least (imp o) (take (z .at) L)) (z .at) (omega arith)))
 
   pub consider-same : (k : ℕ) → k ≡ least (imp o) (take (z .at) L) → z .at ≤ k → z ≡ consider imp L o z
   unfolding consider
   consider-same k e h =
-      sym (ap (λ (t : Bool). cond t (best (least (imp o) (take (z .at) L)) (Take (getD L (least (imp o) (take (z .at) L)) 0) o)) z) (le-ltb (least (imp o) (take (z .at) L)) (z .at) (omega arith)))
+      sym (ap (λ (t : Bool). cond t (best (least (imp o) (take (z .at) L)) o) z) (le-ltb (least (imp o) (take (z .at) L)) (z .at) (omega arith)))
 
   consider-small : consider imp L o z .at ≤ z .at
   unfolding consider
@@ -58,7 +63,7 @@ module _ (imp : Move → ℕ → Bool) (L : List ℕ) (o : Move) (z : Best) wher
     where
       go :
           (t : Bool) → ltb (least (imp o) (take (z .at) L)) (z .at) ≡ t
-          → cond t (best (least (imp o) (take (z .at) L)) (Take (getD L (least (imp o) (take (z .at) L)) 0) o)) z .at ≤ z .at
+          → cond t (best (least (imp o) (take (z .at) L)) o) z .at ≤ z .at
       go true e = omega (arith, ltb-true (least (imp o) (take (z .at) L)) (z .at) e)
       go false e = omega arith
 
@@ -127,16 +132,24 @@ unfolding firstColumn
 rests [] = refl
 rests (i ∷ L) = rests L
 
+step-before : (L : List ℕ) (k : ℕ) (o : Move) → k < length L → stepIn L (best k o) ≡ Take (getD L k 0) o
+unfolding stepIn
+step-before L k o h = ap (λ (t : Bool). cond t (Take (getD L k 0) o) Rest) (lt-ltb k (length L) h)
+
+step-behind : (L : List ℕ) (o : Move) → stepIn L (best (length L) o) ≡ Rest
+unfolding stepIn
+step-behind L o = ap (λ (t : Bool). cond t (Take (getD L (length L) 0) o) Rest) (le-ltb (length L) (length L) (omega arith))
+
 -- from any best so far: the columns before its place come first
 scan-from :
     (imp : Move → ℕ → Bool) (L : List ℕ) (R : List Move) (z : Best) → z .at ≤ length L
-    → scan imp L R z .step ≡ orElse (firstColumn (λ i. firstMove (λ o. imp o i) i R) (take (z .at) L)) (z .step)
+    → stepIn L (scan imp L R z) ≡ orElse (firstColumn (λ i. firstMove (λ o. imp o i) i R) (take (z .at) L)) (stepIn L z)
 unfolding scan firstMove consider
-scan-from imp L [] z h = sym (ap (λ (x : Step). orElse x (z .step)) (rests (take (z .at) L)))
+scan-from imp L [] z h = sym (ap (λ (x : Step). orElse x (stepIn L z)) (rests (take (z .at) L)))
 scan-from imp L (o ∷ R) z h =
     scan-from imp L R (consider imp L o z) (low (ltb r (z .at)))
     ∙ go (ltb r (z .at)) refl
-    ∙ sym (ap (λ (x : Step). orElse x (z .step)) (front (imp o) g o K ∙ ap (λ (n : ℕ). cond (ltb r n) (orElse (firstColumn g (take r K)) (Take (getD K r 0) o)) (firstColumn g K)) len))
+    ∙ sym (ap (λ (x : Step). orElse x (stepIn L z)) (front (imp o) g o K ∙ ap (λ (n : ℕ). cond (ltb r n) (orElse (firstColumn g (take r K)) (Take (getD K r 0) o)) (firstColumn g K)) len))
   where
     K : List ℕ
     K = take (z .at) L
@@ -150,19 +163,20 @@ scan-from imp L (o ∷ R) z h =
     len : length K ≡ z .at
     len = length-take (z .at) L ∙ omega arith
 
-    low : (t : Bool) → cond t (best r (Take (getD L r 0) o)) z .at ≤ length L
+    low : (t : Bool) → cond t (best r o) z .at ≤ length L
     low true = omega (arith, least-small (imp o) K, len)
     low false = h
 
     go :
         (t : Bool) → ltb r (z .at) ≡ t
-        → orElse (firstColumn g (take (cond t (best r (Take (getD L r 0) o)) z .at) L)) (cond t (best r (Take (getD L r 0) o)) z .step)
-        ≡ orElse (cond t (orElse (firstColumn g (take r K)) (Take (getD K r 0) o)) (firstColumn g K)) (z .step)
+        → orElse (firstColumn g (take (cond t (best r o) z .at) L)) (stepIn L (cond t (best r o) z))
+        ≡ orElse (cond t (orElse (firstColumn g (take r K)) (Take (getD K r 0) o)) (firstColumn g K)) (stepIn L z)
     go true e =
-        ap₂ (λ (X : List ℕ) (i : ℕ). orElse (firstColumn g X) (Take i o)) (sym (take-take r (z .at) L (omega (arith, ltb-true r (z .at) e)))) (sym (getD-take (z .at) L r 0 (ltb-true r (z .at) e)))
+        ap (orElse (firstColumn g (take r L))) (step-before L r o (omega (arith, ltb-true r (z .at) e)))
+        ∙ ap₂ (λ (X : List ℕ) (i : ℕ). orElse (firstColumn g X) (Take i o)) (sym (take-take r (z .at) L (omega (arith, ltb-true r (z .at) e)))) (sym (getD-take (z .at) L r 0 (ltb-true r (z .at) e)))
         ∙ last (firstColumn g (take r K))
       where
-        last : (x : Step) → orElse x (Take (getD K r 0) o) ≡ orElse (orElse x (Take (getD K r 0) o)) (z .step)
+        last : (x : Step) → orElse x (Take (getD K r 0) o) ≡ orElse (orElse x (Take (getD K r 0) o)) (stepIn L z)
         last Rest = refl
         last (Take i p) = refl
     go false e = refl
@@ -172,10 +186,11 @@ all-of [] = refl
 all-of (i ∷ L) = ap (λ (R : List ℕ). i ∷ R) (all-of L)
 
 pub scan-first :
-    (imp : Move → ℕ → Bool) (L : List ℕ) (R : List Move)
-    → scan imp L R (best (length L) Rest) .step ≡ firstColumn (λ i. firstMove (λ o. imp o i) i R) L
-scan-first imp L R =
-    scan-from imp L R _ (omega arith) ∙ ap (λ (X : List ℕ). orElse (firstColumn (λ i. firstMove (λ o. imp o i) i R) X) Rest) (all-of L) ∙ end _
+    (imp : Move → ℕ → Bool) (L : List ℕ) (R : List Move) (u : Move)
+    → stepIn L (scan imp L R (best (length L) u)) ≡ firstColumn (λ i. firstMove (λ o. imp o i) i R) L
+scan-first imp L R u =
+    scan-from imp L R (best (length L) u) (omega arith)
+    ∙ ap₂ (λ (X : List ℕ) (x : Step). orElse (firstColumn (λ i. firstMove (λ o. imp o i) i R) X) x) (all-of L) (step-behind L u) ∙ end _
   where
     end : (x : Step) → orElse x Rest ≡ x
     end Rest = refl

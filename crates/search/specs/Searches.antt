@@ -6,11 +6,12 @@
 --   Packed p l             the columns can be measured in part p
 --   Low l k L              the first k columns of the list L are packed in l
 --   Ranked ..              the list after the first k of L₀ have got column j put in, if it is ranked
---   Searchable S l b       all numbers are small enough to try moves
+--   Searchable S l b       all numbers are small enough to try moves, and the values are such as a move may leave (`allowedAt`)
 --   InOrder S l L          the columns of the list L are a ranking: proper, and none larger than an earlier one
 --   Setup S l b L          both
 --   ranking-cells          the ranking of the packed cells is that of the columns
 --   ranking-in-order       it is in order, where ranked columns are proper
+--   unchanged-passes       a column that a move does not change passes
 --   least-blocked          a move that does not improve the first column that it changes improves none of those behind it
 --   search-is              a scan of all moves finds the step of the definition
 -- Assumes nothing.
@@ -21,24 +22,26 @@ use mathlib.Core.List.{List}
 use Prim.Native.Nat.{ℕ, _+_, _*_, _<_, _≤_}
 use native.Mathlib.Nat.{eq-or-lt-of-le}
 use native.Mathlib.Omega.{arith}
-use lib.IntN.{ℤ, natAbs}
+use lib.IntN.{ℤ, natAbs, _+ℤ_, +ℤ-idr}
 use lib.ListN.{length, getD, take}
+use Rattle.whole.specs.Integers.{isZero-true}
+use Rattle.whole.specs.Lists.{entry}
+use Rattle.whole.specs.Tests.{isZero}
 use Rattle.problem.specs.Limits.{M}
 use Rattle.settling.specs.declared.Move.{Move}
 use Rattle.settling.specs.declared.Part.{Part}
-use Rattle.settling.specs.declared.Step.the-variants.{Rest}
 use Rattle.settling.specs.Columns.{Columns}
 use Rattle.settling.specs.Parts.{lt-or-ge}
-use Rattle.settling.specs.Moves.{moves, singles, pairs, changes}
+use Rattle.settling.specs.declared.Measure.{Measure}
+use Rattle.settling.specs.Moves.{moves, singles, pairs, change, changes, moved}
 use Rattle.settling.specs.Measures.{below}
-use Rattle.settling.specs.Steps.{insert, rankFrom, ranking, rankedAt, largerAt, improves, firstMove, firstColumn, stepAt}
+use Rattle.settling.specs.Steps.{isAllowed, passes, passesAt, insert, rankFrom, ranking, rankedAt, largerAt, improves, firstMove, firstColumn, stepAt}
 use Rattle.settling.specs.Sizes.{Sized, measureOf, isRankedOf}
-use Rattle.settling.specs.Views.{vectors, Viewed, rows-length}
-use Rattle.search.specs.declared.Best.{Best}
+use Rattle.settling.specs.Views.{vectors, Viewed, rows-length, moved-at}
 use Rattle.search.specs.declared.Search.{Search}
-use Rattle.search.specs.Cells.{cellAt, columnsOf, valuesOf, cell-at}
+use Rattle.search.specs.Cells.{cellAt, columnsOf, valuesOf, cell-at, pick-length}
 use Rattle.search.specs.Rankings.{ranking-below, ranking-in, ranking-falls}
-use Rattle.search.specs.Scans.{best, scan, scan-append, scan-first}
+use Rattle.search.specs.Scans.{best, stepIn, scan, scan-append, scan-first}
 use Rattle.search.specs.Blocking.{Proper, weak, unchanged, blocked}
 
 abbrev pub columnsIn : Search → List ℤ → Columns
@@ -67,11 +70,16 @@ pub record Ranked (p : Part) (l : List ℤ) (len j : ℕ) (L₀ : List ℕ) (k :
   pub more : k ≤ len + 1
   pub is : take k L ≡ cond (rankedIn p l j) (insert (largerIn p l) j (take len L₀)) (take len L₀)
 
+-- a move may leave the value that column j has
+abbrev pub allowedAt : Part → Columns → List ℤ → ℕ → Bool
+allowedAt p C v j = isAllowed p (entry j (C .lower)) (entry j (C .upper)) (entry j v)
+
 pub record Searchable (S : Search) (l b : List ℤ) : Type 0 where
   pub long : length l ≡ 4 * S .view .columns
   pub cells : Packed (S .part) l
   pub near : (j : ℕ) → natAbs (cellAt l j .value) ≤ M
   pub basis : Viewed (S .view) b
+  pub allowed : (j : ℕ) → j < S .view .columns → allowedAt (S .part) (columnsIn S l) (valuesIn S l) j ≡ true
 
 pub record InOrder (S : Search) (l : List ℤ) (L : List ℕ) : Type 0 where
   pub below : (x : ℕ) → x < length L → getD L x 0 < S .view .columns
@@ -102,6 +110,16 @@ ranking-in-order S l proper =
       falls = ranking-falls (Proper p C v) (largerAt p C v) (weak p C v) (rankedAt p C v) n proper;
     }
 
+-- ---- a column that a move does not change passes
+pub unchanged-passes :
+    (S : Search) (l b : List ℤ) (o : Move) (q : Measure) (j : ℕ) → Searchable S l b → j < S .view .columns → isZero (change (vectors (S .view) b) o j) ≡ true
+    → passesAt (S .part) (columnsIn S l) (vectors (S .view) b) (valuesIn S l) o q j ≡ true
+unfolding passes
+unchanged-passes S l b o q j s h e =
+    let N = vectors (S .view) b in
+    let y : entry j (moved N o (valuesIn S l)) ≡ entry j (valuesIn S l) = moved-at N o (valuesIn S l) j (omega (arith, pick-length (S .view .columns) 3 l)) ∙ ap (λ (d : ℤ). entry j (valuesIn S l) +ℤ d) (isZero-true (change N o j) e) ∙ +ℤ-idr (entry j (valuesIn S l)) in
+    rw (y, e, s .allowed j h)
+
 -- ---- one move
 module _ (S : Search) (l b : List ℤ) (o : Move) (L : List ℕ) (k : ℕ) (h : k ≤ length L) (order : InOrder S l L) where
   pub least-blocked :
@@ -122,13 +140,13 @@ module _ (S : Search) (l b : List ℤ) (o : Move) (L : List ℕ) (k : ℕ) (h : 
 
 -- ---- all moves
 pub search-is :
-    (S : Search) (l b : List ℤ) (L : List ℕ) →
+    (S : Search) (l b : List ℤ) (L : List ℕ) (u : Move) →
     let r = S .view .vectors in
-    scan (better S l b) L (pairs r 0) (scan (better S l b) L (singles r 0) (best (length L) Rest)) .step
+    stepIn L (scan (better S l b) L (pairs r 0) (scan (better S l b) L (singles r 0) (best (length L) u)))
     ≡ firstColumn (stepAt (S .part) (columnsIn S l) (vectors (S .view) b) (valuesIn S l)) L
 unfolding stepAt moves
-search-is S l b L =
+search-is S l b L u =
     let r = S .view .vectors in
-    ap (λ (z : Best). z .step) (sym (scan-append (better S l b) L (singles r 0) (pairs r 0) (best (length L) Rest)))
-    ∙ scan-first (better S l b) L (moves r)
+    ap (stepIn L) (sym (scan-append (better S l b) L (singles r 0) (pairs r 0) (best (length L) u)))
+    ∙ scan-first (better S l b) L (moves r) u
     ∙ ap (λ (k : ℕ). firstColumn (λ i. firstMove (λ o. better S l b o i) i (moves k)) L) (sym (rows-length r (S .view .columns) (S .view .stride) b))

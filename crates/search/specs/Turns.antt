@@ -9,11 +9,11 @@
 --   laid-turnable, -turn   a turn over them can be made, and is that of the lists
 -- Assumes nothing.
 use mathlib.Core.Path.{_≡_, refl, sym, _∙_, ap, subst}
-use mathlib.Core.Bool.{Bool, true, false, cond, _||_}
+use mathlib.Core.Bool.{Bool, true, false, not, cond, _||_}
 use mathlib.Core.List.{List}
 use Prim.Native.Nat.{ℕ, zero, suc, _*_, _<_, _≤_}
 use native.Mathlib.Omega.{arith}
-use borrow.Author.Tests.{eqb-true, eqb-false, not-true}
+use borrow.Author.Tests.{eqb-true, eqb-false, le-ltb, not-true}
 use lib.Dec.{eqb}
 use lib.IntN.{ℤ, pos, natAbs}
 use lib.ListN.{length}
@@ -38,7 +38,7 @@ use Rattle.search.specs.declared.Turn.{Turn}
 use Rattle.search.specs.Cells.{cellAt, columnsOf, valuesOf, pack, length-pack, pack-columns, pack-values, cell-at}
 use Rattle.search.specs.Blocking.{Proper}
 use Rattle.search.specs.Notes.{above-zero}
-use Rattle.search.specs.Searches.{columnsIn, valuesIn, Packed, Searchable}
+use Rattle.search.specs.Searches.{columnsIn, valuesIn, allowedAt, Packed, Searchable}
 
 pub record Sound (S : Search) (l b : List ℤ) : Type 0 where
   pub few : S .view .columns ≤ maxColumns
@@ -149,6 +149,10 @@ module _ (B : Basis) (v lo hi gs b l : List ℤ) (r : Ready B v lo hi gs b) (d :
   part-sized Bounds e j h = near-sized j
   part-sized Goals e j h = goal-sized (goals-inside e) j h
 
+  part-allowed : (p : Part) → p ≡ partOf C v → (j : ℕ) → j < B .columns → allowedAt p C v j ≡ true
+  part-allowed Bounds e j h = ap not (le-ltb M (natAbs (entry j v)) (r .values-small j))
+  part-allowed Goals e j h = every-at (B .columns) (λ i. eqb (distanceOf (cell i)) 0) j (goals-inside e) h
+
   part-proper : (p : Part) → p ≡ partOf C v → (j : ℕ) → j < B .columns → rankedAt p C v j ≡ true → Proper p C v j
   part-proper Bounds e j h f = bounds-proper j
   part-proper Goals e j h f = goal-proper (goals-inside e) j h f
@@ -162,6 +166,7 @@ module _ (B : Basis) (v lo hi gs b l : List ℤ) (r : Ready B v lo hi gs b) (d :
           cells = record { sized = λ j h. subst (Sized p) (laid-cell j) (part-sized p e j (omega (arith, d .long))) };
           near = λ j. subst (λ (x : Cell). natAbs (x .value) ≤ M) (laid-cell j) (r .values-small j);
           basis = r .basis;
+          allowed = λ j h. back (λ i. allowedAt p (d .columns i) (d .values i) j ≡ true) (part-allowed p e j h);
         };
         proper = λ j h. back (λ i. rankedAt p (d .columns i) (d .values i) j ≡ true → Proper p (d .columns i) (d .values i) j) (part-proper p e j h);
       }

@@ -15,6 +15,7 @@ use pairs::first_step;
 use problem::Answer;
 use problem::Counts;
 use problem::Problem;
+use ranking::measure_all;
 use ranking::rank;
 use settling::Basis;
 use settling::Move;
@@ -35,10 +36,10 @@ struct Search {
     pub view: Basis,
 }
 
-// The best place of the ranking so far, and its step.
+// The best place of the ranking so far, and its move. The place behind the ranking is none.
 struct Best {
     pub at: usize,
-    pub step: Step,
+    pub o: Move,
 }
 
 // What the search notes of a vector: the first place of the ranking whose column it changes, and for each sign a column that does not pass.
@@ -60,11 +61,10 @@ struct Pair {
     pub t: usize,
 }
 
-// A move that changes no column before the place `from`. If something is told of it, it improves no column unless the vector changes the
-// column noted here.
+// A move that changes no column before the place `from`. It improves none at all unless the vector changes the column here; where there is no such
+// column, nothing more is told.
 struct Trial {
     pub o: Move,
-    pub told: bool,
     pub from: usize,
     pub vector: usize,
     pub column: usize,
@@ -72,7 +72,6 @@ struct Trial {
 
 // The same of the four moves of a pair, each with a column of its own.
 struct Hints {
-    pub told: bool,
     pub from: usize,
     pub vector: usize,
     pub pp: usize,
@@ -81,15 +80,18 @@ struct Hints {
     pub mm: usize,
 }
 
-// The step of a part. The order is room for its ranking, and the notes for three numbers a vector.
+// The step of a part. There is room for the ranking, for a measure of each column and for a note of each vector.
 fn step_of(search: Search, cells: &[i64], basis: &[i64]) -> Step
     requires { ⌜ Sound search (now cells) (now basis) ⌝ }
     ensures { λ r. ⌜ r ≡ stepOf (search .part) (columnsIn search (now (cells .entry))) (vectors (search .view) (now (basis .entry))) (valuesIn search (now (cells .entry))) ⌝ }
 {
     let mut order = [0usize; Problem::MAX_COLUMNS];
     let mut notes = [0usize; 3 * Problem::MAX_COLUMNS];
+    let mut sizes = [0u64; 2 * Problem::MAX_COLUMNS];
     let part = search.part;
-    let len = rank(part, cells, &mut order, search.view.columns);
+    let n = search.view.columns;
+    measure_all(part, cells, &mut sizes, n);
+    let len = rank(part, cells, &sizes, &mut order, n);
     first_step(search, cells, basis, &order[..len], &mut notes)
 }
 

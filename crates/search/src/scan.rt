@@ -8,8 +8,7 @@ ghost use Rattle.settling.specs.Sizes.{Room};
 ghost use Rattle.settling.specs.Views.{vectors, Viewed, OfBasis};
 ghost use Rattle.search.specs.Notes.{Failing, Blamed, Listed, Still, First, Noted, AllNoted};
 ghost use Rattle.search.specs.Notes as Notes;
-ghost use Rattle.settling.specs.declared.Step.the-variants.{Take};
-ghost use Rattle.search.specs.Scans.{best, signs};
+ghost use Rattle.search.specs.Scans.{signs};
 ghost use Rattle.search.specs.Scans as Scans;
 ghost use Rattle.search.specs.Searches.{columnsIn, valuesIn, better, Searchable, Setup};
 use crate::Best;
@@ -22,19 +21,22 @@ use settling::Basis;
 use settling::Cell;
 use settling::Measure;
 use settling::Move;
-use settling::Step;
+use settling::measures::is_zero;
 use settling::measures::measure;
 use settling::measures::passes;
 use settling::moves::change;
 use settling::moves::changes;
 use settling::moves::sum;
 
-// Whether column j passes under a move, where it has to come below q.
+// Whether column j passes under a move, where it has to come below q. A column that is not changed does.
 fn passes_at(search: Search, cells: &[i64], basis: &[i64], o: Move, q: Measure, j: usize) -> bool
     requires { ⌜ Searchable search (now cells) (now basis) × OfBasis (search .view .vectors) o × Room q × (j < search .view .columns) ⌝ }
     ensures { λ r. ⌜ r ≡ passesAt (search .part) (columnsIn search (now (cells .entry))) (vectors (search .view) (now (basis .entry))) (valuesIn search (now (cells .entry))) o q j ⌝ }
 {
     let e = change(basis, search.view, o, j);
+    if is_zero(e) {
+        return true;
+    }
     let c = cell_at(cells, j);
     let moved = Cell {
         lower: c.lower,
@@ -97,16 +99,6 @@ fn first_changed(
     k
 }
 
-// The move o at place k, whose column is i.
-fn found(k: usize, i: usize, o: Move) -> Best
-    ensures { λ r. ⌜ r ≡ best k (Take i o) ⌝ }
-{
-    Best {
-        at: k,
-        step: Step::Take(i, o),
-    }
-}
-
 // The best so far, after one more move, which changes no column before the place `from`. Only the first column that it changes has to be tried.
 pub(crate) fn consider(
     search: Search,
@@ -129,7 +121,7 @@ pub(crate) fn consider(
     if blame(search, cells, basis, o, i) < search.view.columns {
         return z;
     }
-    found(k, i, o)
+    Best { at: k, o: o }
 }
 
 fn tried(best: Best, top: usize, plus: usize, minus: usize) -> Tried
@@ -172,7 +164,7 @@ fn both_signs(
     let n = search.view.columns;
     let f = blame(search, cells, basis, plus, i);
     if n <= f {
-        return tried(found(k, i, plus), k, f, 0);
+        return tried(Best { at: k, o: plus }, k, f, 0);
     }
     let minus = Move {
         s: s,
@@ -182,7 +174,7 @@ fn both_signs(
     };
     let g = blame(search, cells, basis, minus, i);
     if n <= g {
-        return tried(found(k, i, minus), k, f, g);
+        return tried(Best { at: k, o: minus }, k, f, g);
     }
     tried(z, k, f, g)
 }

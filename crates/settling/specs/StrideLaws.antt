@@ -1,5 +1,6 @@
 -- Laws of strides, for the loops.
 --   StridesReady B d l          a list d with a number for each column of the view B of the basis l
+--   divisor-zero, -one          the divisor of 0 and a number, and of a number and 1
 --   stride-none, -up, -all      the vectors from s on, where s counts down: none, one more, all
 --   Filled N d₀ d j             the first j numbers of d are strides, and it is as long as d₀
 --   filled-none, -on, -all      it holds at 0; at j + 1 once the stride is stored; and past the last column d is the list of strides
@@ -7,13 +8,14 @@
 use mathlib.Core.Path.{_≡_, refl, sym, _∙_, ap}
 use mathlib.Core.List.{List}
 use Prim.Native.Nat.{ℕ, zero, suc, _+_, _-_, _<_, _≤_}
+use native.Mathlib.Nat.{zero-mod, mod-one}
 use native.Mathlib.Omega.{arith}
 use borrow.Author.Count.{below-more}
 use lib.IntN.{ℤ, natAbs}
 use lib.ListN.{length, getD, drop, set, length-set, drop-of-length-le}
 use lib.Seq.{getD-set-same, getD-set-other, ext-getD}
 use Rattle.whole.specs.Lists.{entry}
-use Rattle.whole.specs.Divisor.{divisor}
+use Rattle.whole.specs.Divisor.{divisorBy, divisor}
 use Rattle.settling.specs.declared.Basis.{Basis}
 use Rattle.settling.specs.Moves.{vector}
 use Rattle.settling.specs.Strides.{stride, stridesFrom, strides}
@@ -22,6 +24,16 @@ use Rattle.settling.specs.Views.{vectors, Viewed, rows-length, vectors-d
 pub record StridesReady (B : Basis) (d : List ℕ) (l : List ℤ) : Type 0 where
   pub long : length d ≡ B .columns
   pub basis : Viewed B l
+
+-- ---- the divisor of 0, and of 1
+pub divisor-zero : (d : ℕ) → divisor 0 d ≡ d
+unfolding divisor divisorBy
+divisor-zero zero = refl
+divisor-zero (suc d) = ap (divisorBy (suc d) (suc d)) (zero-mod (suc d))
+
+pub divisor-one : (x : ℕ) → divisor x 1 ≡ 1
+unfolding divisor divisorBy
+divisor-one x = ap (divisorBy 1 1) (mod-one x)
 
 -- ---- one column
 module _ (B : Basis) (l : List ℤ) (j : ℕ) where

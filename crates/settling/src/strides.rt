@@ -1,11 +1,25 @@
 ghost use mathlib.Core.Path.{_≡_};
 ghost use Prim.Native.Nat.{_<_};
+ghost use Rattle.whole.specs.Divisor as Divisor;
 ghost use Rattle.settling.specs.Strides as Strides;
 ghost use Rattle.settling.specs.StrideLaws.{StridesReady};
 ghost use Rattle.settling.specs.Views.{vectors, Viewed};
 use crate::Basis;
 use whole::divisor;
 use whole::magnitude;
+
+// The divisor of x and d. Most numbers of a basis are 0, and most strides 1: neither needs a division.
+fn common(x: u64, d: u64) -> u64
+    ensures { λ r. ⌜ r ≡ Divisor.divisor x d ⌝ }
+{
+    if x == 0 {
+        return d;
+    }
+    if d == 1 {
+        return 1;
+    }
+    divisor(x, d)
+}
 
 // The stride of column j. From the last vector up, as the divisor of a number and those behind it.
 fn stride(basis: &[i64], view: Basis, j: usize) -> u64
@@ -17,7 +31,7 @@ fn stride(basis: &[i64], view: Basis, j: usize) -> u64
     while 0 < s {
         s -= 1;
         let at = s * view.stride + j;
-        d = divisor(magnitude(basis[at]), d);
+        d = common(magnitude(basis[at]), d);
     }
     d
 }

@@ -38,7 +38,7 @@ noted-signs-requires : tie.Need-noted-signs-requires Inv-loop μ-loop
 noted-signs-requires c κs = let s = c .before .before .before .before .before .before in (s .pre .0, c .before .before .before .loop .inv .2, c .before .before .before .loop .inv .0, c .before .before .loop-test .taken, c .before .before .before .loop .inv .1, above-zero (c .before .before .before .loop .y .at) (c .if1 .left))
 
 add-t-2 : tie.Need-add-t-2 Inv-loop μ-loop
-add-t-2 c = omega arith
+add-t-2 c = let s = c .before .before .before .before .before .before .before in omega (arith, c .before .before .before .loop-test .taken, s .good)
 
 loop-less : tie.Need-loop-less Inv-loop μ-loop
 loop-less c = omega arith

@@ -1,22 +1,17 @@
 -- `search::pairs::try_pair` meets its contract: what is told of the move is true. Assumes nothing.
-use mathlib.Core.Path.{_≡_, sym, _∙_}
-use native.Mathlib.Omega.{arith}
+use mathlib.Core.Path.{sym, _∙_}
 use Rattle.search.specs.Hints.{left-out}
-use Rattle.problem.proofs.Laws.{failed}
 use borrow.Author.Needs.{needs}
 use Rattle.search.proofs.pairs.try_pair.Statement.{statement}
 use Rattle.search.proofs.pairs.try_pair.Tie as tie
 
-changes-requires : tie.Need-changes-requires
-changes-requires c κs =
-    let s = c .before .before in
-    let v = s .pre .1 .vector-in (c .if1 .taken) in
-    (s .pre .0 .searchable .basis, record { s = v; t = v; a = omega arith; b = omega arith }, s .pre .1 .column-in (c .if1 .taken))
+is-shut-requires : tie.Need-is-shut-requires
+is-shut-requires c κs = let s = c .before in (s .pre .0 .searchable .basis, s .pre .1 .vector-in)
 
 returns : tie.Need-returns
 returns c =
-    let s = c .before .before .before .before in
-    left-out (s .args .search) (s .args .cells .now) (s .args .basis .now) (s .args .order .now) (s .args .t .o) (s .args .z) (s .pre .2) (s .pre .1 .nothing (c .before .before .if1 .taken) (failed (c .before .changes .ensures) (c .if2 .taken)))
+    let s = c .before .before .before in
+    left-out (s .args .search) (s .args .cells .now) (s .args .basis .now) (s .args .order .now) (s .args .t .o) (s .args .z) (s .pre .2) (s .pre .1 .nothing (sym (c .before .is-shut .ensures) ∙ c .if1 .taken))
 
 consider-requires : tie.Need-consider-requires
 consider-requires c κs = search needs
@@ -25,4 +20,4 @@ returns-2 : tie.Need-returns-2
 returns-2 c = search needs
 
 pub try-pair-spec : {M : Type 1} → statement M
-try-pair-spec = tie.close (tie.spec changes-requires returns consider-requires returns-2)
+try-pair-spec = tie.close (tie.spec is-shut-requires returns consider-requires returns-2)

@@ -1,8 +1,5 @@
 -- `search::scan::both_signs` meets its contract: the first column that the vector changes decides for both signs. Assumes nothing.
-use mathlib.Core.Path.{_≡_, sym, _∙_, ap}
 use native.Mathlib.Omega.{arith}
-use lib.ListN.{getD}
-use Rattle.settling.specs.Views.{OfBasis}
 use Rattle.search.specs.Notes.{signs-late, signs-plus, signs-minus, signs-none}
 use borrow.Author.Needs.{needs}
 use Rattle.search.proofs.scan.both_signs.Statement.{statement}
@@ -35,19 +32,16 @@ blame-requires c κs =
     let s = c .before .before .before .before .before in
     (s .pre .0 .searchable, record { s = s .pre .1; t = s .pre .1; a = omega arith; b = omega arith }, s .pre .0 .order .below (c .before .before .before .first-changed .result) (omega (arith, s .pre .2, c .before .if1 .left)))
 
-found-requires : tie.Need-found-requires
-found-requires c κs = search needs
-
 tried-requires-2 : tie.Need-tried-requires-2
 tried-requires-2 c κs = search needs
 
 returns-2 : tie.Need-returns-2
 returns-2 c =
-    let s = c .before .before .before .before .before .before .before .before .before in
-    rw (c .tried2 .ensures, c .before .found .ensures) (
-      signs-plus (s .args .search) (s .args .cells .now) (s .args .basis .now) (s .args .order .now) (s .args .s) (c .before .before .before .before .before .before .before .first-changed .result) (c .before .before .before .before .before .before .before .first-changed .ensures .still) (s .args .z) (s .pre .2)
-          (c .before .before .before .before .before .if1 .left) (c .before .before .before .before .before .before .before .first-changed .ensures .changed (c .before .before .before .before .before .if1 .left)) (c .before .before .before .blame .ensures .good (c .before .before .if2 .taken)),
-      record { still = c .before .before .before .before .before .before .before .first-changed .ensures .still; stuck = λ h. absurd (omega arith) },
+    let s = c .before .before .before .before .before .before .before .before in
+    rw (c .tried2 .ensures) (
+      signs-plus (s .args .search) (s .args .cells .now) (s .args .basis .now) (s .args .order .now) (s .args .s) (c .before .before .before .before .before .before .first-changed .result) (c .before .before .before .before .before .before .first-changed .ensures .still) (s .args .z) (s .pre .2)
+          (c .before .before .before .before .if1 .left) (c .before .before .before .before .before .before .first-changed .ensures .changed (c .before .before .before .before .if1 .left)) (c .before .before .blame .ensures .good (c .before .if2 .taken)),
+      record { still = c .before .before .before .before .before .before .first-changed .ensures .still; stuck = λ h. absurd (omega arith) },
     )
 
 blame-requires-2 : tie.Need-blame-requires-2
@@ -55,19 +49,16 @@ blame-requires-2 c κs =
     let s = c .before .before .before .before .before .before .before in
     (s .pre .0 .searchable, record { s = s .pre .1; t = s .pre .1; a = omega arith; b = omega arith }, s .pre .0 .order .below (c .before .before .before .before .before .first-changed .result) (omega (arith, s .pre .2, c .before .before .before .if1 .left)))
 
-found-requires-2 : tie.Need-found-requires-2
-found-requires-2 c κs = search needs
-
 tried-requires-3 : tie.Need-tried-requires-3
 tried-requires-3 c κs = search needs
 
 returns-3 : tie.Need-returns-3
 returns-3 c =
-    let s = c .before .before .before .before .before .before .before .before .before .before .before in
-    rw (c .tried3 .ensures, c .before .found2 .ensures) (
-      signs-minus (s .args .search) (s .args .cells .now) (s .args .basis .now) (s .args .order .now) (s .args .s) (c .before .before .before .before .before .before .before .before .before .first-changed .result) (c .before .before .before .before .before .before .before .before .before .first-changed .ensures .still) (s .args .z) (s .pre .2)
-          (c .before .before .before .before .before .before .before .if1 .left) (c .before .before .before .before .before .before .before .before .before .first-changed .ensures .changed (c .before .before .before .before .before .before .before .if1 .left)) (s .pre .0 .order) (c .before .before .before .before .before .blame .result) (c .before .before .before .before .if2 .left) (c .before .before .before .before .before .blame .ensures .bad (c .before .before .before .before .if2 .left)) (c .before .before .before .blame2 .ensures .good (c .before .before .if3 .taken)),
-      record { still = c .before .before .before .before .before .before .before .before .before .first-changed .ensures .still; stuck = λ h. absurd (omega arith) },
+    let s = c .before .before .before .before .before .before .before .before .before .before in
+    rw (c .tried3 .ensures) (
+      signs-minus (s .args .search) (s .args .cells .now) (s .args .basis .now) (s .args .order .now) (s .args .s) (c .before .before .before .before .before .before .before .before .first-changed .result) (c .before .before .before .before .before .before .before .before .first-changed .ensures .still) (s .args .z) (s .pre .2)
+          (c .before .before .before .before .before .before .if1 .left) (c .before .before .before .before .before .before .before .before .first-changed .ensures .changed (c .before .before .before .before .before .before .if1 .left)) (s .pre .0 .order) (c .before .before .before .before .blame .result) (c .before .before .before .if2 .left) (c .before .before .before .before .blame .ensures .bad (c .before .before .before .if2 .left)) (c .before .before .blame2 .ensures .good (c .before .if3 .taken)),
+      record { still = c .before .before .before .before .before .before .before .before .first-changed .ensures .still; stuck = λ h. absurd (omega arith) },
     )
 
 tried-requires-4 : tie.Need-tried-requires-4
@@ -101,11 +92,9 @@ both-signs-spec =
     mul-i
     shared-slice-read-i
     blame-requires
-    found-requires
     tried-requires-2
     returns-2
     blame-requires-2
-    found-requires-2
     tried-requires-3
     returns-3
     tried-requires-4

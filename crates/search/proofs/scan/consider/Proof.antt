@@ -2,7 +2,6 @@
 use native.Mathlib.Omega.{arith}
 use Prim.Native.Nat.{_<_}
 use lib.ListN.{length}
-use mathlib.Core.Path.{_∙_}
 use Rattle.search.specs.Notes.{late, hit, shut}
 use borrow.Author.Needs.{needs}
 use Rattle.search.proofs.scan.consider.Statement.{statement}
@@ -34,16 +33,12 @@ returns-2 c =
     shut (s .args .search) (s .args .cells .now) (s .args .basis .now) (s .args .order .now) (s .args .o) k (c .before .before .before .before .before .first-changed .ensures .still) (s .args .z) (s .pre .3) (c .before .before .before .before .if1 .left) (c .before .before .before .before .before .first-changed .ensures .changed (c .before .before .before .before .if1 .left))
     (s .pre .0 .order) (c .before .before .blame .result) (c .if2 .taken) (c .before .before .blame .ensures .bad (c .if2 .taken))
 
-found-requires : tie.Need-found-requires
-found-requires c κs = search needs
-
 returns-3 : tie.Need-returns-3
 returns-3 c =
-    let s = c .before .before .before .before .before .before .before .before in
-    let k = c .before .before .before .before .before .before .first-changed .result in
-    c .found .ensures
-    ∙ hit (s .args .search) (s .args .cells .now) (s .args .basis .now) (s .args .order .now) (s .args .o) k (c .before .before .before .before .before .before .first-changed .ensures .still) (s .args .z) (s .pre .3) (c .before .before .before .before .before .if1 .left) (c .before .before .before .before .before .before .first-changed .ensures .changed (c .before .before .before .before .before .if1 .left))
-    (c .before .before .before .blame .ensures .good (c .before .if2 .left))
+    let s = c .before .before .before .before .before .before .before in
+    let k = c .before .before .before .before .before .first-changed .result in
+    hit (s .args .search) (s .args .cells .now) (s .args .basis .now) (s .args .order .now) (s .args .o) k (c .before .before .before .before .before .first-changed .ensures .still) (s .args .z) (s .pre .3) (c .before .before .before .before .if1 .left) (c .before .before .before .before .before .first-changed .ensures .changed (c .before .before .before .before .if1 .left))
+    (c .before .before .blame .ensures .good (c .if2 .left))
 
 pub consider-spec : {M : Type 1} → statement M
 consider-spec =
@@ -55,5 +50,4 @@ consider-spec =
     shared-slice-read-i
     blame-requires
     returns-2
-    found-requires
     returns-3)

@@ -8,6 +8,7 @@ use lib.IntN.{ℤ, natAbs, _+ℤ_}
 use mir.Syntax.{w64}
 use mir.Val.{toZ, ofZ}
 use Rattle.whole.specs.Lists.{entry}
+use Rattle.whole.specs.Tests.{isZero}
 use Rattle.whole.proofs.Signed.{back, abs-add}
 use Rattle.problem.specs.Limits.{M}
 use Rattle.settling.specs.declared.Cell.{Cell}
@@ -18,6 +19,7 @@ use Rattle.settling.specs.declared.Part.the-variants.{Bounds}
 use Rattle.settling.specs.Views.{vectors, change-small, moved-at}
 use Rattle.settling.proofs.Machine.{read}
 use Rattle.search.specs.Cells.{cellAt, cellOf, cell-at, valuesOf, pick-length}
+use Rattle.search.specs.Searches.{unchanged-passes}
 use Rattle.search.proofs.scan.passes_at.Statement.{statement}
 use Rattle.search.proofs.scan.passes_at.Tie as tie
 
@@ -51,39 +53,51 @@ module _ (s : tie.Start) where
 
 -- what the machine reads back
 module _ (c : tie.After-cell-at) where
-  told : c .cell-at .result ≡ cell (c .before .before)
-  told = c .cell-at .ensures ∙ sym (is (c .before .before))
+  abbrev start : tie.Start
+  start = c .before .before .before .before
 
-  lower : toZ w64 (ofZ w64 (c .cell-at .result .lower)) ≡ cell (c .before .before) .lower
-  lower = ap (λ (x : Cell). toZ w64 (ofZ w64 (x .lower))) told ∙ read _ (omega (arith, sized (c .before .before) .lower))
+  told : c .cell-at .result ≡ cell start
+  told = c .cell-at .ensures ∙ sym (is start)
 
-  upper : toZ w64 (ofZ w64 (c .cell-at .result .upper)) ≡ cell (c .before .before) .upper
-  upper = ap (λ (x : Cell). toZ w64 (ofZ w64 (x .upper))) told ∙ read _ (omega (arith, sized (c .before .before) .upper))
+  lower : toZ w64 (ofZ w64 (c .cell-at .result .lower)) ≡ cell start .lower
+  lower = ap (λ (x : Cell). toZ w64 (ofZ w64 (x .lower))) told ∙ read _ (omega (arith, sized start .lower))
 
-  goal : toZ w64 (ofZ w64 (c .cell-at .result .goal)) ≡ cell (c .before .before) .goal
-  goal = ap (λ (x : Cell). toZ w64 (ofZ w64 (x .goal))) told ∙ read _ (omega (arith, sized (c .before .before) .goal))
+  upper : toZ w64 (ofZ w64 (c .cell-at .result .upper)) ≡ cell start .upper
+  upper = ap (λ (x : Cell). toZ w64 (ofZ w64 (x .upper))) told ∙ read _ (omega (arith, sized start .upper))
 
-  value : toZ w64 (ofZ w64 (c .cell-at .result .value)) ≡ cell (c .before .before) .value
-  value = ap (λ (x : Cell). toZ w64 (ofZ w64 (x .value))) told ∙ read _ (omega (arith, near (c .before .before)))
+  goal : toZ w64 (ofZ w64 (c .cell-at .result .goal)) ≡ cell start .goal
+  goal = ap (λ (x : Cell). toZ w64 (ofZ w64 (x .goal))) told ∙ read _ (omega (arith, sized start .goal))
 
-  change : let s = c .before .before in toZ w64 (ofZ w64 (c .before .change .result)) ≡ Moves.change (N s) (s .args .o) (s .args .j)
-  change = back (c .before .change .result) (c .before .change .ok) ∙ c .before .change .ensures
+  value : toZ w64 (ofZ w64 (c .cell-at .result .value)) ≡ cell start .value
+  value = ap (λ (x : Cell). toZ w64 (ofZ w64 (x .value))) told ∙ read _ (omega (arith, near start))
 
-after : (c : tie.After-sum) → let s = c .before .before .before .before in toZ w64 (ofZ w64 (c .sum .result)) ≡ entry (s .args .j) (Moves.moved (N s) (s .args .o) (v s))
-after c = back (c .sum .result) (c .sum .ok) ∙ c .sum .ensures ∙ ap₂ _+ℤ_ (value (c .before .before)) (change (c .before .before)) ∙ sym (moved (c .before .before .before .before))
+  change : let s = start in toZ w64 (ofZ w64 (c .before .before .before .change .result)) ≡ Moves.change (N s) (s .args .o) (s .args .j)
+  change = back (c .before .before .before .change .result) (c .before .before .before .change .ok) ∙ c .before .before .before .change .ensures
+
+after : (c : tie.After-sum) → let s = c .before .before .before .before .before .before in toZ w64 (ofZ w64 (c .sum .result)) ≡ entry (s .args .j) (Moves.moved (N s) (s .args .o) (v s))
+after c = back (c .sum .result) (c .sum .ok) ∙ c .sum .ensures ∙ ap₂ _+ℤ_ (value (c .before .before)) (change (c .before .before)) ∙ sym (moved (c .before .before .before .before .before .before))
 
 change-requires : tie.Need-change-requires
 change-requires c κs = search needs
+
+is-zero-requires : tie.Need-is-zero-requires
+is-zero-requires c κs = search needs
+
+returns : tie.Need-returns
+returns c =
+    let s = c .before .before .before in
+    sym (unchanged-passes (s .args .search) (s .args .cells .now) (s .args .basis .now) (s .args .o) (s .args .q) (s .args .j) (s .pre .0) (s .pre .3)
+    (ap isZero (sym (c .before .before .change .ensures) ∙ sym (back (c .before .before .change .result) (c .before .before .change .ok))) ∙ sym (c .before .is-zero .ensures) ∙ c .if1 .taken))
 
 cell-at-requires : tie.Need-cell-at-requires
 cell-at-requires c κs = search needs
 
 sum-requires : tie.Need-sum-requires
-sum-requires c κs = let s = c .before .before .before in rw (value (c .before), change (c .before)) (near s, small s)
+sum-requires c κs = let s = c .before .before .before .before .before in rw (value (c .before), change (c .before)) (near s, small s)
 
 passes-requires : tie.Need-passes-requires
 passes-requires c κs =
-    let s = c .before .before .before .before .before in
+    let s = c .before .before .before .before .before .before .before in
     let k = c .before .before .before in (
       record {
         lower = rw (lower k) (sized s .lower);
@@ -94,13 +108,13 @@ passes-requires c κs =
       s .pre .2,
     )
 
-returns : tie.Need-returns
-returns c =
-    let s = c .before .before .before .before .before .before in
+returns-2 : tie.Need-returns-2
+returns-2 c =
+    let s = c .before .before .before .before .before .before .before .before in
     let k = c .before .before .before .before in
     c .passes .ensures
     ∙ (λ i. Steps.passes (s .args .search .part) (lower k i) (upper k i) (goal k i) (after (c .before .before) i) (change k i) (s .args .q))
 
 pub passes-at-spec : {M : Type 1} → statement M
 passes-at-spec =
-    tie.close (tie.spec change-requires cell-at-requires sum-requires passes-requires returns)
+    tie.close (tie.spec change-requires is-zero-requires returns cell-at-requires sum-requires passes-requires returns-2)

@@ -57,8 +57,8 @@ shared-slice-copy-out-magnitude c = lies (c .before)
 magnitude-requires : tie.Need-magnitude-requires Inv-loop μ-loop
 magnitude-requires c κs = search needs
 
-divisor-requires : tie.Need-divisor-requires Inv-loop μ-loop
-divisor-requires c κs = search needs
+common-requires : tie.Need-common-requires Inv-loop μ-loop
+common-requires c κs = search needs
 
 loop-less : tie.Need-loop-less Inv-loop μ-loop
 loop-less c = omega arith
@@ -68,7 +68,7 @@ loop-again c =
     let s = c .before .before .before .before .before .before in
     let l = c .before .before .before .before .before .loop in (
       omega (arith, l .inv .0),
-      c .divisor .ensures ∙ ap₂ Divisor.divisor (found (c .before)) (l .inv .1) ∙ stride-up (s .args .view) (s .args .basis .now) (s .args .j) (l .s) (c .before .before .before .before .loop-test .taken) (l .inv .0),
+      c .common .ensures ∙ ap₂ Divisor.divisor (found (c .before)) (l .inv .1) ∙ stride-up (s .args .view) (s .args .basis .now) (s .args .j) (l .s) (c .before .before .before .before .loop-test .taken) (l .inv .0),
     )
 
 returns : tie.Need-returns Inv-loop μ-loop
@@ -91,7 +91,7 @@ stride-spec =
     mul-magnitude
     shared-slice-copy-out-magnitude
     magnitude-requires
-    divisor-requires
+    common-requires
     loop-less
     loop-again
     returns)
