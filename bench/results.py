@@ -16,6 +16,8 @@ HEAD = ["deck", "n × m, r", "answer", "form: ours, at most", "tuned", "FLINT", 
 # The targets that docs/PERFORMANCE.md names.
 MOST_OVER_TUNED = 2
 PARI_COLUMNS = 16
+# What a tuned engine took before on one deck, and FLINT's form beside it: a ratio that any machine can be held to.
+REFERENCE_DECK, REFERENCE_TUNED, REFERENCE_FLINT = "mixed-48-2", 70, 476
 SEARCH_DECK = "worst-48-1"
 SEARCH_MICROSECONDS = 1000
 # How many decks a line names where a target is not met.
@@ -105,8 +107,8 @@ def judge(words, ratios, most=1):
     if over:
         return "- %s: **not met** on %d of %d decks; ours by theirs is %s%s" % (
             words, len(over), len(ratios), named, " .." if len(over) > MOST_NAMED else "")
-    return "- %s: **met** on all %d decks; ours by theirs is at most %s" % (
-        words, len(ratios), named)
+    where = "on all %d decks" % len(ratios) if len(ratios) > 1 else "there"
+    return "- %s: **met** %s; ours by theirs is at most %s" % (words, where, named)
 
 
 def against(results, ours, theirs):
@@ -122,6 +124,12 @@ def against_solver(results, solver):
         if result.has_goals and result.number != 7 and None not in both:
             ratios.append((result.name, max(both)))
     return ratios
+
+
+def against_reference(results):
+    """Our time on the named deck by the reference's, taken over by way of FLINT's form."""
+    ratios = [(r.name, r.ratio("ours", "flint form")) for r in results if r.name == REFERENCE_DECK]
+    return [(name, ratio and ratio * REFERENCE_FLINT / REFERENCE_TUNED) for name, ratio in ratios]
 
 
 def search_target(results):
@@ -145,7 +153,9 @@ def targets(results):
               against_solver(results, "glpk")),
         judge("whole assignment faster than lp_solve, where there are goals",
               against_solver(results, "lpsolve")),
-        judge("whole assignment within twice the tuned engine's time",
+        judge("whole assignment on mixed 48 within twice 70 µs, where FLINT's form takes 476 µs",
+              against_reference(results), MOST_OVER_TUNED),
+        judge("whole assignment within twice the time of the tuned engine here",
               against(results, "ours", "tuned"), MOST_OVER_TUNED),
         search_target(results)])
 
