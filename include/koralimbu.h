@@ -1,6 +1,7 @@
 /* Koralimbu: deck texts, whole assignments and Continue on lent buffers. The functions lie in liblink.a (`rt staticlib link`), which is proved.
  *
- * Buffers. Each is a pointer and then its count of numbers. A pointer is not null, even with a count of 0, and no two buffers overlap.
+ * Buffers. Each is a pointer and then its count of numbers. A pointer is not null, even with a count of 0, and a buffer that is
+ * written overlaps no other.
  * Those of koralimbu_assign and koralimbu_continue (koralimbu_read has its own account below):
  *
  *                 count        holds

@@ -204,27 +204,26 @@ module _ (S : Search) (l b : List ℤ) (L : List ℕ) (order : InOrder S l L) wh
       upto : (k i : ℕ) (o : Move) → k ≤ i → Still N L o i → Still N L o k
       upto k i o h d = record { each = λ z m g. d .each z (omega arith) g }
 
-      by-first : (a c : ℤ) (f : ℕ) → natAbs a ≡ 1 → natAbs c ≡ 1 → x .top < y .top → x .top < e → f < S .view .columns
-          → tests S l b (single (p .s) a) (getD L (x .top) 0) f ≡ false → Tryable S l b L (trialOf (byFirst p x) p a c f)
-      by-first a c f h g lower m i w = record {
-        of = of-pair a c h g;
-        still = pair-still (pair (p .s) a (p .t) c) (p .s) (p .t) a (x .top) h (alike-first N (p .s) (p .t) a c) (nx .still) (upto (x .top) (y .top) _ (omega arith) (ny .still));
+      -- where vector s has the higher top, its note u decides for a move that does what a Ns does wherever vector t changes nothing
+      by-lead :
+          (o : Move) (s t : ℕ) (a : ℤ) (u w : Note) (f : ℕ) → OfBasis (S .view .vectors) o → Alike N o s a t → natAbs a ≡ 1 → t < S .view .vectors
+          → Noted S l b L e s u → Noted S l b L e t w → u .top < w .top → u .top < e → f < S .view .columns → tests S l b (single s a) (getD L (u .top) 0) f ≡ false
+          → Tryable S l b L (record { o = o; from = u .top; vector = t; column = f })
+      by-lead o s t a u w f of alike h t-in nu nw lower m i c = record {
+        of = of;
+        still = pair-still o s t a (u .top) h alike (nu .still) (upto (u .top) (w .top) _ (omega arith) (nw .still));
         vector-in = λ _. t-in;
         nothing = λ q.
-            pair-shut (pair (p .s) a (p .t) c) (p .s) (p .t) a (x .top) f h (alike-first N (p .s) (p .t) a c) (omega arith) (nx .still)
-            (upto (suc (x .top)) (y .top) _ lower (ny .still)) (nx .stuck m .changed) i w (shut-quiet (S .view) b (p .t) f q);
+            pair-shut o s t a (u .top) f h alike (omega arith) (nu .still) (upto (suc (u .top)) (w .top) _ lower (nw .still)) (nu .stuck m .changed) i c (shut-quiet (S .view) b t f q);
       }
+
+      by-first : (a c : ℤ) (f : ℕ) → natAbs a ≡ 1 → natAbs c ≡ 1 → x .top < y .top → x .top < e → f < S .view .columns
+          → tests S l b (single (p .s) a) (getD L (x .top) 0) f ≡ false → Tryable S l b L (trialOf (byFirst p x) p a c f)
+      by-first a c f h g = by-lead (pair (p .s) a (p .t) c) (p .s) (p .t) a x y f (of-pair a c h g) (alike-first N (p .s) (p .t) a c) h t-in nx ny
 
       by-second : (a c : ℤ) (f : ℕ) → natAbs a ≡ 1 → natAbs c ≡ 1 → y .top < x .top → y .top < e → f < S .view .columns
           → tests S l b (single (p .t) c) (getD L (y .top) 0) f ≡ false → Tryable S l b L (trialOf (bySecond p y) p a c f)
-      by-second a c f h g lower m i w = record {
-        of = of-pair a c h g;
-        still = pair-still (pair (p .s) a (p .t) c) (p .t) (p .s) c (y .top) g (alike-second N (p .s) (p .t) a c) (ny .still) (upto (y .top) (x .top) _ (omega arith) (nx .still));
-        vector-in = λ _. s-in;
-        nothing = λ q.
-            pair-shut (pair (p .s) a (p .t) c) (p .t) (p .s) c (y .top) f g (alike-second N (p .s) (p .t) a c) (omega arith) (ny .still)
-            (upto (suc (y .top)) (x .top) _ lower (nx .still)) (ny .stuck m .changed) i w (shut-quiet (S .view) b (p .s) f q);
-      }
+      by-second a c f h g = by-lead (pair (p .s) a (p .t) c) (p .t) (p .s) c y x f (of-pair a c h g) (alike-second N (p .s) (p .t) a c) g s-in ny nx
 
       both-still : (a c : ℤ) (k : ℕ) → natAbs a ≡ 1 → k ≤ x .top → k ≤ y .top → Still N L (pair (p .s) a (p .t) c) k
       both-still a c k h i j =

@@ -1,9 +1,10 @@
 -- What the search notes of each vector while it tries them alone.
 --   Note                the first place of the ranking whose column the vector changes, and for each sign a column that does not pass
 --                       (declared in src/)
---   noteAt l s          the note of vector s, in a list of three numbers a vector; `putNote` writes it, if there is room
+--   noteAt l s          the note of vector s, in a list of three numbers a vector; `putNote` writes it, if there is room, and `oldNote` reads it
 --   tests S l b o i     which columns pass under the move o, tried at column i
 --   Failing n f k       the test f of n columns fails at k, or k is not below n and it fails at none
+--   Guessed n f k t     where t is true, k is below n and the test fails at k
 --   Blamed S l b o i k  so do the tests of the move o, tried at column i
 --   Listed n L          the columns of the list L are below n
 --   Still N L o k       the move o changes no column before place k of L
@@ -58,6 +59,9 @@ written s x l = set (set (set l (3 * s) (x .top)) (3 * s + 1) (x .plus)) (3 * s 
 unfoldable pub putNote : ℕ → Note → List ℕ → List ℕ
 putNote s x l = cond (ltb s maxColumns) (written s x l) l
 
+unfoldable pub oldNote : List ℕ → ℕ → Note
+oldNote l s = cond (ltb s maxColumns) (noteAt l s) (record { top = 0; plus = 0; minus = 0 })
+
 abbrev pub tried : Best → ℕ → ℕ → ℕ → Tried
 tried z k f g = record { best = z; note = record { top = k; plus = f; minus = g } }
 
@@ -67,6 +71,10 @@ tests S l b o i = passesAt (S .part) (columnsIn S l) (vectors (S .view) b) (valu
 pub record Failing (n : ℕ) (f : ℕ → Bool) (k : ℕ) : Type 0 where
   pub bad : k < n → f k ≡ false
   pub good : n ≤ k → every n f ≡ true
+
+pub record Guessed (n : ℕ) (f : ℕ → Bool) (k : ℕ) (t : Bool) : Type 0 where
+  pub in-range : t ≡ true → k < n
+  pub bad : t ≡ true → f k ≡ false
 
 abbrev pub Blamed : Search → List ℤ → List ℤ → Move → ℕ → ℕ → Type 0
 Blamed S l b o i k = Failing (S .view .columns) (tests S l b o i) k

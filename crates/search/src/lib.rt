@@ -1,6 +1,7 @@
 ghost use mathlib.Core.Path.{_≡_};
 ghost use Prim.Native.Nat.{_*_, _<_, _≤_};
 ghost use lib.ListN.{length};
+ghost use Rattle.problem.specs.Limits.{maxColumns};
 ghost use Rattle.settling.specs.declared.Part.the-variants.{Bounds};
 ghost use Rattle.settling.specs.Moves as Moves;
 ghost use Rattle.settling.specs.Ready.{cols, Ready};
@@ -80,19 +81,18 @@ struct Hints {
     pub mm: usize,
 }
 
-// The step of a part. There is room for the ranking, for a measure of each column and for a note of each vector.
-fn step_of(search: Search, cells: &[i64], basis: &[i64]) -> Step
-    requires { ⌜ Sound search (now cells) (now basis) ⌝ }
+// The step of a part. There is room for the ranking and for a measure of each column; the notes are those of an earlier step, or any numbers.
+fn step_of(search: Search, cells: &[i64], basis: &[i64], notes: &mut [usize]) -> Step
+    requires { ⌜ Sound search (now cells) (now basis) × (length (now notes) ≡ 3 * maxColumns) ⌝ }
     ensures { λ r. ⌜ r ≡ stepOf (search .part) (columnsIn search (now (cells .entry))) (vectors (search .view) (now (basis .entry))) (valuesIn search (now (cells .entry))) ⌝ }
 {
     let mut order = [0usize; Problem::MAX_COLUMNS];
-    let mut notes = [0usize; 3 * Problem::MAX_COLUMNS];
     let mut sizes = [0u64; 2 * Problem::MAX_COLUMNS];
     let part = search.part;
     let n = search.view.columns;
     measure_all(part, cells, &mut sizes, n);
     let len = rank(part, cells, &sizes, &mut order, n);
-    first_step(search, cells, basis, &order[..len], &mut notes)
+    first_step(search, cells, basis, &order[..len], notes)
 }
 
 // The part that n packed columns have come to.
@@ -117,8 +117,8 @@ struct Turn {
 }
 
 // The part and the step, over cells with room for four numbers a column.
-fn turn_over(cells: &[i64], basis: &[i64], view: Basis) -> Turn
-    requires { ⌜ Turnable view (now cells) (now basis) ⌝ }
+fn turn_over(cells: &[i64], basis: &[i64], view: Basis, notes: &mut [usize]) -> Turn
+    requires { ⌜ Turnable view (now cells) (now basis) × (length (now notes) ≡ 3 * maxColumns) ⌝ }
     ensures { λ r. ⌜ r ≡ turnOver view (now (cells .entry)) (now (basis .entry)) ⌝ }
 {
     let part = part_of(cells, view.columns);
@@ -126,7 +126,7 @@ fn turn_over(cells: &[i64], basis: &[i64], view: Basis) -> Turn
         part: part,
         view: view,
     };
-    let step = step_of(search, cells, basis);
+    let step = step_of(search, cells, basis, notes);
     Turn {
         part: part,
         step: step,
@@ -141,14 +141,15 @@ fn next_turn(
     goals: &[i64],
     basis: &[i64],
     view: Basis,
+    notes: &mut [usize],
 ) -> Turn
-    requires { ⌜ Ready view (now values) (now lower) (now upper) (now goals) (now basis) ⌝ }
+    requires { ⌜ Ready view (now values) (now lower) (now upper) (now goals) (now basis) × (length (now notes) ≡ 3 * maxColumns) ⌝ }
     ensures { λ r. ⌜ r ≡ turnOf (cols view (now (lower .entry)) (now (upper .entry)) (now (goals .entry))) (vectors view (now (basis .entry))) (now (values .entry)) ⌝ }
 {
     let mut cells = [0i64; 4 * Problem::MAX_COLUMNS];
     let used = 4 * view.columns;
     pack(&mut cells[..used], values, lower, upper, goals);
-    turn_over(&cells[..used], basis, view)
+    turn_over(&cells[..used], basis, view, notes)
 }
 
 // The next step of settling: the first ranked column that a move improves, and its first such move.
@@ -163,7 +164,8 @@ pub fn next_step(
     requires { ⌜ Ready view (now values) (now lower) (now upper) (now goals) (now basis) ⌝ }
     ensures { λ r. ⌜ r ≡ nextStep (cols view (now (lower .entry)) (now (upper .entry)) (now (goals .entry))) (vectors view (now (basis .entry))) (now (values .entry)) ⌝ }
 {
-    let turn = next_turn(values, lower, upper, goals, basis, view);
+    let mut notes = [0usize; 3 * Problem::MAX_COLUMNS];
+    let turn = next_turn(values, lower, upper, goals, basis, view, &mut notes);
     turn.step
 }
 
@@ -213,8 +215,9 @@ pub fn settle(
         goals: 0,
     };
     let mut left = limit;
+    let mut notes = [0usize; 3 * Problem::MAX_COLUMNS];
     loop {
-        let turn = next_turn(values, lower, upper, goals, basis, view);
+        let turn = next_turn(values, lower, upper, goals, basis, view, &mut notes);
         let part = turn.part;
         let step = turn.step;
         match step {

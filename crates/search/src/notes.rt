@@ -19,6 +19,21 @@ pub(crate) fn note_at(notes: &[usize], s: usize) -> Note
     }
 }
 
+// What stands where vector s is noted, whatever it is; 0s where there is no room for it.
+pub(crate) fn old_note(notes: &[usize], s: usize) -> Note
+    requires { ⌜ length (now notes) ≡ 3 * maxColumns ⌝ }
+    ensures { λ r. ⌜ r ≡ Notes.oldNote (now (notes .entry)) s ⌝ }
+{
+    if Problem::MAX_COLUMNS <= s {
+        return Note {
+            top: 0,
+            plus: 0,
+            minus: 0,
+        };
+    }
+    note_at(notes, s)
+}
+
 // Writes the note of vector s, if there is room for it.
 pub(crate) fn put_note(notes: &mut [usize], s: usize, x: Note)
     requires { ⌜ length (now notes) ≡ 3 * maxColumns ⌝ }

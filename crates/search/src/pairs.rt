@@ -119,7 +119,7 @@ fn try_pair(
     if is_shut(basis, search.view, t.vector, t.column) {
         return z;
     }
-    consider(search, cells, basis, order, t.o, t.from, z)
+    consider(search, cells, basis, order, t, z)
 }
 
 // Whether all four moves of a pair are shut out.

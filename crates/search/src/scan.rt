@@ -6,7 +6,7 @@ ghost use Rattle.settling.specs.Moves as Moves;
 ghost use Rattle.settling.specs.Steps.{passesAt};
 ghost use Rattle.settling.specs.Sizes.{Room};
 ghost use Rattle.settling.specs.Views.{vectors, Viewed, OfBasis};
-ghost use Rattle.search.specs.Notes.{Failing, Blamed, Listed, Still, First, Noted, AllNoted};
+ghost use Rattle.search.specs.Notes.{Guessed, Failing, Blamed, Listed, Still, First, Noted, AllNoted};
 ghost use Rattle.search.specs.Notes as Notes;
 ghost use Rattle.search.specs.Scans.{signs};
 ghost use Rattle.search.specs.Scans as Scans;
@@ -14,8 +14,10 @@ ghost use Rattle.search.specs.Searches.{columnsIn, valuesIn, better, Sea
 use crate::Best;
 use crate::Note;
 use crate::Search;
+use crate::Trial;
 use crate::Tried;
 use crate::cells::cell_at;
+use crate::notes::old_note;
 use crate::notes::put_note;
 use settling::Basis;
 use settling::Cell;
@@ -48,13 +50,35 @@ fn passes_at(search: Search, cells: &[i64], basis: &[i64], o: Move, q: Measure, 
     passes(part, moved, e, q)
 }
 
-// The first column that does not pass under a move, or n. Column i, which the move changes, is tried first.
-fn failing(search: Search, cells: &[i64], basis: &[i64], o: Move, q: Measure, i: usize) -> usize
+// Whether j is a column, and does not pass under a move.
+fn fails_at(search: Search, cells: &[i64], basis: &[i64], o: Move, q: Measure, j: usize) -> bool
+    requires { ⌜ Searchable search (now cells) (now basis) × OfBasis (search .view .vectors) o × Room q ⌝ }
+    ensures { λ r. ⌜ Guessed (search .view .columns) (passesAt (search .part) (columnsIn search (now (cells .entry))) (vectors (search .view) (now (basis .entry))) (valuesIn search (now (cells .entry))) o q) j r ⌝ }
+{
+    if search.view.columns <= j {
+        return false;
+    }
+    !passes_at(search, cells, basis, o, q, j)
+}
+
+// A column that does not pass under a move, or n. Column i, which the move changes, is tried first, then a guess, which may be any number.
+fn failing(
+    search: Search,
+    cells: &[i64],
+    basis: &[i64],
+    o: Move,
+    q: Measure,
+    i: usize,
+    guess: usize,
+) -> usize
     requires { ⌜ Searchable search (now cells) (now basis) × OfBasis (search .view .vectors) o × Room q × (i < search .view .columns) ⌝ }
     ensures { λ r. ⌜ Failing (search .view .columns) (passesAt (search .part) (columnsIn search (now (cells .entry))) (vectors (search .view) (now (basis .entry))) (valuesIn search (now (cells .entry))) o q) r ⌝ }
 {
     if !passes_at(search, cells, basis, o, q, i) {
         return i;
+    }
+    if fails_at(search, cells, basis, o, q, guess) {
+        return guess;
     }
     let n = search.view.columns;
     let mut j = 0;
@@ -68,13 +92,13 @@ fn failing(search: Search, cells: &[i64], basis: &[i64], o: Move, q: Measure, i:
 }
 
 // A column that does not pass under a move that changes column i, or n where the move improves column i.
-fn blame(search: Search, cells: &[i64], basis: &[i64], o: Move, i: usize) -> usize
+fn blame(search: Search, cells: &[i64], basis: &[i64], o: Move, i: usize, guess: usize) -> usize
     requires { ⌜ Searchable search (now cells) (now basis) × OfBasis (search .view .vectors) o × (i < search .view .columns) ⌝ }
     ensures { λ r. ⌜ Blamed search (now (cells .entry)) (now (basis .entry)) o i r ⌝ }
 {
     let part = search.part;
     let q = measure(part, cell_at(cells, i));
-    failing(search, cells, basis, o, q, i)
+    failing(search, cells, basis, o, q, i, guess)
 }
 
 // The first of the places from `from` on, below b, whose column a move changes; or b. It changes none before `from`.
@@ -99,26 +123,26 @@ fn first_changed(
     k
 }
 
-// The best so far, after one more move, which changes no column before the place `from`. Only the first column that it changes has to be tried.
+// The best so far, after one more move. Only the first column that it changes has to be tried; the column that is told of it may fail there.
 pub(crate) fn consider(
     search: Search,
     cells: &[i64],
     basis: &[i64],
     order: &[usize],
-    o: Move,
-    from: usize,
+    t: Trial,
     z: Best,
 ) -> Best
-    requires { ⌜ Setup search (now cells) (now basis) (now order) × OfBasis (search .view .vectors) o × Still (vectors (search .view) (now basis)) (now order) o from × (z .at ≤ length (now order)) ⌝ }
-    ensures { λ r. ⌜ r ≡ Scans.consider (better search (now (cells .entry)) (now (basis .entry))) (now (order .entry)) o z ⌝ }
+    requires { ⌜ Setup search (now cells) (now basis) (now order) × OfBasis (search .view .vectors) (t .o) × Still (vectors (search .view) (now basis)) (now order) (t .o) (t .from) × (z .at ≤ length (now order)) ⌝ }
+    ensures { λ r. ⌜ r ≡ Scans.consider (better search (now (cells .entry)) (now (basis .entry))) (now (order .entry)) (t .o) z ⌝ }
 {
+    let o = t.o;
     let b = z.at;
-    let k = first_changed(basis, search.view, order, o, from, b);
+    let k = first_changed(basis, search.view, order, o, t.from, b);
     if b <= k {
         return z;
     }
     let i = order[k];
-    if blame(search, cells, basis, o, i) < search.view.columns {
+    if blame(search, cells, basis, o, i, t.column) < search.view.columns {
         return z;
     }
     Best { at: k, o: o }
@@ -137,13 +161,14 @@ fn tried(best: Best, top: usize, plus: usize, minus: usize) -> Tried
     }
 }
 
-// After +Ns and −Ns, and what they tell of the vector. Both change the same columns.
+// After +Ns and −Ns, and what they tell of the vector. Both change the same columns. An old note of the vector says where they may fail again.
 fn both_signs(
     search: Search,
     cells: &[i64],
     basis: &[i64],
     order: &[usize],
     s: usize,
+    old: Note,
     z: Best,
 ) -> Tried
     requires { ⌜ Setup search (now cells) (now basis) (now order) × (s < search .view .vectors) × (z .at ≤ length (now order)) ⌝ }
@@ -162,7 +187,7 @@ fn both_signs(
     }
     let i = order[k];
     let n = search.view.columns;
-    let f = blame(search, cells, basis, plus, i);
+    let f = blame(search, cells, basis, plus, i, old.plus);
     if n <= f {
         return tried(Best { at: k, o: plus }, k, f, 0);
     }
@@ -172,14 +197,14 @@ fn both_signs(
         t: s,
         b: 0,
     };
-    let g = blame(search, cells, basis, minus, i);
+    let g = blame(search, cells, basis, minus, i, old.minus);
     if n <= g {
         return tried(Best { at: k, o: minus }, k, f, g);
     }
     tried(z, k, f, g)
 }
 
-// After all single vectors, each of which is noted. Nothing is better than the first place.
+// After all single vectors, each of which is noted anew. Nothing is better than the first place.
 pub(crate) fn singles(
     search: Search,
     cells: &[i64],
@@ -199,7 +224,8 @@ pub(crate) fn singles(
         if y.at == 0 {
             return y;
         }
-        let d = both_signs(search, cells, basis, order, s, y);
+        let old = old_note(notes, s);
+        let d = both_signs(search, cells, basis, order, s, old, y);
         put_note(notes, s, d.note);
         y = d.best;
         s += 1;

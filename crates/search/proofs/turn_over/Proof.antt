@@ -13,23 +13,27 @@ use Rattle.search.proofs.turn_over.Tie as tie
 -- the part is that of the columns
 reached :
     (c : tie.After-part-of) →
-    let a = c .before .args in
+    let a = c .before .before .args in
     c .part-of .result ≡ partOf (columnsOf (a .view .columns) (a .cells .now)) (valuesOf (a .view .columns) (a .cells .now))
-reached c = let s = c .before in c .part-of .ensures ∙ ap partIf (inside-is (s .args .view .columns) (s .args .cells .now) (s .pre .long))
+reached c = let s = c .before .before in c .part-of .ensures ∙ ap partIf (inside-is (s .args .view .columns) (s .args .cells .now) (s .pre .0 .long))
 
 part-of-requires : tie.Need-part-of-requires
 part-of-requires c κs = search needs
 
 step-of-requires : tie.Need-step-of-requires
-step-of-requires c κs = let s = c .before in s .pre .sound (c .part-of .result) (c .part-of .ensures)
+step-of-requires c κs = let s = c .before .before .before in (s .pre .0 .sound (c .before .part-of .result) (c .before .part-of .ensures), s .pre .1)
+
+same-length : tie.Need-same-length
+same-length c = search needs
 
 returns : tie.Need-returns
 unfolding Steps.nextStep
 returns c =
-    let s = c .before .before in
+    let s = c .before .before .before .before .before .before in
+    let t = c .before .before .before .before in
     let n = s .args .view .columns in
-    let step = c .step-of .ensures ∙ ap (λ (p : Part). Steps.stepOf p (columnsOf n (s .args .cells .now)) (vectors (s .args .view) (s .args .basis .now)) (valuesOf n (s .args .cells .now))) (reached (c .before)) in
-    (λ i. record { part = reached (c .before) i; step = step i })
+    let step = c .before .before .step-of .ensures ∙ ap (λ (p : Part). Steps.stepOf p (columnsOf n (s .args .cells .now)) (vectors (s .args .view) (s .args .basis .now)) (valuesOf n (s .args .cells .now))) (reached t) in
+    (λ i. record { part = reached t i; step = step i })
 
 pub turn-over-spec : {M : Type 1} → statement M
-turn-over-spec = tie.close (tie.spec part-of-requires step-of-requires returns)
+turn-over-spec = tie.close (tie.spec part-of-requires step-of-requires same-length returns)

@@ -39,30 +39,37 @@ returns c =
       all-none (l .inv .2 .room) (c .if1 .taken),
     )
 
+old-note-requires : tie.Need-old-note-requires Inv-loop μ-loop
+old-note-requires c κs = c .before .before .before .before .loop .inv .2 .room
+
 both-signs-requires : tie.Need-both-signs-requires Inv-loop μ-loop
-both-signs-requires c κs = let s = c .before .before .before .before .before .before in (s .pre .0, c .before .before .loop-test .taken, c .before .before .before .loop .inv .1)
+both-signs-requires c κs =
+    let s = c .before .before .before .before .before .before .before .before in
+    (s .pre .0, c .before .before .before .before .loop-test .taken, c .before .before .before .before .before .loop .inv .1)
 
 put-note-requires : tie.Need-put-note-requires Inv-loop μ-loop
-put-note-requires c κs = c .before .before .before .before .before .loop .inv .2 .room
+put-note-requires c κs = c .before .before .before .before .before .before .before .loop .inv .2 .room
 
 add-s : tie.Need-add-s Inv-loop μ-loop
-add-s c = let s = c .before .before .before .before .before .before .before .before .before .before .before .before in omega (arith, c .before .before .before .before .before .before .before .before .loop-test .taken, s .good)
+add-s c =
+    let s = c .before .before .before .before .before .before .before .before .before .before .before .before .before .before in
+    omega (arith, c .before .before .before .before .before .before .before .before .before .before .loop-test .taken, s .good)
 
 loop-less : tie.Need-loop-less Inv-loop μ-loop
-loop-less c = omega (arith, c .before .before .before .before .before .before .before .before .loop-test .taken)
+loop-less c = omega (arith, c .before .before .before .before .before .before .before .before .before .before .loop-test .taken)
 
 loop-again : tie.Need-loop-again Inv-loop μ-loop
 loop-again c =
-    let s = c .before .before .before .before .before .before .before .before .before .before .before .before in
-    let l = c .before .before .before .before .before .before .before .before .before .loop in
+    let s = c .before .before .before .before .before .before .before .before .before .before .before .before .before .before in
+    let l = c .before .before .before .before .before .before .before .before .before .before .before .loop in
     let r = s .args .search .view .vectors in
     let L = s .args .order .now in
     let d = c .before .before .before .before .before .both-signs in
     let low = scan-falls (imp s) L (signs (l .s)) (l .y) (d .result .best) (d .ensures .0) in (
-      omega (arith, c .before .before .before .before .before .before .before .before .loop-test .taken),
+      omega (arith, c .before .before .before .before .before .before .before .before .before .before .loop-test .taken),
       omega (arith, l .inv .1, low),
       subst (AllNoted (s .args .search) (s .args .cells .now) (s .args .basis .now) L (d .result .best .at) (l .s + 1)) (sym (c .before .before .before .put-note .ensures)) (all-more (all-down low (l .inv .2)) (d .ensures .1)),
-      ap (scan (imp s) L (Moves.singles (r - (l .s + 1)) (l .s + 1))) (d .ensures .0) ∙ sym (singles-more (imp s) L r (l .y) (l .s) (c .before .before .before .before .before .before .before .before .loop-test .taken)) ∙ l .inv .3,
+      ap (scan (imp s) L (Moves.singles (r - (l .s + 1)) (l .s + 1))) (d .ensures .0) ∙ sym (singles-more (imp s) L r (l .y) (l .s) (c .before .before .before .before .before .before .before .before .before .before .loop-test .taken)) ∙ l .inv .3,
     )
 
 same-length-2 : tie.Need-same-length-2 Inv-loop μ-loop
@@ -85,6 +92,7 @@ singles-spec =
     loop-holds
     same-length
     returns
+    old-note-requires
     both-signs-requires
     put-note-requires
     add-s
