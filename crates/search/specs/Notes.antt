@@ -4,8 +4,8 @@
 --   noteAt l s          the note of vector s, in a list of three numbers a vector; `putNote` writes it, if there is room, and `oldNote` reads it
 --   tests S l b o i     which columns pass under the move o, tried at column i
 --   Failing n f k       the test f of n columns fails at k, or k is not below n and it fails at none
---   Guessed n f k t     where t is true, k is below n and the test fails at k
 --   Blamed S l b o i k  so do the tests of the move o, tried at column i
+--   Guessed n f k t     where t is true, k is below n and the test f fails at k
 --   Listed n L          the columns of the list L are below n
 --   Still N L o k       the move o changes no column before place k of L
 --   First N L o b k     nor before k, but the one at k, if k is below b
