@@ -16,8 +16,10 @@ HEAD = ["deck", "n × m, r", "answer", "form: ours, at most", "tuned", "FLINT", 
 # The targets that docs/PERFORMANCE.md names.
 MOST_OVER_TUNED = 2
 PARI_COLUMNS = 16
-# What a tuned engine took before on one deck, and FLINT's form beside it: a ratio that any machine can be held to.
-REFERENCE_DECK, REFERENCE_TUNED, REFERENCE_FLINT = "mixed-48-2", 70, 476
+# What a tuned engine took before, and FLINT's form beside it, in microseconds: ratios that any machine can be held to.
+REFERENCE = {"mapped-16-1": (3.5, 37), "mapped-48-1": (43, 614), "mixed-48-2": (70, 476),
+             "paved-48-1": (114, 359), "tied-48-1": (41, 699), "parity-16-1": (2.7, 22),
+             "slow-48-1": (809, 717)}
 SEARCH_DECK = "worst-48-1"
 SEARCH_MICROSECONDS = 1000
 # How many decks a line names where a target is not met.
@@ -127,9 +129,14 @@ def against_solver(results, solver):
 
 
 def against_reference(results):
-    """Our time on the named deck by the reference's, taken over by way of FLINT's form."""
-    ratios = [(r.name, r.ratio("ours", "flint form")) for r in results if r.name == REFERENCE_DECK]
-    return [(name, ratio and ratio * REFERENCE_FLINT / REFERENCE_TUNED) for name, ratio in ratios]
+    """Our time by the reference's on each of its decks, taken over by way of FLINT's form."""
+    ratios = []
+    for result in results:
+        if result.name in REFERENCE:
+            tuned, flint = REFERENCE[result.name]
+            ratio = result.ratio("ours", "flint form")
+            ratios.append((result.name, ratio and ratio * flint / tuned))
+    return ratios
 
 
 def search_target(results):
@@ -153,7 +160,7 @@ def targets(results):
               against_solver(results, "glpk")),
         judge("whole assignment faster than lp_solve, where there are goals",
               against_solver(results, "lpsolve")),
-        judge("whole assignment on mixed 48 within twice 70 µs, where FLINT's form takes 476 µs",
+        judge("whole assignment within twice a tuned engine's time of before, by way of FLINT's form",
               against_reference(results), MOST_OVER_TUNED),
         judge("whole assignment within twice the time of the tuned engine here",
               against(results, "ours", "tuned"), MOST_OVER_TUNED),
