@@ -1,17 +1,18 @@
 -- Laws of signed numbers that the proofs cite. A bound on a signed number is a bound on its `natAbs`. Assumes nothing.
-use mathlib.Core.Path.{_≡_, refl, sym, ap, _∙_, subst}
+use mathlib.Core.Path.{_≡_, refl, ap, _∙_}
 use mathlib.Core.Bool.{Bool, true, false, not}
 use Prim.Native.Nat.{ℕ, zero, suc, _+_, _-_, _*_, _/_, _^_, _≤_, _<_, zero-le}
-use native.Mathlib.Nat.{zero-add, div-le-self, lt-of-le-of-lt, le-refl, le-of-eq, zero-lt-suc}
+use native.Mathlib.Nat.{zero-add, div-le-self, lt-of-le-of-lt, le-refl, zero-lt-suc}
 use native.Mathlib.Omega.{arith}
 use borrow.Author.Tests.{ltb-true, ltb-false, lt-ltb, le-ltb}
-use lib.Dec.{ltb, T, lit<}
+use lib.Dec.{ltb}
 use lib.IntN.{ℤ, pos, negsuc, negℤ, natAbs, _+ℤ_, _-ℤ_, _*ℤ_, subℕ}
-use lib.Signed.{_<ℤ_, _≤ℤ_, ltZ, nonNeg, quotZ, mag}
-use mir.Syntax.{Width, w64}
+use lib.Signed.{ltZ, nonNeg, quotZ, remZ, mag, mag-rem}
+use mir.Syntax.{w64}
 use mir.Val.{toZ, ofZ, SFits}
 use mir.Facts.{toZ-ofZ}
-use Rattle.whole.specs.Quotient.{flip}
+use Rattle.whole.specs.Quotient.{floorQuotient}
+use Rattle.whole.specs.Integers.{Positive, positive}
 
 -- ---- a difference of two naturals, where the test is known
 pub sub-ge : (a b : ℕ) → b ≤ a → subℕ a b ≡ pos (a - b)
@@ -54,7 +55,11 @@ sfits-abs z h = record { sfits = lt-of-le-of-lt (mag-le z) h }
 pub back : (z : ℤ) → mag z < 2 ^ 63 → toZ w64 (ofZ w64 z) ≡ z
 back z h = toZ-ofZ (record { sfits = h })
 
--- ---- −1 − z
+-- ---- −1 − z, the other sign's number at the same place
+abbrev pub flip : ℤ → ℤ
+flip (pos n) = negsuc n
+flip (negsuc n) = pos n
+
 pub flip-is : (z : ℤ) → negsuc 0 -ℤ z ≡ flip z
 flip-is (pos zero) = refl
 flip-is (pos (suc n)) = ap (λ (m : ℕ). negsuc (suc m)) (zero-add n)
@@ -67,18 +72,30 @@ mag-flip (negsuc n) = refl
 pub flip-fits : {z : ℤ} → SFits w64 z → SFits w64 (flip z)
 flip-fits {z} f = record { sfits = rw mag-flip (f .sfits) }
 
--- the machine's division of a number that is not below 0 by one above 0
-pub over : (a p : ℤ) → SFits w64 a → nonNeg a ≡ true → pos 0 <ℤ p → (0 < ofZ w64 p) × SFits w64 (quotZ a p)
-over (pos a) (pos (suc p)) f h k = (zero-lt-suc p, record { sfits = lt-of-le-of-lt (div-le-self a (suc p)) (f .sfits) })
-over (pos a) (pos zero) f h k = absurd (k .lt)
-over (pos a) (negsuc p) f h k = absurd (k .lt)
-over (negsuc a) p f h k = absurd (subst T (sym h) tt)
+-- ---- division by a number above 0
+mag-neg : (r a : ℕ) → r ≤ suc a → mag (negℤ (pos r)) ≤ a
+mag-neg zero a h = zero-le
+mag-neg (suc r) a h = omega arith
+
+mag-quot : {p : ℤ} (a : ℤ) → Positive p → mag (quotZ a p) ≤ mag a
+mag-quot (pos a) (positive k) = div-le-self a (suc k)
+mag-quot (negsuc a) (positive k) = mag-neg (suc a / suc k) a (div-le-self (suc a) (suc k))
+
+-- what the machine's division asks for: a divisor above 0 and a quotient that fits
+pub over : {p : ℤ} (a : ℤ) → SFits w64 a → Positive p → (0 < ofZ w64 p) × SFits w64 (quotZ a p)
+over a f (positive k) = (zero-lt-suc k, record { sfits = lt-of-le-of-lt (mag-quot a (positive k)) (f .sfits) })
+
+pub rem-fits : (a p : ℤ) → SFits w64 a → SFits w64 (remZ a p)
+rem-fits a p f = record { sfits = lt-of-le-of-lt (mag-rem a p) (f .sfits) }
+
+mag-floor : {p : ℤ} (a : ℤ) → Positive p → mag (floorQuotient a p) ≤ mag a
+mag-floor (pos a) (positive k) = div-le-self a (suc k)
+mag-floor (negsuc a) (positive k) = div-le-self a (suc k)
+
+pub floor-fits : {p : ℤ} (a : ℤ) → SFits w64 a → Positive p → SFits w64 (floorQuotient a p)
+floor-fits a f h = record { sfits = lt-of-le-of-lt (mag-floor a h) (f .sfits) }
 
 -- what a test against 0 says of the sign
 pub lt-zero : (z : ℤ) → ltZ z (pos 0) ≡ not (nonNeg z)
 lt-zero (pos n) = le-ltb n 0 zero-le
 lt-zero (negsuc n) = refl
-
-pub flip-sign : (z : ℤ) → nonNeg (flip z) ≡ not (nonNeg z)
-flip-sign (pos n) = refl
-flip-sign (negsuc n) = refl

@@ -8,18 +8,19 @@
 --   Positive p               p is above 0
 --   multiple-..              multiples of a positive number: when they are 0, when two numbers that differ by one are equal
 --   floorQuotient-low, -high what the floor quotient leaves lies in 0 to p − 1
+--   floor-by-machine         the floor quotient is the machine's, which cuts towards 0, less 1 where the remainder is below 0
 --   gatheringQuotient-left   what the gathering quotient leaves has a magnitude below p. Callers use no other law of it
 -- Assumes nothing.
 use mathlib.Core.Path.{_≡_, refl, _∙_, ap}
 use mathlib.Core.Logic.{_↔_}
 use mathlib.Core.Bool.{Bool, true, false, not, cond}
 use Prim.Native.Nat.{ℕ, zero, suc, _+_, _*_, _-_, _<_, _≤_, _/_, _%_}
-use native.Mathlib.Nat.{div-add-mod', mod-lt}
+use native.Mathlib.Nat.{div-add-mod', div-eq-of-lt-le, mod-lt}
 use native.Mathlib.Omega.{arith}
-use borrow.Author.Tests.{eqb-true}
+use borrow.Author.Tests.{eqb-true, le-ltb}
 use lib.Dec.{T, ltb, ltb→lt, nltb→le, leb→le, le→leb, lt→ltb}
-use lib.IntN.{ℤ, pos, negsuc, negℤ, natAbs, subℕ, _+ℤ_, _*ℤ_}
-use lib.Signed.{_≤ℤ_, _<ℤ_}
+use lib.IntN.{ℤ, pos, negsuc, negℤ, natAbs, subℕ, _+ℤ_, _-ℤ_, _*ℤ_}
+use lib.Signed.{_≤ℤ_, _<ℤ_, ltZ, quotZ, remZ}
 use Rattle.whole.specs.Tests.{isZero}
 use Rattle.whole.specs.Quotient.{floorQuotient, gatheringQuotient}
 
@@ -174,6 +175,11 @@ positive-of (suc k) h = positive k
 pub positive-above : {p : ℤ} → Positive p → pos 0 <ℤ p
 positive-above (positive k) = simp diff-rel (omega arith)
 
+pub above-positive : (p : ℤ) → pos 0 <ℤ p → Positive p
+above-positive (pos zero) h = absurd (h .lt)
+above-positive (pos (suc k)) h = positive k
+above-positive (negsuc n) h = absurd (h .lt)
+
 pub positive-nonzero : {p : ℤ} → Positive p → p ≡ pos 0 → ⊥
 positive-nonzero (positive k) = simp diff-rel (omega arith)
 
@@ -216,6 +222,20 @@ floorQuotient-low x h = floor-both x h .0
 
 pub floorQuotient-high : {p : ℤ} (x : ℤ) → Positive p → (x +ℤ negℤ (floorQuotient x p) *ℤ p) <ℤ p
 floorQuotient-high x h = floor-both x h .1
+
+-- −(a + 1) = −(t (k + 1) + r): with no remainder a / (k + 1) is t − 1, and else it is t
+machine-below : (a k t r : ℕ) → t * suc k + r ≡ suc a → r < suc k
+    → negsuc (a / suc k) ≡ cond (ltZ (negℤ (pos r)) (pos 0)) (negℤ (pos t) -ℤ pos 1) (negℤ (pos t))
+machine-below a k zero zero e l = absurd (omega arith)
+machine-below a k (suc t) zero e l = ap negsuc (div-eq-of-lt-le (suc k) (omega arith) (omega arith))
+machine-below a k zero (suc r) e l = ap negsuc (div-eq-of-lt-le (suc k) (omega arith) (omega arith))
+machine-below a k (suc t) (suc r) e l = ap negsuc (div-eq-of-lt-le (suc k) (omega arith) (omega arith))
+
+pub floor-by-machine : {p : ℤ} (e : ℤ) → Positive p
+    → floorQuotient e p ≡ cond (ltZ (remZ e p) (pos 0)) (quotZ e p -ℤ pos 1) (quotZ e p)
+floor-by-machine (pos a) (positive k) = rw (le-ltb (a % suc k) 0 (omega arith))
+floor-by-machine (negsuc a) (positive k) =
+    machine-below a k (suc a / suc k) (suc a % suc k) (div-add-mod' (suc a) (suc k)) (mod-lt (suc a) {m = suc k} (omega arith))
 
 natAbs-below : (x : ℤ) (m : ℕ) → pos 0 ≤ℤ x → x <ℤ pos m → natAbs x < m
 natAbs-below (pos n) m = simp diff-rel (omega arith)

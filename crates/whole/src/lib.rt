@@ -1,9 +1,8 @@
 ghost use mathlib.Core.Path.{_≡_};
-ghost use mathlib.Core.Bool.{true};
 ghost use Prim.Native.Nat.{_<_};
 ghost use lib.IntN.{ℤ, pos, natAbs, negℤ, _+ℤ_, _*ℤ_};
-ghost use lib.Signed.{_<ℤ_, ltZ, quotZ, nonNeg};
-ghost use Rattle.whole.specs.Quotient.{floorQuotient, gatheringQuotient, flip};
+ghost use lib.Signed.{_<ℤ_, ltZ};
+ghost use Rattle.whole.specs.Quotient.{floorQuotient, gatheringQuotient};
 ghost use Rattle.whole.specs.Divisor as Divisor;
 
 // Whether a is below b.
@@ -13,32 +12,14 @@ pub fn less(a: i64, b: i64) -> bool
     a < b
 }
 
-// −1 − z: turns the sign round, and fits also for the least i64.
-fn flipped(z: i64) -> i64
-    ensures { λ r. ⌜ r ≡ flip z ⌝ }
-{
-    -1 - z
-}
-
-// The machine's quotient, of numbers where it cannot cut towards 0.
-fn quotient(a: i64, p: i64) -> i64
-    requires { ⌜ nonNeg a ≡ true ⌝ }
-    requires { ⌜ pos 0 <ℤ p ⌝ }
-    ensures { λ r. ⌜ r ≡ quotZ a p ⌝ }
-{
-    a / p
-}
-
-// The quotient of e by a positive pivot, rounded down.
+// The quotient of e by a positive pivot, rounded down: the machine's, which cuts towards 0, less 1 where the remainder is below 0.
 pub fn floor_quotient(e: i64, p: i64) -> i64
     requires { ⌜ pos 0 <ℤ p ⌝ }
     ensures { λ r. ⌜ r ≡ floorQuotient e p ⌝ }
 {
-    if less(e, 0) {
-        flipped(quotient(flipped(e), p))
-    } else {
-        quotient(e, p)
-    }
+    let q = e / p;
+    let rest = e % p;
+    if rest < 0 { q - 1 } else { q }
 }
 
 // The quotient that gathering takes in the lower rows.

@@ -1,76 +1,66 @@
--- `whole::floor_quotient` meets its contract. Below 0 the machine divides −1 − e, and −1 less that quotient is e's, rounded down. Assumes nothing.
-use mathlib.Core.Path.{_≡_, refl, sym, ap, _∙_, subst}
-use mathlib.Core.Bool.{true, false, not}
-use Prim.Native.Nat.{ℕ}
-use borrow.Author.Needs.{needs}
-use borrow.Author.Tests.{not-true, not-false}
-use lib.Dec.{T}
-use lib.IntN.{ℤ, pos, negsuc}
-use lib.Signed.{_<ℤ_, quotZ, nonNeg, ltZ}
+-- `whole::floor_quotient` meets its contract, by `floor-by-machine`. One less than the machine's quotient fits where it is the rounded-down one.
+-- Assumes nothing.
+use mathlib.Core.Path.{_≡_, sym, ap, _∙_, subst}
+use mathlib.Core.Bool.{Bool, true, false, cond}
+use Prim.Native.Nat.{_<_}
+use lib.IntN.{ℤ, pos, _-ℤ_}
+use lib.Signed.{ltZ, quotZ, remZ}
+use mir.Syntax.{w64}
+use mir.Val.{toZ, ofZ, SFits}
 use mir.Facts.{toZ-ofZ}
-use Rattle.whole.specs.Quotient.{floorQuotient, flip}
-use Rattle.whole.proofs.Signed.{back, lt-zero, flip-sign}
+use Rattle.whole.specs.Quotient.{floorQuotient}
+use Rattle.whole.specs.Integers.{Positive, above-positive, floor-by-machine}
+use Rattle.whole.proofs.Signed.{over, rem-fits, floor-fits}
 use Rattle.whole.proofs.floor_quotient.Statement.{statement}
 use Rattle.whole.proofs.floor_quotient.Tie as tie
 
-down : (e p : ℤ) → ltZ e (pos 0) ≡ true → pos 0 <ℤ p → flip (quotZ (flip e) p) ≡ floorQuotient e p
-down (negsuc e) (pos p) h k = refl
-down (negsuc e) (negsuc p) h k = absurd (k .lt)
-down (pos e) p h k = absurd (subst T (sym h ∙ lt-zero (pos e)) tt)
+-- z as the machine reads it back
+abbrev read : ℤ → ℤ
+read z = toZ w64 (ofZ w64 z)
 
-up : (e p : ℤ) → ltZ e (pos 0) ≡ false → pos 0 <ℤ p → quotZ e p ≡ floorQuotient e p
-up (pos e) (pos p) h k = refl
-up (pos e) (negsuc p) h k = absurd (k .lt)
-up (negsuc e) p h k = absurd (subst T h tt)
+module _ (c : tie.Start) where
+  abbrev e : ℤ
+  e = c .args .e
 
-less-requires : tie.Need-less-requires
-less-requires c κs = search needs
+  abbrev p : ℤ
+  p = c .args .p
 
-flipped-requires : tie.Need-flipped-requires
-flipped-requires c κs = search needs
+  pivot : Positive p
+  pivot = above-positive p (c .pre)
 
-quotient-requires : tie.Need-quotient-requires
-quotient-requires c κs =
-    let s = c .before .before .before in
-    let neg : not (nonNeg (s .args .e)) ≡ true = cc (toZ-ofZ (s .fits .e), lt-zero (s .args .e)) in
-    (cc (back (c .flipped .result) (c .flipped .ok), toZ-ofZ (s .fits .e), flip-sign (s .args .e)), rw (toZ-ofZ (s .fits .p)) (s .pre))
+  divides : (0 < ofZ w64 p) × SFits w64 (quotZ e p)
+  divides = over e (c .fits .e) pivot
 
-flipped-requires-2 : tie.Need-flipped-requires-2
-flipped-requires-2 c κs = search needs
+  quotient : read (quotZ (read e) (read p)) ≡ quotZ e p
+  quotient = cc (toZ-ofZ (c .fits .e), toZ-ofZ (c .fits .p), toZ-ofZ (divides .1))
 
-quotient-requires-2 : tie.Need-quotient-requires-2
-quotient-requires-2 c κs =
-    let s = c .before .before in
-    let low : not (nonNeg (s .args .e)) ≡ false = cc (toZ-ofZ (s .fits .e), lt-zero (s .args .e)) in
-    (rw (toZ-ofZ (s .fits .e)) (not-false _ low), rw (toZ-ofZ (s .fits .p)) (s .pre))
+  remainder : read (remZ (read e) (read p)) ≡ remZ e p
+  remainder = cc (toZ-ofZ (c .fits .e), toZ-ofZ (c .fits .p), toZ-ofZ (rem-fits e p (c .fits .e)))
+
+  -- what the test of the remainder says
+  tested : {b : Bool} → ltZ (read (remZ (read e) (read p))) (pos 0) ≡ b → cond b (quotZ e p -ℤ pos 1) (quotZ e p) ≡ floorQuotient e p
+  tested h = sym (floor-by-machine e pivot ∙ rw (sym remainder, h))
+
+  fits : SFits w64 (floorQuotient e p)
+  fits = floor-fits e (c .fits .e) pivot
+
+one-less : (c : tie.Then1) → read (quotZ (read (e (c .before))) (read (p (c .before)))) -ℤ pos 1 ≡ floorQuotient (e (c .before)) (p (c .before))
+one-less c = ap (λ (q : ℤ). q -ℤ pos 1) (quotient (c .before)) ∙ tested (c .before) (c .if1 .taken)
+
+div-q : tie.Need-div-q
+div-q c = rw (toZ-ofZ (c .fits .e), toZ-ofZ (c .fits .p)) (divides c)
+
+rem-rest : tie.Need-rem-rest
+rem-rest c = rw (toZ-ofZ (c .fits .e), toZ-ofZ (c .fits .p)) (divides c)
 
 returns : tie.Need-returns
-returns c =
-    let s = c .before .before .before .before .before in
-    let neg : ltZ (s .args .e) (pos 0) ≡ true = cc (toZ-ofZ (s .fits .e)) in
-    cc (
-      back (c .flipped2 .result) (c .flipped2 .ok),
-      back (c .before .quotient .result) (c .before .quotient .ok),
-      back (c .before .before .flipped .result) (c .before .before .flipped .ok),
-      toZ-ofZ (s .fits .e),
-      toZ-ofZ (s .fits .p),
-      down (s .args .e) (s .args .p) neg (s .pre),
-    )
+returns c = ap read (one-less c) ∙ toZ-ofZ (fits (c .before))
 
 returns-2 : tie.Need-returns-2
-returns-2 c =
-    let s = c .before .before .before in
-    let low : ltZ (s .args .e) (pos 0) ≡ false = cc (toZ-ofZ (s .fits .e)) in
-    cc (back (c .quotient2 .result) (c .quotient2 .ok), toZ-ofZ (s .fits .e), toZ-ofZ (s .fits .p), up (s .args .e) (s .args .p) low (s .pre))
+returns-2 c = quotient (c .before) ∙ tested (c .before) (c .if1 .left)
+
+sub-result : tie.Need-sub-result
+sub-result c = subst (SFits w64) (sym (one-less c)) (fits (c .before))
 
 pub floor-quotient-spec : {M : Type 1} → statement M
-floor-quotient-spec =
-    tie.close
-    (tie.spec
-    less-requires
-    flipped-requires
-    quotient-requires
-    flipped-requires-2
-    quotient-requires-2
-    returns
-    returns-2)
+floor-quotient-spec = tie.close (tie.spec div-q rem-rest sub-result returns returns-2)
