@@ -1,7 +1,7 @@
 -- `whole::floor_quotient` meets its contract, by `floor-by-machine`. One less than the machine's quotient fits where it is the rounded-down one.
 -- Assumes nothing.
 use mathlib.Core.Path.{_≡_, sym, ap, _∙_, subst}
-use mathlib.Core.Bool.{Bool, true, false, cond}
+use mathlib.Core.Bool.{Bool, cond}
 use Prim.Native.Nat.{_<_}
 use lib.IntN.{ℤ, pos, _-ℤ_}
 use lib.Signed.{ltZ, quotZ, remZ}
