@@ -51,7 +51,7 @@ extern "C" {
 #endif
 
 /* Verdicts: all values in bounds and no move improves; some value out of bounds and no move improves; the step limit reached and some
- * move still improves. */
+ * move still improves. No list of values stands twice while one call settles; it may still take many steps, and the limit is for that. */
 #define KORALIMBU_FITTED 1
 #define KORALIMBU_OUTSIDE 2
 #define KORALIMBU_SPENT 3

@@ -1,11 +1,12 @@
 """The formal definitions against the plain model, on random cases.
 
-    python3 model/against_definitions.py [PROBLEMS TEXTS SEED]
+    python3 model/against_definitions.py [PROBLEMS TEXTS RUNS SEED]
 
 The definitions of crates/*/specs compute. This writes a crate of one equation
 for each case below target/against, with the model's answer on its right side,
 and has the checker compute the left sides: whole assignments and Continue with
-every lent buffer afterwards, and texts with the listing's bytes. Cases are kept
+every lent buffer afterwards, texts with the listing's bytes, and the runs of both
+calls with what falls at a step (document 02, (xiii)). Cases are kept
 small, since the checker computes slowly. The last line is 'N passed, M failed'.
 """
 
@@ -14,7 +15,10 @@ import re
 import shutil
 import subprocess
 import sys
+from fractions import Fraction
 
+import runs
+from engine import basis_of, bring_to_form, fill, ratio, settle
 from generate import problem_case, rng_for, text_case
 from listing import listing
 
@@ -95,6 +99,44 @@ def text_equation(rng):
     return "printed %s ≡ %s" % (naturals(data), naturals(out))
 
 
+def measured(pairs):
+    """Fractions as (top, bottom), largest first; those that do not differ stay in order."""
+    return listed("fraction %d %d" % pair for pair in
+                  sorted(pairs, key=lambda pair: Fraction(*pair), reverse=True))
+
+
+def run_equation(rng):
+    """The lists of a call's run, and what the first step lowers, before and after, as an
+    equation; None where it is too large, refused or without a step."""
+    case = problem_case(rng)
+    problem = case.problem
+    if problem.n * (problem.m + problem.n) > MOST_NUMBERS or problem.limit > 65535:
+        return None
+    limit, problem.limit = min(problem.limit, MOST_STEPS), 0
+    before = "(record { %s })" % buffers(case.lent)
+    if isinstance(case.run()[0], int):
+        return None
+    problem.limit = limit
+    table = fill(problem)
+    lists = []
+    settle(problem, basis_of(table, bring_to_form(table), problem.m), case.lent.values, lists)
+    if len(lists) < 2:
+        return None
+    part = runs.part_of(problem, lists[0])
+    fallen = []
+    for values in lists[:2]:
+        if part == runs.BOUNDS:
+            pairs = [(d, 1) for d in runs.distances(problem, values)]
+        else:
+            pairs = [ratio(goal, v) for goal, v in zip(problem.goals, values) if goal > 0]
+        name = "distances" if part == runs.BOUNDS else "ratios"
+        fallen.append(("sorted below (%s (columns %s) %s)"
+                       % (name, posed(problem), integers(values)), measured(pairs)))
+    return ("(%sRun %s %s ≡ %s) × (%s ≡ %s) × (%s ≡ %s)"
+            % (case.call, posed(problem), before, listed(map(integers, lists)),
+               *fallen[0], *fallen[1]))
+
+
 def some(make, count, seed):
     """The first count cases that are small enough."""
     found = []
@@ -120,9 +162,10 @@ def crates():
 
 
 def needed(names):
-    """The crates that the definitions of a whole run lie in: solve and what it knows."""
+    """The crates that the definitions of a whole run lie in: solve, runs and what they
+    know."""
     lines = dict(names)
-    want, todo = [], ["solve"]
+    want, todo = [], ["solve", "runs"]
     while todo:
         name = todo.pop()
         if name in lines and name not in want:
@@ -154,7 +197,11 @@ use Rattle.problem.specs.Checks.{Posed}
 use Rattle.problem.specs.declared.Counts.{Counts}
 use Rattle.problem.specs.declared.Refusal.the-variants.{%s}
 use Rattle.problem.specs.declared.Answer.the-variants.{Fitted, Outside, Spent, Refused}
-use Rattle.engine.specs.Assign.{Buffers, Done, assign, continue}
+use Rattle.settling.specs.Measures.{fraction, below}
+use Rattle.engine.specs.Assign.{Buffers, Done, columns, assign, continue}
+use Rattle.runs.specs.Sorted.{sorted}
+use Rattle.runs.specs.Runs.{distances, ratios}
+use Rattle.runs.specs.Calls.{assignRun, continueRun}
 use Rattle.solve.specs.Program.{printed}
 """ % ", ".join(REFUSALS)
 
@@ -188,14 +235,16 @@ def write_crate(equations):
     with open(os.path.join(specs, "Cases.antt"), "w", encoding="utf-8") as out:
         out.write(HEAD + uses)
         for number, equation in enumerate(equations, 1):
-            out.write("\ncase%d : %s\nunfolding %s\ncase%d = refl\n"
-                      % (number, equation, " ".join(opened), number))
+            proof = "(refl, refl, refl)" if " × " in equation else "refl"
+            out.write("\ncase%d : %s\nunfolding %s\ncase%d = %s\n"
+                      % (number, equation, " ".join(opened), number, proof))
 
 
 def main(arguments):
-    counts = [int(word) for word in arguments] + [60, 60, 1][len(arguments):]
-    equations = some(problem_equation, counts[0], counts[2])
-    equations += some(text_equation, counts[1], counts[2])
+    counts = [int(word) for word in arguments] + [60, 60, 20, 1][len(arguments):]
+    equations = some(problem_equation, counts[0], counts[3])
+    equations += some(text_equation, counts[1], counts[3])
+    equations += some(run_equation, counts[2], counts[3])
     write_crate(equations)
     run = subprocess.run(["rt", "check", "cases"], cwd=SCRATCH, capture_output=True, text=True)
     log = run.stdout + run.stderr

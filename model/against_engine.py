@@ -1,6 +1,6 @@
 """The proved engine against the plain model, on random calls.
 
-    python3 model/against_engine.py [COUNT SEED]
+    python3 model/against_engine.py [COUNT SEED RUNS]
 
 Builds the crate link as a static library, links that into a shared object below
 target/, and calls koralimbu_assign and koralimbu_continue on the problems of
@@ -8,20 +8,29 @@ generate.py, valid and damaged. The returned number, the report and every buffer
 afterwards must be the model's, the problem's buffers and the numbers on both
 sides of each buffer must be as before, and a report of a wrong length must be
 refused with nothing changed. Step limits beyond 32 bits, which C's type cannot
-hold, are left out. The last line is 'N passed, M failed'.
+hold, are left out.
+
+Then RUNS runs are made list by list: a whole assignment with the step limit 0, and
+Continue with the limit 1 until no step is made. The lists must be those of the
+model's run, falling at each step, with no list twice (document 02, (xiii)).
+
+The last line is 'N passed, M failed'.
 """
 
 import ctypes
 import sys
 
 from boundary import Buffer, Tally, call, declare, load
-from engine import FITTED, OUTSIDE, SPENT, WRONG_LENGTH
-from generate import problem_case, rng_for
+from engine import (FITTED, OUTSIDE, SPENT, WRONG_LENGTH, basis_of, bring_to_form, fill,
+                    settle)
+from generate import Case, problem_case, rng_for
+from runs import faults
 
 VERDICTS = {FITTED: 1, OUTSIDE: 2, SPENT: 3}
 READ = ["coefficients", "rights", "lower", "upper", "goals"]
 FILLED = ["tableau", "values", "strides"]
 NUMBERS = {"strides": ctypes.c_uint64, "report": ctypes.c_uint32}
+MOST_STEPS = 60
 
 
 def engine_functions(library):
@@ -64,8 +73,54 @@ def random_report(rng):
     return [rng.randrange(2 ** 32) for _ in range(length)]
 
 
+def engine_run(functions, case):
+    """The engine's lists: first without a step, then a step at a time; None where the
+    call is refused or makes more than MOST_STEPS steps."""
+    lists = []
+    name, limit = case.call, 0
+    while True:
+        case.problem.limit = limit
+        after = engine_call(functions, Case(name, case.problem, case.lent), [0, 0, 0])
+        if after["number"] != 0 or len(lists) > MOST_STEPS:
+            return None
+        if limit == 1 and after["report"][1:] == [0, 0]:
+            return lists
+        case.lent.values = after["values"]
+        lists.append(after["values"])
+        name, limit = "continue", 1
+
+
+def model_run(case):
+    """The model's lists: what its call leaves without a step, then what stands while
+    that is settled."""
+    problem, lists = case.problem, []
+    problem.limit = 0
+    case.run()
+    table = fill(problem)
+    basis = basis_of(table, bring_to_form(table), problem.m)
+    problem.limit = MOST_STEPS
+    settle(problem, basis, case.lent.values, lists)
+    return lists
+
+
+def compare_runs(tally, functions, count, seed):
+    """The first count runs with a step, of random problems."""
+    number = 0
+    while count > 0:
+        number += 1
+        case = problem_case(rng_for(seed, number))
+        got = engine_run(functions, case) if case.problem.limit < 2 ** 32 else None
+        if got is None or len(got) < 2:
+            continue
+        count -= 1
+        tally.compare("run of case %d of seed %d" % (number, seed),
+                      {"lists": got, "faults": faults(case.problem, got)},
+                      {"lists": model_run(problem_case(rng_for(seed, number))),
+                       "faults": []})
+
+
 def main(arguments):
-    count, seed = [int(word) for word in arguments] + [4000, 1][len(arguments):]
+    count, seed, runs = [int(word) for word in arguments] + [4000, 1, 500][len(arguments):]
     tally = Tally()
     library = load()
     if library is None:
@@ -85,6 +140,7 @@ def main(arguments):
         got = engine_call(functions, case, report)
         tally.compare(what, got, model_call(case, report))
     print("%d left out: a step limit beyond 32 bits" % left_out)
+    compare_runs(tally, functions, runs, seed)
     return tally.end()
 
 

@@ -406,13 +406,16 @@ def goals_step(problem, by_column, values):
     return None
 
 
-def settle(problem, basis, values):
+def settle(problem, basis, values, stood=None):
     """“The limit covers both parts together.” Returns the verdict, the step counts
-    of the two parts and the final values."""
+    of the two parts and the final values. The lists that stand in this run, the first
+    and the one after each step, are added to stood where it is given."""
     by_column = moves_by_column(basis, problem.n)
     values = list(values)
     bounds_count = goals_count = 0
     while True:
+        if stood is not None:
+            stood.append(list(values))
         # “Bounds part, while some distance is above 0”; “Goals part, once all
         # distances are 0”. “Then the ranking is made anew.”
         outside = any(distance(problem, j, value) > 0

@@ -17,6 +17,7 @@ from fractions import Fraction
 import engine
 import generate
 import listing
+import runs
 import text
 from engine import FITTED, M, OUTSIDE, SPENT, Lent, Problem
 
@@ -1139,6 +1140,103 @@ def property_spent_and_continued():
         rest, end = resume(with_limit(problem, 60 - first), halfway.values)
         check("counts add up", (rest[0], part[1] + rest[1], part[2] + rest[2]), whole)
         check("same end", (end.values, end.strides), (lent.values, lent.strides))
+
+
+def run_from(problem, values):
+    """The lists that stand while values are settled, with the answer; None where the
+    form meets refusal 7."""
+    table = engine.fill(problem)
+    try:
+        leads = engine.bring_to_form(table)
+    except engine.Beyond:
+        return None
+    lists = []
+    basis = engine.basis_of(table, leads, problem.m)
+    return lists, engine.settle(problem, basis, values, lists)
+
+
+def far_list(rng, problem, hidden):
+    """A list that satisfies the rows and may lie far outside: the hidden one and some
+    vectors of the basis."""
+    table = engine.fill(problem)
+    try:
+        leads = engine.bring_to_form(table)
+    except engine.Beyond:
+        return hidden
+    values = hidden
+    for vector in engine.basis_of(table, leads, problem.m):
+        times = rng.randint(-9, 9)
+        values = [value + times * entry for value, entry in zip(values, vector)]
+    return values
+
+
+@test
+def property_no_list_twice():
+    """Document 02, (xiii): each step lowers the measures of its part, sorted largest
+    first, and no list stands twice. Weaker-looking claims are counted: the random runs
+    must be telling enough to break them."""
+    steps = {runs.BOUNDS: 0, runs.GOALS: 0}
+    broken = {"the sum of distances falls": 0, "each distance's place falls or stays": 0,
+              "the largest distance falls": 0, "each ratio's place falls or stays": 0}
+    for rng, problem, hidden in random_problems(23, 1500, ORDINARY + [generate.chain_problem]):
+        for values in (hidden, far_list(rng, problem, hidden)):
+            if any(abs(value) > M for value in values):
+                continue
+            done = run_from(problem, values)
+            if done is None:
+                continue
+            lists, (_, bounds_count, goals_count, final) = done
+            check("a run's faults", runs.faults(problem, lists), [])
+            check("a list more than steps", len(lists), bounds_count + goals_count + 1)
+            check("from the first list to the final one", (lists[0], lists[-1]),
+                  (values, final))
+            check("the parts in order", [runs.part_of(problem, old) for old in lists[:-1]],
+                  [runs.BOUNDS] * bounds_count + [runs.GOALS] * goals_count)
+            for old, new in zip(lists, lists[1:]):
+                part = runs.part_of(problem, old)
+                steps[part] += 1
+                measure = runs.distances if part == runs.BOUNDS else runs.ratios
+                before, after = measure(problem, old), measure(problem, new)
+                rises = any(a > b for a, b in zip(after, before))
+                if part == runs.GOALS:
+                    broken["each ratio's place falls or stays"] += rises
+                    continue
+                broken["each distance's place falls or stays"] += rises
+                broken["the sum of distances falls"] += sum(after) >= sum(before)
+                broken["the largest distance falls"] += after[0] == before[0]
+    check("steps of both parts were seen", min(steps.values()) > 500, True)
+    for claim, count in broken.items():
+        check("a run that breaks: " + claim, count > 0, True)
+
+
+@test
+def runs_by_limits():
+    """The list after k steps is what the same call with the step limit k leaves."""
+    for rng, problem, _ in random_problems(24, 150, ORDINARY):
+        problem.limit = 40
+        (outcome, bounds_count, goals_count), lent = solve(problem)
+        if isinstance(outcome, int):
+            continue
+        lists = [solve(with_limit(problem, k))[1].values
+                 for k in range(bounds_count + goals_count + 1)]
+        check("the run by limits", run_from(problem, lists[0])[0], lists)
+        check("its faults", runs.faults(problem, lists), [])
+        check("its end", lists[-1], lent.values)
+
+
+@test
+def faults_are_found():
+    """What faults() must see: a step that lowers nothing, and a list that returns."""
+    problem = make(2, [[1, -1]], [0], [(1, 10), (5, 10)])
+    up, down = [2, 2], [1, 1]
+    check("a fall", runs.faults(problem, [down, up]), [])
+    check("a rise", len(runs.faults(problem, [up, down])), 1)
+    check("nothing changes", len(runs.faults(problem, [up, up])), 2)
+    check("there and back", len(runs.faults(problem, [down, up, down])), 2)
+    wished = make(2, [[3, -2]], [0], (1, 100), [2500, 4000])
+    check("ratios", runs.ratios(wished, [4, 6]), [Fraction(8, 5), Fraction(3, 2)])
+    check("a fall of ratios", runs.faults(wished, [[4, 6], [2, 3]]), [])
+    check("a rise of ratios", len(runs.faults(wished, [[2, 3], [4, 6]])), 1)
 
 
 def restated(rng, problem):

@@ -45,7 +45,7 @@ pub struct Rows<'a> {
 pub struct Problem<'a> {
     pub columns: Columns<'a>,
     pub rows: Rows<'a>,
-    /// The most steps of settling, 0 to 65,535.
+    /// The most steps of settling, 0 to 65,535. No list of values stands twice while one call settles; it may still take many steps.
     pub limit: u32,
 }
 

@@ -7,13 +7,10 @@
 --   blocked            one that does not improve a column that it changes improves none that is not larger
 -- Assumes nothing.
 use mathlib.Core.Path.{_≡_, refl, sym, _∙_, ap, ap₂}
-use mathlib.Core.Logic.{_⊎_, ⊎-elim}
 use mathlib.Core.Bool.{Bool, true, false, not, _&&_, _||_, false≢true, true≢false}
 use mathlib.Core.List.{List}
-use Prim.Native.Nat.{ℕ, zero, suc, _*_, _<_, _≤_}
-use native.Mathlib.Nat.{eq-or-lt-of-le, mul-le-mul-right, mul-lt-mul-of-pos-right, le-of-mul-le-mul-right, lt-of-mul-lt-mul-right}
+use Prim.Native.Nat.{ℕ, _<_}
 use native.Mathlib.Omega.{arith}
-use borrow.Author.Tests.{lt-ltb, le-ltb, ltb-true, ltb-false}
 use lib.IntN.{ℤ}
 use Rattle.whole.specs.Counted.{every-at, every-all}
 use Rattle.whole.specs.Tests.{isZero, every}
@@ -24,7 +21,7 @@ use Rattle.settling.specs.Columns.{Columns}
 use Rattle.settling.specs.Moves.{changes}
 use Rattle.settling.specs.Measures.{below, measure}
 use Rattle.settling.specs.Steps.{isCompared, isAllowed, passes, measureAt, largerAt, passesAt, improves}
-use Rattle.search.specs.Rankings.{Weak}
+use Rattle.settling.proofs.Orders.{Weak, under-past, below-weak}
 
 -- ---- every
 pub and-true : (a b : Bool) → a && b ≡ true → (a ≡ true) × (b ≡ true)
@@ -39,40 +36,23 @@ every-not n f j h e = go (every n f) refl
     go false g = g
 
 -- ---- measures with a bottom above 0 are ordered as fractions
-below-past : (p q r : Measure) → 0 < q .bottom → below q p ≡ false → below r q ≡ false → below r p ≡ false
-below-past p q r h a b =
-    let x : p .top * q .bottom ≤ q .top * p .bottom = ltb-false (q .top * p .bottom) (p .top * q .bottom) a in
-    let y : q .top * r .bottom ≤ r .top * q .bottom = ltb-false (r .top * q .bottom) (q .top * r .bottom) b in
-    let z : p .top * r .bottom * q .bottom ≤ r .top * p .bottom * q .bottom = omega (arith, mul-le-mul-right (r .bottom) x, mul-le-mul-right (p .bottom) y) in
-    le-ltb (r .top * p .bottom) (p .top * r .bottom) (le-of-mul-le-mul-right z h)
-
-below-up : (x q r : Measure) → 0 < q .bottom → 0 < r .bottom → below x q ≡ true → below r q ≡ false → below x r ≡ true
-below-up x q r h k a b =
-    let y : x .top * q .bottom < q .top * x .bottom = ltb-true (x .top * q .bottom) (q .top * x .bottom) a in
-    let z : q .top * r .bottom ≤ r .top * q .bottom = ltb-false (r .top * q .bottom) (q .top * r .bottom) b in
-    let w : x .top * r .bottom * q .bottom < r .top * x .bottom * q .bottom = omega (arith, mul-lt-mul-of-pos-right {k = r .bottom} y k, mul-le-mul-right (x .bottom) z) in
-    lt-ltb (x .top * r .bottom) (r .top * x .bottom) (lt-of-mul-lt-mul-right (q .bottom) w)
-
-below-asym : (p q : Measure) → below q p ≡ true → below p q ≡ false
-below-asym p q a = le-ltb (p .top * q .bottom) (q .top * p .bottom) (omega (arith, ltb-true (q .top * p .bottom) (p .top * q .bottom) a))
-
 abbrev pub Proper : Part → Columns → List ℤ → ℕ → Type 0
 Proper p C v j = 0 < measureAt p C v j .bottom
 
 pub weak : (p : Part) (C : Columns) (v : List ℤ) → Weak (Proper p C v) (largerAt p C v)
 weak p C v = record {
-  asym = λ i j a b e. below-asym (measureAt p C v i) (measureAt p C v j) e;
-  past = λ i j k a b c e f. below-past (measureAt p C v i) (measureAt p C v j) (measureAt p C v k) b e f;
+  asym = λ i j e. below-weak .asym (measureAt p C v j) (measureAt p C v i) e;
+  past = λ i j k b e f. below-weak .past (measureAt p C v k) (measureAt p C v j) (measureAt p C v i) (omega (arith, b)) f e;
 }
 
 -- ---- a move that improves i improves each higher column that it changes
-passes-up : (p : Part) (lo hi g y e : ℤ) (q r : Measure) → 0 < q .bottom → 0 < r .bottom → below r q ≡ false → passes p lo hi g y e q ≡ true → passes p lo hi g y e r ≡ true
+passes-up : (p : Part) (lo hi g y e : ℤ) (q r : Measure) → 0 < r .bottom → below r q ≡ false → passes p lo hi g y e q ≡ true → passes p lo hi g y e r ≡ true
 unfolding passes
-passes-up p lo hi g y e q r h k b f = go (isAllowed p lo hi y) (not (not (isZero e) && isCompared p g)) (below (measure p lo hi g y) q) refl f
+passes-up p lo hi g y e q r k b f = go (isAllowed p lo hi y) (not (not (isZero e) && isCompared p g)) (below (measure p lo hi g y) q) refl f
   where
     go : (a c d : Bool) → below (measure p lo hi g y) q ≡ d → a && (c || d) ≡ true → a && (c || below (measure p lo hi g y) r) ≡ true
     go true true d x f = refl
-    go true false true x f = below-up (measure p lo hi g y) q r h k x b
+    go true false true x f = under-past below-weak (measure p lo hi g y) q r (omega (arith, k)) x b
     go true false false x f = absurd (false≢true f)
     go false c d x f = absurd (false≢true f)
 
@@ -84,7 +64,7 @@ module _ (p : Part) (C : Columns) (N : List (List ℤ)) (v : List ℤ) where
       let x = and-true (changes N o i) (every (C .count) (passesAt p C N v o (measureAt p C v i))) e in
       ap₂ _&&_ c
       (every-all (C .count) (passesAt p C N v o (measureAt p C v j))
-      (λ k h. passes-up p _ _ _ _ _ (measureAt p C v i) (measureAt p C v j) a b l (every-at (C .count) (passesAt p C N v o (measureAt p C v i)) k (x .1) h)))
+      (λ k h. passes-up p _ _ _ _ _ (measureAt p C v i) (measureAt p C v j) b l (every-at (C .count) (passesAt p C N v o (measureAt p C v i)) k (x .1) h)))
 
   pub unchanged : (o : Move) (i : ℕ) → changes N o i ≡ false → improves p C N v o i ≡ false
   unfolding improves

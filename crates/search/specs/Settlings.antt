@@ -1,14 +1,13 @@
 -- Settling, a step at a time.
---   Listed o R             the move o is one of the list R
 --   listed-..              a listed move is of the basis
---   step-good              a step's move is listed, and improves the column that it names
+--   step-good              a step's move is of the basis, and leaves allowed values
 --   taken-ready            after a step the lists are ready for the next one: its values lie within ±M
 --   settle-rest, -spent, -on   settling with g steps left, by what the next step is
 --   counted-sum            the counts and the steps left stay within the limit
 -- Assumes nothing.
 use mathlib.Core.Path.{_≡_, refl, sym, _∙_, ap, subst}
 use mathlib.Core.Logic.{_⊎_, inl, inr, ⊎-elim}
-use mathlib.Core.Bool.{Bool, true, false, cond}
+use mathlib.Core.Bool.{true}
 use mathlib.Core.List.{List, [], _∷_, _++_}
 use Prim.Native.Nat.{ℕ, zero, suc, _+_, _-_, _<_, _≤_}
 use native.Mathlib.Omega.{arith}
@@ -31,19 +30,16 @@ use Rattle.settling.specs.Columns.{Columns}
 use Rattle.settling.specs.Parts.{lt-or-ge}
 use Rattle.settling.specs.Measures.{distance}
 use Rattle.settling.specs.Moves.{pair, signPairs, singles, pairsWith, pairs, moves, changes, moved}
-use Rattle.settling.specs.Steps.{partOf, isAllowed, passes, passesAt, measureAt, improves, orElse, firstMove, firstColumn, ranking, stepAt, stepOf, nextStep}
+use Rattle.settling.specs.Steps.{partOf, isAllowed, passes, passesAt, measureAt, improves, nextStep}
 use Rattle.settling.specs.Settle.{ended, atRest, counted, onStep, settleFrom}
 use Rattle.settling.specs.Sizes.{inside-small}
 use Rattle.settling.specs.Views.{vectors, OfBasis, rows-length, moved-length}
 use Rattle.settling.specs.Ready.{cols, Ready}
+use Rattle.settling.proofs.Stepping.{Listed, next-taken}
 use Rattle.search.specs.Blocking.{and-true}
 use Rattle.search.specs.Scans.{signs}
 
 -- ---- the moves
-abbrev Listed : Move → List Move → Type 0
-Listed o [] = ⊥
-Listed o (x ∷ R) = (o ≡ x) ⊎ Listed o R
-
 abbrev AllOf : ℕ → List Move → Type 0
 AllOf r R = (o : Move) → Listed o R → OfBasis r o
 
@@ -97,41 +93,15 @@ unfolding moves
 listed-moves r = all-append r (singles r 0) (pairs r 0) (listed-singles r r 0 (omega arith)) (listed-all r r 0 (omega arith))
 
 -- ---- a step's move
-not-take : {i : ℕ} {o : Move} → Rest ≡ Take i o → ⊥
-not-take {i} {o} e = let z : _≡_ {A = ℕ} 0 1 = cc in omega arith
-
-same-move : {i j : ℕ} {o u : Move} → Take i o ≡ Take j u → u ≡ o
-same-move {i} {j} {o} {u} e = cc
-
-first-good : (good : Move → Bool) (j i : ℕ) (o : Move) (R : List Move) → firstMove good j R ≡ Take i o → (good o ≡ true) × Listed o R
-unfolding firstMove
-first-good good j i o [] e = absurd (not-take e)
-first-good good j i o (u ∷ R) e = go (good u) refl e (first-good good j i o R)
-  where
-    go : (b : Bool) → good u ≡ b → cond b (Take j u) (firstMove good j R) ≡ Take i o → (firstMove good j R ≡ Take i o → (good o ≡ true) × Listed o R) → (good o ≡ true) × Listed o (u ∷ R)
-    go true g e ih = (ap good (same-move e) ∙ g, inl (same-move e))
-    go false g e ih = (ih e .0, inr (ih e .1))
-
-some-column : (f : ℕ → Step) (i : ℕ) (o : Move) (L : List ℕ) → firstColumn f L ≡ Take i o → (j : ℕ) × (f j ≡ Take i o)
-unfolding firstColumn
-some-column f i o [] e = absurd (not-take e)
-some-column f i o (j ∷ L) e = go (f j) refl e (some-column f i o L)
-  where
-    go : (z : Step) → f j ≡ z → orElse z (firstColumn f L) ≡ Take i o → (firstColumn f L ≡ Take i o → (j : ℕ) × (f j ≡ Take i o)) → (j : ℕ) × (f j ≡ Take i o)
-    go Rest g e ih = ih e
-    go (Take k u) g e ih = (j, g ∙ e)
-
--- it is of the basis, and leaves allowed values
 step-good : (C : Columns) (N : List (List ℤ)) (v : List ℤ) (i : ℕ) (o : Move) → nextStep C N v ≡ Take i o
     → OfBasis (length N) o × ((j : ℕ) → j < C .count → isAllowed (partOf C v) (entry j (C .lower)) (entry j (C .upper)) (entry j (moved N o v)) ≡ true)
-unfolding nextStep stepOf stepAt improves passes
+unfolding improves passes
 step-good C N v i o e =
     let p = partOf C v in
-    let j = some-column (stepAt p C N v) i o (ranking p C v) e in
-    let m = first-good (λ u. improves p C N v u (j .0)) (j .0) i o (moves (length N)) (j .1) in
-    let all = and-true (changes N o (j .0)) (every (C .count) (passesAt p C N v o (measureAt p C v (j .0)))) (m .0) .1 in (
-      listed-moves (length N) o (m .1),
-      λ k h. and-true _ _ (every-at (C .count) (passesAt p C N v o (measureAt p C v (j .0))) k all h) .0,
+    let t = next-taken C N v i o e in
+    let all = and-true (changes N o i) (every (C .count) (passesAt p C N v o (measureAt p C v i))) (t .good) .1 in (
+      listed-moves (length N) o (t .listed),
+      λ k h. and-true _ _ (every-at (C .count) (passesAt p C N v o (measureAt p C v i)) k all h) .0,
     )
 
 -- ---- the values stay within ±M

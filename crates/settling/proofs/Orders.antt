@@ -1,0 +1,74 @@
+-- Strict weak orders, and that fractions are in one.
+--   Weak Proper lt      lt is a strict weak order, in which the proper elements may stand between any two
+--   self                nothing is below itself
+--   under-past          what is below y, where z is not below y, is below z
+--   alike               elements that do not differ compare alike
+--   back                the order read from the other side is one too; so `past-under` what y is not below, where y is below z, is below z
+--   Determinate q       the fraction q is not 0/0
+--   below-weak          `below`, by cross products, is such an order, in which those may stand between any two
+-- Assumes nothing.
+use mathlib.Core.Path.{_≡_, refl, sym, _∙_}
+use mathlib.Core.Bool.{Bool, true, false, true≢false}
+use Prim.Native.Nat.{ℕ, zero, suc, _+_, _*_, _<_, _≤_}
+use native.Mathlib.Nat.{mul-le-mul-right, le-of-mul-le-mul-right}
+use native.Mathlib.Omega.{arith}
+use borrow.Author.Tests.{le-ltb, ltb-true, ltb-false}
+use Rattle.settling.specs.declared.Measure.{Measure}
+use Rattle.settling.specs.Measures.{below}
+
+pub record Weak {A : Type 0} (Proper : A → Type 0) (lt : A → A → Bool) : Type 0 where
+  pub asym : (x y : A) → lt x y ≡ true → lt y x ≡ false
+  pub past : (x y z : A) → Proper y → lt x y ≡ false → lt y z ≡ false → lt x z ≡ false
+
+module _ {A : Type 0} {Proper : A → Type 0} {lt : A → A → Bool} (w : Weak Proper lt) where
+  pub self : (x : A) → lt x x ≡ false
+  self x = go (lt x x) refl
+    where
+      go : (t : Bool) → lt x x ≡ t → lt x x ≡ false
+      go true e = w .asym x x e
+      go false e = e
+
+  pub under-past : (x y z : A) → Proper z → lt x y ≡ true → lt z y ≡ false → lt x z ≡ true
+  under-past x y z p e f = go (lt x z) refl
+    where
+      go : (t : Bool) → lt x z ≡ t → lt x z ≡ true
+      go true g = g
+      go false g = absurd (true≢false (sym e ∙ w .past x z y p g f))
+
+  pub alike : (x y z : A) → Proper x → Proper y → lt x y ≡ false → lt y x ≡ false → lt x z ≡ lt y z
+  alike x y z p q e f = go (lt x z) (lt y z) refl refl
+    where
+      go : (a b : Bool) → lt x z ≡ a → lt y z ≡ b → lt x z ≡ lt y z
+      go true true g h = g ∙ sym h
+      go true false g h = absurd (true≢false (sym g ∙ w .past x y z q e h))
+      go false true g h = absurd (true≢false (sym h ∙ w .past y x z p f g))
+      go false false g h = g ∙ sym h
+
+module _ {A : Type 0} {Proper : A → Type 0} {lt : A → A → Bool} (w : Weak Proper lt) where
+  pub back : Weak Proper (λ x y. lt y x)
+  back = record { asym = λ x y e. w .asym y x e; past = λ x y z p e f. w .past z y x p f e }
+
+  pub past-under : (x y z : A) → Proper x → lt y x ≡ false → lt y z ≡ true → lt x z ≡ true
+  past-under x y z p e f = under-past back z y x p f e
+
+-- ---- fractions
+abbrev pub Determinate : Measure → Type 0
+Determinate q = 0 < q .top + q .bottom
+
+-- a/b at least c/d, c/d at least e/f: a/b is at least e/f
+products : (a b c d e f : ℕ) → 0 < c + d → c * b ≤ a * d → e * d ≤ c * f → e * b ≤ a * f
+products a zero c zero e f h x y = omega arith
+products a (suc b) zero zero e f h x y = absurd (omega arith)
+products a (suc b) (suc c) zero e f h x y = absurd (omega arith)
+products a b c (suc d) e f h x y =
+    let z : e * b * suc d ≤ a * f * suc d = omega (arith, mul-le-mul-right f x, mul-le-mul-right b y) in
+    le-of-mul-le-mul-right z (omega arith)
+
+pub below-weak : Weak Determinate below
+below-weak = record {
+  asym = λ x y e. le-ltb (y .top * x .bottom) (x .top * y .bottom) (omega (arith, ltb-true (x .top * y .bottom) (y .top * x .bottom) e));
+  past = λ x y z h e f.
+      le-ltb (x .top * z .bottom) (z .top * x .bottom)
+      (products (x .top) (x .bottom) (y .top) (y .bottom) (z .top) (z .bottom) h
+      (ltb-false (x .top * y .bottom) (y .top * x .bottom) e) (ltb-false (y .top * z .bottom) (z .top * y .bottom) f));
+}

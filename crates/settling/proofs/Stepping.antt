@@ -1,0 +1,77 @@
+-- What a step is.
+--   Listed o R           the move o is one of the list R
+--   Taken part ..        column i is ranked, and o is a move of the basis that improves it
+--   step-taken           what is taken as a step is so; `next-taken` of the next step
+-- Assumes nothing.
+use mathlib.Core.Path.{_≡_, refl, _∙_, ap, subst}
+use mathlib.Core.Logic.{_⊎_, inl, inr}
+use mathlib.Core.Bool.{Bool, true, false, cond}
+use mathlib.Core.List.{List, [], _∷_}
+use Prim.Native.Nat.{ℕ, _<_}
+use native.Mathlib.Omega.{arith}
+use lib.IntN.{ℤ}
+use lib.ListN.{length}
+use Rattle.settling.specs.declared.Move.{Move}
+use Rattle.settling.specs.declared.Part.{Part}
+use Rattle.settling.specs.declared.Step.{Step}
+use Rattle.settling.specs.declared.Step.the-variants.{Rest, Take}
+use Rattle.settling.specs.Columns.{Columns}
+use Rattle.settling.specs.Moves.{moves}
+use Rattle.settling.specs.Steps.{partOf, rankedAt, largerAt, improves, ranking, orElse, firstMove, firstColumn, stepAt, stepOf, nextStep}
+use Rattle.settling.proofs.Insertion.{Each, each-ranked}
+
+abbrev pub Listed : Move → List Move → Type 0
+Listed o [] = ⊥
+Listed o (x ∷ R) = (o ≡ x) ⊎ Listed o R
+
+pub record Taken (p : Part) (C : Columns) (N : List (List ℤ)) (v : List ℤ) (i : ℕ) (o : Move) : Type 0 where
+  pub inside : i < C .count
+  pub ranked : rankedAt p C v i ≡ true
+  pub listed : Listed o (moves (length N))
+  pub good : improves p C N v o i ≡ true
+
+not-take : {i : ℕ} {o : Move} → Rest ≡ Take i o → ⊥
+not-take {i} {o} e = let z : _≡_ {A = ℕ} 0 1 = cc in omega arith
+
+same-column : {i j : ℕ} {o u : Move} → Take i o ≡ Take j u → i ≡ j
+same-column {i} {j} {o} {u} e = cc
+
+same-move : {i j : ℕ} {o u : Move} → Take i o ≡ Take j u → u ≡ o
+same-move {i} {j} {o} {u} e = cc
+
+first-move : (good : Move → Bool) (j i : ℕ) (o : Move) (R : List Move) → firstMove good j R ≡ Take i o → (j ≡ i) × (good o ≡ true) × Listed o R
+unfolding firstMove
+first-move good j i o [] e = absurd (not-take e)
+first-move good j i o (u ∷ R) e = go (good u) refl e (first-move good j i o R)
+  where
+    go : (b : Bool) → good u ≡ b → cond b (Take j u) (firstMove good j R) ≡ Take i o
+        → (firstMove good j R ≡ Take i o → (j ≡ i) × (good o ≡ true) × Listed o R) → (j ≡ i) × (good o ≡ true) × Listed o (u ∷ R)
+    go true g e ih = (same-column e, ap good (same-move e) ∙ g, inl (same-move e))
+    go false g e ih = (ih e .0, ih e .1, inr (ih e .2))
+
+first-column : (Q : ℕ → Type 0) (f : ℕ → Step) (i : ℕ) (o : Move) (L : List ℕ) → Each Q L → firstColumn f L ≡ Take i o
+    → (j : ℕ) × Q j × (f j ≡ Take i o)
+unfolding firstColumn
+first-column Q f i o [] a e = absurd (not-take e)
+first-column Q f i o (j ∷ L) a e = go (f j) refl e (first-column Q f i o L (a .1))
+  where
+    go : (z : Step) → f j ≡ z → orElse z (firstColumn f L) ≡ Take i o → (firstColumn f L ≡ Take i o → (c : ℕ) × Q c × (f c ≡ Take i o))
+        → (c : ℕ) × Q c × (f c ≡ Take i o)
+    go Rest g e ih = ih e
+    go (Take k u) g e ih = (j, a .0, g ∙ e)
+
+module _ (p : Part) (C : Columns) (N : List (List ℤ)) (v : List ℤ) where
+  pub step-taken : (i : ℕ) (o : Move) → stepOf p C N v ≡ Take i o → Taken p C N v i o
+  unfolding stepOf stepAt
+  step-taken i o e =
+      let c = first-column Ranked (stepAt p C N v) i o (ranking p C v)
+      (each-ranked Ranked (rankedAt p C v) (largerAt p C v) (C .count) 0 (λ j l h r. (omega arith, r))) e in
+      let m = first-move (λ u. improves p C N v u (c .0)) (c .0) i o (moves (length N)) (c .2) in
+      subst (λ (j : ℕ). Taken p C N v j o) (m .0) (record { inside = c .1 .0; ranked = c .1 .1; listed = m .2; good = m .1 })
+    where
+      Ranked : ℕ → Type 0
+      Ranked j = (j < C .count) × (rankedAt p C v j ≡ true)
+
+pub next-taken : (C : Columns) (N : List (List ℤ)) (v : List ℤ) (i : ℕ) (o : Move) → nextStep C N v ≡ Take i o → Taken (partOf C v) C N v i o
+unfolding nextStep
+next-taken C N v i o e = step-taken (partOf C v) C N v i o e

@@ -1,0 +1,54 @@
+"""Document 02, (xiii), in the plain model: “No assignment comes twice.”
+
+A run is the lists that stand while a call settles: the first, then the list after
+each step. faults(problem, lists) tells what a run breaks of the request's words.
+Ratios are Python's fractions, so that they are compared exactly.
+"""
+
+from fractions import Fraction
+
+from engine import distance, ratio
+
+BOUNDS = "bounds"
+GOALS = "goals"
+
+
+def part_of(problem, values):
+    """“Bounds part, while some distance is above 0”; “Goals part, once all distances
+    are 0”."""
+    outside = any(distance(problem, j, value) > 0 for j, value in enumerate(values))
+    return BOUNDS if outside else GOALS
+
+
+def distances(problem, values):
+    """“the list of distances, sorted largest first”: of all columns."""
+    return sorted((distance(problem, j, value) for j, value in enumerate(values)),
+                  reverse=True)
+
+
+def ratios(problem, values):
+    """“the same for ratios”: of the columns with a goal."""
+    return sorted((Fraction(*ratio(goal, value))
+                   for goal, value in zip(problem.goals, values) if goal > 0),
+                  reverse=True)
+
+
+def is_lower(new, old):
+    """“lower at the first place where it differs”."""
+    for a, b in zip(new, old):
+        if a != b:
+            return a < b
+    return False
+
+
+def faults(problem, lists):
+    """What a run breaks: none, it must be."""
+    found = []
+    for place, (old, new) in enumerate(zip(lists, lists[1:])):
+        part = part_of(problem, old)
+        measure = distances if part == BOUNDS else ratios
+        if not is_lower(measure(problem, new), measure(problem, old)):
+            found.append("step %d does not lower its part, %s" % (place + 1, part))
+    if len(set(map(tuple, lists))) != len(lists):
+        found.append("a list stands twice")
+    return found
