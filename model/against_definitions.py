@@ -18,7 +18,7 @@ import sys
 from fractions import Fraction
 
 import runs
-from engine import basis_of, bring_to_form, fill, ratio, settle
+from engine import ratio
 from generate import problem_case, rng_for, text_case
 from listing import listing
 
@@ -106,7 +106,7 @@ def measured(pairs):
 
 
 def run_equation(rng):
-    """The lists of a call's run, and what the first step lowers, before and after, as an
+    """The lists of a call's run, and what the last step lowers, before and after, as an
     equation; None where it is too large, refused or without a step."""
     case = problem_case(rng)
     problem = case.problem
@@ -117,14 +117,12 @@ def run_equation(rng):
     if isinstance(case.run()[0], int):
         return None
     problem.limit = limit
-    table = fill(problem)
-    lists = []
-    settle(problem, basis_of(table, bring_to_form(table), problem.m), case.lent.values, lists)
+    lists, _ = runs.run_from(problem, case.lent.values)
     if len(lists) < 2:
         return None
-    part = runs.part_of(problem, lists[0])
+    part = runs.part_of(problem, lists[-2])
     fallen = []
-    for values in lists[:2]:
+    for values in lists[-2:]:
         if part == runs.BOUNDS:
             pairs = [(d, 1) for d in runs.distances(problem, values)]
         else:

@@ -21,10 +21,9 @@ import ctypes
 import sys
 
 from boundary import Buffer, Tally, call, declare, load
-from engine import (FITTED, OUTSIDE, SPENT, WRONG_LENGTH, basis_of, bring_to_form, fill,
-                    settle)
+from engine import FITTED, OUTSIDE, SPENT, WRONG_LENGTH
 from generate import Case, problem_case, rng_for
-from runs import faults
+from runs import faults, run_from
 
 VERDICTS = {FITTED: 1, OUTSIDE: 2, SPENT: 3}
 READ = ["coefficients", "rights", "lower", "upper", "goals"]
@@ -93,14 +92,10 @@ def engine_run(functions, case):
 def model_run(case):
     """The model's lists: what its call leaves without a step, then what stands while
     that is settled."""
-    problem, lists = case.problem, []
-    problem.limit = 0
+    case.problem.limit = 0
     case.run()
-    table = fill(problem)
-    basis = basis_of(table, bring_to_form(table), problem.m)
-    problem.limit = MOST_STEPS
-    settle(problem, basis, case.lent.values, lists)
-    return lists
+    case.problem.limit = MOST_STEPS
+    return run_from(case.problem, case.lent.values)[0]
 
 
 def compare_runs(tally, functions, count, seed):

@@ -1,16 +1,26 @@
 """Document 02, (xiii), in the plain model: “No assignment comes twice.”
 
 A run is the lists that stand while a call settles: the first, then the list after
-each step. faults(problem, lists) tells what a run breaks of the request's words.
-Ratios are Python's fractions, so that they are compared exactly.
+each step. run_from(problem, values) makes one, faults(problem, lists) tells what a run
+breaks of the request's words. Ratios are Python's fractions, compared exactly.
 """
 
 from fractions import Fraction
 
-from engine import distance, ratio
+from engine import basis_of, bring_to_form, distance, fill, ratio, settle
 
 BOUNDS = "bounds"
 GOALS = "goals"
+
+
+def run_from(problem, values):
+    """The lists that stand while values are settled, and what settling returns. Where
+    the form meets refusal 7, this raises engine.Beyond."""
+    table = fill(problem)
+    basis = basis_of(table, bring_to_form(table), problem.m)
+    lists = []
+    answer = settle(problem, basis, values, lists)
+    return lists, answer
 
 
 def part_of(problem, values):

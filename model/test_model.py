@@ -1142,71 +1142,61 @@ def property_spent_and_continued():
         check("same end", (end.values, end.strides), (lent.values, lent.strides))
 
 
-def run_from(problem, values):
-    """The lists that stand while values are settled, with the answer; None where the
-    form meets refusal 7."""
-    table = engine.fill(problem)
-    try:
-        leads = engine.bring_to_form(table)
-    except engine.Beyond:
-        return None
-    lists = []
-    basis = engine.basis_of(table, leads, problem.m)
-    return lists, engine.settle(problem, basis, values, lists)
-
-
 def far_list(rng, problem, hidden):
     """A list that satisfies the rows and may lie far outside: the hidden one and some
-    vectors of the basis."""
+    vectors of the basis. Where the form meets refusal 7, this raises engine.Beyond."""
     table = engine.fill(problem)
-    try:
-        leads = engine.bring_to_form(table)
-    except engine.Beyond:
-        return hidden
     values = hidden
-    for vector in engine.basis_of(table, leads, problem.m):
+    for vector in engine.basis_of(table, engine.bring_to_form(table), problem.m):
         times = rng.randint(-9, 9)
         values = [value + times * entry for value, entry in zip(values, vector)]
     return values
 
 
+def random_runs(seed, count):
+    """Runs from the hidden list and from a far one: the problem, the first list, the
+    lists and what settling returns."""
+    families = ORDINARY + [generate.chain_problem]
+    for rng, problem, hidden in random_problems(seed, count, families):
+        try:
+            firsts = [hidden, far_list(rng, problem, hidden)]
+        except engine.Beyond:
+            continue
+        for values in firsts:
+            if all(abs(value) <= M for value in values):
+                yield (problem, values) + runs.run_from(problem, values)
+
+
 @test
 def property_no_list_twice():
     """Document 02, (xiii): each step lowers the measures of its part, sorted largest
-    first, and no list stands twice. Weaker-looking claims are counted: the random runs
-    must be telling enough to break them."""
-    steps = {runs.BOUNDS: 0, runs.GOALS: 0}
-    broken = {"the sum of distances falls": 0, "each distance's place falls or stays": 0,
-              "the largest distance falls": 0, "each ratio's place falls or stays": 0}
-    for rng, problem, hidden in random_problems(23, 1500, ORDINARY + [generate.chain_problem]):
-        for values in (hidden, far_list(rng, problem, hidden)):
-            if any(abs(value) > M for value in values):
+    first, and no list stands twice."""
+    for problem, values, lists, answer in random_runs(23, 1500):
+        _, bounds_count, goals_count, final = answer
+        check("a run's faults", runs.faults(problem, lists), [])
+        check("a list more than steps", len(lists), bounds_count + goals_count + 1)
+        check("from the first list to the final one", (lists[0], lists[-1]), (values, final))
+        check("the parts in order", [runs.part_of(problem, old) for old in lists[:-1]],
+              [runs.BOUNDS] * bounds_count + [runs.GOALS] * goals_count)
+
+
+@test
+def runs_break_stronger_claims():
+    """The random runs are telling: claims that say more than the request are broken."""
+    broken = dict.fromkeys(["the sum of distances falls", "the largest distance falls",
+                            "no distance's place rises", "no ratio's place rises"], 0)
+    for problem, _, lists, _ in random_runs(23, 1500):
+        for old, new in zip(lists, lists[1:]):
+            if runs.part_of(problem, old) == runs.GOALS:
+                before, after = runs.ratios(problem, old), runs.ratios(problem, new)
+                broken["no ratio's place rises"] += any(a > b for a, b in zip(after, before))
                 continue
-            done = run_from(problem, values)
-            if done is None:
-                continue
-            lists, (_, bounds_count, goals_count, final) = done
-            check("a run's faults", runs.faults(problem, lists), [])
-            check("a list more than steps", len(lists), bounds_count + goals_count + 1)
-            check("from the first list to the final one", (lists[0], lists[-1]),
-                  (values, final))
-            check("the parts in order", [runs.part_of(problem, old) for old in lists[:-1]],
-                  [runs.BOUNDS] * bounds_count + [runs.GOALS] * goals_count)
-            for old, new in zip(lists, lists[1:]):
-                part = runs.part_of(problem, old)
-                steps[part] += 1
-                measure = runs.distances if part == runs.BOUNDS else runs.ratios
-                before, after = measure(problem, old), measure(problem, new)
-                rises = any(a > b for a, b in zip(after, before))
-                if part == runs.GOALS:
-                    broken["each ratio's place falls or stays"] += rises
-                    continue
-                broken["each distance's place falls or stays"] += rises
-                broken["the sum of distances falls"] += sum(after) >= sum(before)
-                broken["the largest distance falls"] += after[0] == before[0]
-    check("steps of both parts were seen", min(steps.values()) > 500, True)
+            before, after = runs.distances(problem, old), runs.distances(problem, new)
+            broken["no distance's place rises"] += any(a > b for a, b in zip(after, before))
+            broken["the sum of distances falls"] += sum(after) >= sum(before)
+            broken["the largest distance falls"] += after[0] == before[0]
     for claim, count in broken.items():
-        check("a run that breaks: " + claim, count > 0, True)
+        check("steps that break: " + claim, count >= 100, True)
 
 
 @test
@@ -1219,7 +1209,7 @@ def runs_by_limits():
             continue
         lists = [solve(with_limit(problem, k))[1].values
                  for k in range(bounds_count + goals_count + 1)]
-        check("the run by limits", run_from(problem, lists[0])[0], lists)
+        check("the run by limits", runs.run_from(problem, lists[0])[0], lists)
         check("its faults", runs.faults(problem, lists), [])
         check("its end", lists[-1], lent.values)
 

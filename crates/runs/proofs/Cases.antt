@@ -5,6 +5,7 @@
 --   nudged                v2 = v1 + 3 with v2 at its goal: from 1, 4 a step brings the ratios 3, 1 to 3/2, 5/4
 --   sum-may-rise          "the sum of distances falls" is false: in `dragged` it rises from 3 to 6
 --   distances-may-rise, ratios-may-rise   "each place falls" is false: in `dragged` and `nudged` the second place rises
+--   no-goal-no-ratio      "ratios of all columns" are in no order
 --   largest-may-stay      "the largest distance falls" is false: a column that no move changes keeps it (`held`)
 -- Assumes nothing.
 use mathlib.Core.Path.{_≡_, refl, sym}
@@ -83,6 +84,11 @@ unfolding measure insert sorted lower measuresFrom
 wished-rises = refl
 
 -- ---- what does not hold of every step
+-- a column without a goal has no ratio: at value 0 it would be 0/0, which is in no order
+pub no-goal-no-ratio : measure Goals (pos 0) (pos 9) (pos 0) (pos 0) ≡ fraction 0 0
+unfolding measure
+no-goal-no-ratio = refl
+
 -- the list before, the step, and the sorted measures before and after
 pub dragged-step : nextStep dragged (three (pos 1) (pos 2) (pos 2) ∷ []) (three (pos 0) (pos 0) (pos 0)) ≡ Take 0 (single 0 (pos 1))
 unfolding every plus singles pairsWith pairs moves moved measure isRanked passes improves insert rankFrom firstMove firstColumn stepAt stepOf nextStep

@@ -18,7 +18,7 @@ use lib.ListN.{length, getD}
 use Rattle.settling.specs.Steps.{insert}
 use Rattle.settling.proofs.Orders.{Weak, self, under-past, alike, back, past-under}
 use Rattle.settling.proofs.Insertion.{Each, each-insert, Down, insert-down}
-use Rattle.runs.specs.Sorted.{sorted, lower, LowerAt}
+use Rattle.runs.specs.Sorted.{above, sorted, lower, LowerAt}
 
 pub lower-at : {A : Type 0} (lt : A → A → Bool) (d : A) (K L : List A) → lower lt K L ≡ true → LowerAt lt d K L
 unfolding lower
@@ -41,9 +41,6 @@ lower-at lt d (x ∷ K) (y ∷ L) e = go (lt x y) (lt y x) refl refl e (lower-at
 
 -- ---- sorting keeps the elements
 module _ {A : Type 0} (lt : A → A → Bool) where
-  abbrev larger : A → A → Bool
-  larger y x = lt x y
-
   abbrev weight : A → A → ℕ
   weight t x = cond (lt x t) 0 1
 
@@ -51,13 +48,13 @@ module _ {A : Type 0} (lt : A → A → Bool) where
   count t [] = 0
   count t (x ∷ L) = weight t x + count t L
 
-  insert-count : (t x : A) (L : List A) → count t (insert larger x L) ≡ weight t x + count t L
+  insert-count : (t x : A) (L : List A) → count t (insert (above lt) x L) ≡ weight t x + count t L
   unfolding insert count
   insert-count t x [] = refl
-  insert-count t x (y ∷ L) = go (lt x y) (insert-count t x L)
+  insert-count t x (y ∷ L) = go (above lt y x) (insert-count t x L)
     where
-      go : (s : Bool) → count t (insert larger x L) ≡ weight t x + count t L
-          → count t (cond s (y ∷ insert larger x L) (x ∷ y ∷ L)) ≡ weight t x + (weight t y + count t L)
+      go : (s : Bool) → count t (insert (above lt) x L) ≡ weight t x + count t L
+          → count t (cond s (y ∷ insert (above lt) x L) (x ∷ y ∷ L)) ≡ weight t x + (weight t y + count t L)
       go true e = omega (arith, e)
       go false e = refl
 
@@ -66,12 +63,13 @@ module _ {A : Type 0} (lt : A → A → Bool) where
   sorted-count t [] = refl
   sorted-count t (x ∷ L) = omega (arith, insert-count t x (sorted lt L), sorted-count t L)
 
-  insert-length : (x : A) (L : List A) → length (insert larger x L) ≡ suc (length L)
+  insert-length : (x : A) (L : List A) → length (insert (above lt) x L) ≡ suc (length L)
   unfolding insert
   insert-length x [] = refl
-  insert-length x (y ∷ L) = go (lt x y) (insert-length x L)
+  insert-length x (y ∷ L) = go (above lt y x) (insert-length x L)
     where
-      go : (s : Bool) → length (insert larger x L) ≡ suc (length L) → length (cond s (y ∷ insert larger x L) (x ∷ y ∷ L)) ≡ suc (suc (length L))
+      go : (s : Bool) → length (insert (above lt) x L) ≡ suc (length L)
+          → length (cond s (y ∷ insert (above lt) x L) (x ∷ y ∷ L)) ≡ suc (suc (length L))
       go true e = ap suc e
       go false e = refl
 
@@ -83,7 +81,7 @@ module _ {A : Type 0} (lt : A → A → Bool) where
   pub sorted-each : (Q : A → Type 0) (L : List A) → Each Q L → Each Q (sorted lt L)
   unfolding sorted
   sorted-each Q [] a = tt
-  sorted-each Q (x ∷ L) a = each-insert Q larger x (sorted lt L) (a .0) (sorted-each Q L (a .1))
+  sorted-each Q (x ∷ L) a = each-insert Q (above lt) x (sorted lt L) (a .0) (sorted-each Q L (a .1))
 
 pub data Falls {A : Type 0} (lt : A → A → Bool) (q : A) : Bool → List A → List A → Type 0 where
   none : Falls lt q false [] []
@@ -118,7 +116,7 @@ module _ {A : Type 0} {Proper : A → Type 0} {lt : A → A → Bool} (w : Weak 
       go false false false false h h' g g' e f ih = rw (w .past x y z (b .0) h g, w .past z y x (b .0) g' h') (ih e f)
 
   -- ---- none below a later one
-  pub sorted-down : (L : List A) → Each Proper L → Down (larger lt) (sorted lt L)
+  pub sorted-down : (L : List A) → Each Proper L → Down (above lt) (sorted lt L)
   unfolding sorted
   sorted-down [] a = tt
   sorted-down (x ∷ L) a = insert-down (back w) x (sorted lt L) (sorted-each lt Proper L (a .1)) (sorted-down L (a .1))
@@ -159,7 +157,7 @@ module _ {A : Type 0} {Proper : A → Type 0} {lt : A → A → Bool} (w : Weak 
       go true f = omega (arith, h .some, no-more q (under-past w s t q p e (w .asym t q f)))
       go false f = omega (arith, h .all t r f, no-more t e, one)
 
-  fewer-lower : (q : A) (L K : List A) → Proper q → Each Proper L → Each Proper K → Down (larger lt) L → length K ≡ length L → Fewer q L K
+  fewer-lower : (q : A) (L K : List A) → Proper q → Each Proper L → Each Proper K → Down (above lt) L → length K ≡ length L → Fewer q L K
       → lower lt K L ≡ true
   unfolding lower count
   fewer-lower q [] K p a b d e h = absurd (omega (arith, h .some))

@@ -33,7 +33,7 @@ use Rattle.settling.specs.Views.{moved-length, moved-at}
 use Rattle.settling.proofs.Orders.{Determinate, below-weak}
 use Rattle.settling.proofs.Insertion.{Each, Down}
 use Rattle.settling.proofs.Stepping.{Taken, next-taken}
-use Rattle.runs.specs.Sorted.{sorted}
+use Rattle.runs.specs.Sorted.{above, sorted}
 use Rattle.runs.specs.Runs.{measuresFrom, measures, lowerThan}
 use Rattle.runs.proofs.Lowering.{sorted-down, Falls, none, stays, sinks, first, falls-lower}
 
@@ -64,7 +64,7 @@ measures-proper p C v (suc k) j = go (isCompared p (entry j (C .goals))) refl (m
     go false e a = a
 
 -- so they are sorted in earnest: none stands before a larger one
-pub measures-down : (p : Part) (C : Columns) (v : List ℤ) → Down (λ y x. below x y) (sorted below (measures p C v))
+pub measures-down : (p : Part) (C : Columns) (v : List ℤ) → Down (above below) (sorted below (measures p C v))
 measures-down p C v = sorted-down below-weak (measures p C v) (measures-proper p C v (C .count) 0)
 
 -- ---- a step that is taken

@@ -57,10 +57,10 @@ passes-up p lo hi g y e q r k b f = go (isAllowed p lo hi y) (not (not (isZero e
     go false c d x f = absurd (false≢true f)
 
 module _ (p : Part) (C : Columns) (N : List (List ℤ)) (v : List ℤ) where
-  improves-up : (o : Move) (i j : ℕ) → Proper p C v i → Proper p C v j → largerAt p C v i j ≡ false → changes N o j ≡ true
+  improves-up : (o : Move) (i j : ℕ) → Proper p C v j → largerAt p C v i j ≡ false → changes N o j ≡ true
       → improves p C N v o i ≡ true → improves p C N v o j ≡ true
   unfolding improves
-  improves-up o i j a b l c e =
+  improves-up o i j b l c e =
       let x = and-true (changes N o i) (every (C .count) (passesAt p C N v o (measureAt p C v i))) e in
       ap₂ _&&_ c
       (every-all (C .count) (passesAt p C N v o (measureAt p C v j))
@@ -70,10 +70,10 @@ module _ (p : Part) (C : Columns) (N : List (List ℤ)) (v : List ℤ) where
   unfolding improves
   unchanged o i e = ap (λ (t : Bool). t && every (C .count) (passesAt p C N v o (measureAt p C v i))) e
 
-  pub blocked : (o : Move) (i j : ℕ) → Proper p C v i → Proper p C v j → largerAt p C v i j ≡ false → changes N o j ≡ true
+  pub blocked : (o : Move) (i j : ℕ) → Proper p C v j → largerAt p C v i j ≡ false → changes N o j ≡ true
       → improves p C N v o j ≡ false → improves p C N v o i ≡ false
-  blocked o i j a b l c e = go (improves p C N v o i) refl
+  blocked o i j b l c e = go (improves p C N v o i) refl
     where
       go : (t : Bool) → improves p C N v o i ≡ t → improves p C N v o i ≡ false
-      go true g = absurd (true≢false (sym (improves-up o i j a b l c g) ∙ e))
+      go true g = absurd (true≢false (sym (improves-up o i j b l c g) ∙ e))
       go false g = g

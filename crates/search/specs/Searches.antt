@@ -133,7 +133,8 @@ module _ (S : Search) (l b : List ℤ) (o : Move) (L : List ℕ) (k : ℕ) (h : 
 
       after : y < x → better S l b o (getD L x 0) ≡ false
       after q =
-          blocked (S .part) (columnsIn S l) (vectors (S .view) b) (valuesIn S l) o (getD L x 0) (getD L y 0) (order .proper x (omega arith)) (order .proper y (omega arith)) (order .falls y x q (omega arith)) changed e
+          blocked (S .part) (columnsIn S l) (vectors (S .view) b) (valuesIn S l) o (getD L x 0) (getD L y 0)
+          (order .proper y (omega arith)) (order .falls y x q (omega arith)) changed e
 
       behind : y ≤ x → better S l b o (getD L x 0) ≡ false
       behind q = ⊎-elim (λ z. ap (λ (w : ℕ). better S l b o (getD L w 0)) (sym z) ∙ e) after (eq-or-lt-of-le q)
