@@ -1,6 +1,6 @@
 """The formal definitions against the plain model, on random cases.
 
-    python3 model/against_definitions.py [PROBLEMS TEXTS RUNS SEED]
+    python3 model/against_definitions.py [PROBLEMS TEXTS SEED RUNS]
 
 The definitions of crates/*/specs compute. This writes a crate of one equation
 for each case below target/against, with the model's answer on its right side,
@@ -239,10 +239,10 @@ def write_crate(equations):
 
 
 def main(arguments):
-    counts = [int(word) for word in arguments] + [60, 60, 20, 1][len(arguments):]
-    equations = some(problem_equation, counts[0], counts[3])
-    equations += some(text_equation, counts[1], counts[3])
-    equations += some(run_equation, counts[2], counts[3])
+    counts = [int(word) for word in arguments] + [60, 60, 1, 20][len(arguments):]
+    equations = some(problem_equation, counts[0], counts[2])
+    equations += some(text_equation, counts[1], counts[2])
+    equations += some(run_equation, counts[3], counts[2])
     write_crate(equations)
     run = subprocess.run(["rt", "check", "cases"], cwd=SCRATCH, capture_output=True, text=True)
     log = run.stdout + run.stderr

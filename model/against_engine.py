@@ -10,9 +10,10 @@ sides of each buffer must be as before, and a report of a wrong length must be
 refused with nothing changed. Step limits beyond 32 bits, which C's type cannot
 hold, are left out.
 
-Then RUNS runs are made list by list: a whole assignment with the step limit 0, and
+Then RUNS runs are made list by list: the case's call with the step limit 0, and
 Continue with the limit 1 until no step is made. The lists must be those of the
-model's run, falling at each step, with no list twice (document 02, (xiii)).
+model's run, falling at each step, with no list twice (document 02, (xiii)). Runs of
+more than MOST_STEPS steps by the model are left out.
 
 The last line is 'N passed, M failed'.
 """
@@ -72,46 +73,50 @@ def random_report(rng):
     return [rng.randrange(2 ** 32) for _ in range(length)]
 
 
-def engine_run(functions, case):
-    """The engine's lists: first without a step, then a step at a time; None where the
-    call is refused or makes more than MOST_STEPS steps."""
-    lists = []
-    name, limit = case.call, 0
-    while True:
-        case.problem.limit = limit
-        after = engine_call(functions, Case(name, case.problem, case.lent), [0, 0, 0])
-        if after["number"] != 0 or len(lists) > MOST_STEPS:
-            return None
-        if limit == 1 and after["report"][1:] == [0, 0]:
-            return lists
-        case.lent.values = after["values"]
-        lists.append(after["values"])
-        name, limit = "continue", 1
-
-
 def model_run(case):
     """The model's lists: what its call leaves without a step, then what stands while
-    that is settled."""
+    that is settled. None where the call is refused, makes no step or too many."""
     case.problem.limit = 0
-    case.run()
-    case.problem.limit = MOST_STEPS
-    return run_from(case.problem, case.lent.values)[0]
+    if case.run()[0] not in VERDICTS:
+        return None
+    case.problem.limit = MOST_STEPS + 1
+    lists, _ = run_from(case.problem, case.lent.values)
+    return lists if 2 <= len(lists) <= MOST_STEPS + 1 else None
+
+
+def engine_run(functions, case):
+    """The engine's lists, first without a step, then a step at a time, up to the first
+    call that makes none. One that is refused gives its number in place of a list, and a
+    run that is longer than the model's longest ends where that is seen."""
+    lists = []
+    name, limit = case.call, 0
+    while len(lists) <= MOST_STEPS + 1:
+        case.problem.limit = limit
+        after = engine_call(functions, Case(name, case.problem, case.lent), [0, 0, 0])
+        if after["number"] != 0:
+            return lists + [after["number"]]
+        if limit == 1 and after["report"][1:] == [0, 0]:
+            break
+        lists.append(after["values"])
+        case.lent.values = after["values"]
+        name, limit = "continue", 1
+    return lists
 
 
 def compare_runs(tally, functions, count, seed):
-    """The first count runs with a step, of random problems."""
+    """The first count runs of random problems that the model makes."""
     number = 0
     while count > 0:
         number += 1
-        case = problem_case(rng_for(seed, number))
-        got = engine_run(functions, case) if case.problem.limit < 2 ** 32 else None
-        if got is None or len(got) < 2:
+        want = model_run(problem_case(rng_for(seed, number)))
+        if want is None:
             continue
         count -= 1
+        case = problem_case(rng_for(seed, number))
+        got = engine_run(functions, case)
+        wrong = faults(case.problem, got) if got == want else "not the model's run"
         tally.compare("run of case %d of seed %d" % (number, seed),
-                      {"lists": got, "faults": faults(case.problem, got)},
-                      {"lists": model_run(problem_case(rng_for(seed, number))),
-                       "faults": []})
+                      {"lists": got, "faults": wrong}, {"lists": want, "faults": []})
 
 
 def main(arguments):

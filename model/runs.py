@@ -52,7 +52,7 @@ def is_lower(new, old):
 
 
 def faults(problem, lists):
-    """What a run breaks: none, it must be."""
+    """What a run breaks; nothing, where the request holds."""
     found = []
     for place, (old, new) in enumerate(zip(lists, lists[1:])):
         part = part_of(problem, old)

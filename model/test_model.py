@@ -1185,9 +1185,13 @@ def runs_break_stronger_claims():
     """The random runs are telling: claims that say more than the request are broken."""
     broken = dict.fromkeys(["the sum of distances falls", "the largest distance falls",
                             "no distance's place rises", "no ratio's place rises"], 0)
+    made, steps = 0, {runs.BOUNDS: 0, runs.GOALS: 0}
     for problem, _, lists, _ in random_runs(23, 1500):
+        made += 1
         for old, new in zip(lists, lists[1:]):
-            if runs.part_of(problem, old) == runs.GOALS:
+            part = runs.part_of(problem, old)
+            steps[part] += 1
+            if part == runs.GOALS:
                 before, after = runs.ratios(problem, old), runs.ratios(problem, new)
                 broken["no ratio's place rises"] += any(a > b for a, b in zip(after, before))
                 continue
@@ -1195,6 +1199,8 @@ def runs_break_stronger_claims():
             broken["no distance's place rises"] += any(a > b for a, b in zip(after, before))
             broken["the sum of distances falls"] += sum(after) >= sum(before)
             broken["the largest distance falls"] += after[0] == before[0]
+    print("%d random runs, steps %s; steps that break a stronger claim: %s"
+          % (made, steps, broken))
     for claim, count in broken.items():
         check("steps that break: " + claim, count >= 100, True)
 

@@ -3,8 +3,8 @@
 --   lower-self, -after   no list is lower than itself; one that is lower than a lower one is lower
 --   count lt t L         how many elements of L are not below t
 --   sorted-length, -each, -down, -count   a sorted list has the elements of the list, none of them below a later one
---   Fewer q L K          K has no more elements than L from any t on that is not below q, and fewer from q on
---   fewer-lower          then, where both are sorted and equally long, K is lower
+--   Fewer q L K          K has no more elements than L from any proper t on that is not below q, and fewer from q on
+--   fewer-lower          then, where L is sorted and K as long, K is lower
 --   Falls lt q b L K     from L to K each element stays as it is, or is then below q; with b one that was q is so
 --   falls-lower          where a list falls, it is lower once sorted
 -- An element that sinks below q may still rise, so that no induction place by place works: elements are counted instead.

@@ -35,11 +35,11 @@ use Rattle.settling.specs.Steps.{inBounds, partIf, partOf, stepOf, nextStep}
 use Rattle.settling.specs.Settle.{Settled, ended, atRest, counted, onStep, settleFrom, settle}
 use Rattle.settling.proofs.Orders.{Determinate, below-weak}
 use Rattle.settling.proofs.Insertion.{Each}
-use Rattle.settling.proofs.Stepping.{step-taken}
+use Rattle.settling.proofs.Stepping.{step-taken, taken-allowed}
 use Rattle.runs.specs.Sorted.{sorted, lower}
 use Rattle.runs.specs.Runs.{measures, distances, ratios, lowerThan, afterStep, standing, listAt, totalSteps, Descent, Ends, Stepped}
 use Rattle.runs.proofs.Lowering.{sorted-each, lower-self, lower-after}
-use Rattle.runs.proofs.Steps.{measures-proper, allowed, next-lower}
+use Rattle.runs.proofs.Steps.{measures-determinate, next-lower}
 
 module _ (C : Columns) (N : List (List ℤ)) where
   -- ---- from list to list
@@ -67,7 +67,7 @@ module _ (C : Columns) (N : List (List ℤ)) where
   -- ---- the run is settling's
   -- once in bounds, always in bounds
   goals-stay : (v : List ℤ) (i : ℕ) (o : Move) → stepOf Goals C N v ≡ Take i o → inBounds C (moved N o v) ≡ true
-  goals-stay v i o e = every-all (C .count) _ (allowed Goals C N v i o (step-taken Goals C N v i o e))
+  goals-stay v i o e = every-all (C .count) _ (taken-allowed Goals C N v i o (step-taken Goals C N v i o e))
 
   goals-remain : (v : List ℤ) (i : ℕ) (o : Move) → partOf C v ≡ Goals → nextStep C N v ≡ Take i o → partOf C (moved N o v) ≡ Goals
   unfolding nextStep
@@ -233,13 +233,13 @@ module _ (C : Columns) (N : List (List ℤ)) where
   abbrev pub state : List ℤ → List Measure
   state v = stateOf (partOf C v) v
 
-  state-proper : (v : List ℤ) → Each Determinate (state v)
-  state-proper v =
-      (rank-proper (partOf C v), sorted-each below Determinate (measures (partOf C v) C v) (measures-proper (partOf C v) C v (C .count) 0))
+  state-determinate : (v : List ℤ) → Each Determinate (state v)
+  state-determinate v =
+      (rank-determinate (partOf C v), sorted-each below Determinate (measures (partOf C v) C v) (measures-determinate (partOf C v) C v (C .count) 0))
     where
-      rank-proper : (p : Part) → Determinate (rank p)
-      rank-proper Bounds = omega arith
-      rank-proper Goals = omega arith
+      rank-determinate : (p : Part) → Determinate (rank p)
+      rank-determinate Bounds = omega arith
+      rank-determinate Goals = omega arith
 
   step-state : (v : List ℤ) (i : ℕ) (o : Move) → nextStep C N v ≡ Take i o → lower below (state (moved N o v)) (state v) ≡ true
   unfolding nextStep lower
@@ -266,8 +266,8 @@ module _ (C : Columns) (N : List (List ℤ)) where
     later-lower j (suc k) h l =
         ⊎-elim
         (λ m.
-        lower-after below-weak (state (at (suc k))) (state (at k)) (state (at j)) (state-proper (at (suc k))) (state-proper (at k))
-        (state-proper (at j)) step (later-lower j k m (omega arith)))
+        lower-after below-weak (state (at (suc k))) (state (at k)) (state (at j)) (state-determinate (at (suc k))) (state-determinate (at k))
+        (state-determinate (at j)) step (later-lower j k m (omega arith)))
         (λ m. let e : k ≡ j = omega arith in subst (λ (c : ℕ). lower below (state (at (suc k))) (state (at c)) ≡ true) e step)
         (lt-or-ge j k)
       where

@@ -1,24 +1,19 @@
 -- Document 02, (xiii): a step lowers the measures of its part.
---   measures-proper     the measures that a part compares are not 0/0; `measures-down` sorted, none stands before a larger one
---   allowed             what a taken step leaves is allowed in each column
+--   measures-determinate     the measures that a part compares are not 0/0; `measures-down` sorted, none stands before a larger one
 --   taken-lower         a taken step lowers the measures that its part compares, sorted
 --   next-lower          so does the next step, in the part that the values are in
 -- Nothing is asked of the problem, the basis or the list: a ratio with a goal is never 0/0, whatever the value.
 -- Assumes nothing.
-use mathlib.Core.Path.{_≡_, refl, sym, _∙_, ap, subst}
+use mathlib.Core.Path.{_≡_, refl, sym, ap, subst}
 use mathlib.Core.Logic.{⊎-elim}
-use mathlib.Core.Bool.{Bool, true, false, not, cond, _&&_, _||_, true≢false, false≢true}
+use mathlib.Core.Bool.{Bool, true, false, cond}
 use mathlib.Core.List.{List, _∷_}
 use Prim.Native.Nat.{ℕ, zero, suc, _+_, _*_, _<_, _≤_}
 use native.Mathlib.Omega.{arith}
 use borrow.Author.Tests.{eqb-false, not-true}
-use lib.IntN.{ℤ, pos, natAbs, _+ℤ_, +ℤ-idr}
-use lib.ListN.{length, List·getD-eq-default}
+use lib.IntN.{ℤ, natAbs}
 use Rattle.whole.specs.Lists.{entry}
-use Rattle.whole.specs.Tests.{isZero, every}
-use Rattle.whole.specs.Counted.{every-at}
-use Rattle.whole.specs.Integers.{isZero-true}
-use Rattle.problem.specs.CheckLaws.{both-true}
+use Rattle.whole.specs.Tests.{isZero}
 use Rattle.settling.specs.declared.Measure.{Measure}
 use Rattle.settling.specs.declared.Move.{Move}
 use Rattle.settling.specs.declared.Part.{Part}
@@ -26,58 +21,51 @@ use Rattle.settling.specs.declared.Part.the-variants.{Bounds, Goals}
 use Rattle.settling.specs.declared.Step.the-variants.{Take}
 use Rattle.settling.specs.Columns.{Columns}
 use Rattle.settling.specs.Parts.{lt-or-ge}
-use Rattle.settling.specs.Moves.{change, changes, moved}
+use Rattle.settling.specs.Moves.{change, moved}
 use Rattle.settling.specs.Measures.{fraction, below, ratio, measure}
-use Rattle.settling.specs.Steps.{partOf, isRanked, isCompared, isAllowed, passes, measureAt, passesAt, improves, nextStep}
-use Rattle.settling.specs.Views.{moved-length, moved-at}
+use Rattle.settling.specs.Steps.{partOf, isRanked, isCompared, measureAt, nextStep}
 use Rattle.settling.proofs.Orders.{Determinate, below-weak}
 use Rattle.settling.proofs.Insertion.{Each, Down}
-use Rattle.settling.proofs.Stepping.{Taken, next-taken}
+use Rattle.settling.proofs.Stepping.{Taken, next-taken, taken-changes, taken-below, moved-still}
 use Rattle.runs.specs.Sorted.{above, sorted}
 use Rattle.runs.specs.Runs.{measuresFrom, measures, lowerThan}
 use Rattle.runs.proofs.Lowering.{sorted-down, Falls, none, stays, sinks, first, falls-lower}
 
 -- ---- no measure is 0/0
-ratio-proper : (low high v : ℕ) → 0 < low → 0 < high → Determinate (ratio low high v)
-ratio-proper low high v a b = go (below (fraction (1000 * v) low) (fraction high (1000 * v)))
+ratio-determinate : (low high v : ℕ) → 0 < low → 0 < high → Determinate (ratio low high v)
+ratio-determinate low high v a b = go (below (fraction (1000 * v) low) (fraction high (1000 * v)))
   where
     go : (t : Bool) → Determinate (cond t (fraction high (1000 * v)) (fraction (1000 * v) low))
     go true = omega arith
     go false = omega arith
 
-measure-proper : (p : Part) (lo hi g x : ℤ) → isCompared p g ≡ true → Determinate (measure p lo hi g x)
+measure-determinate : (p : Part) (lo hi g x : ℤ) → isCompared p g ≡ true → Determinate (measure p lo hi g x)
 unfolding measure
-measure-proper Bounds lo hi g x e = omega arith
-measure-proper Goals lo hi g x e = ratio-proper (natAbs g) (natAbs g) (natAbs x) above above
+measure-determinate Bounds lo hi g x e = omega arith
+measure-determinate Goals lo hi g x e = ratio-determinate (natAbs g) (natAbs g) (natAbs x) above above
   where
     above : 0 < natAbs g
     above = ⊎-elim (λ h. h) (λ h. absurd (eqb-false (natAbs g) 0 (not-true _ e) (omega arith))) (lt-or-ge 0 (natAbs g))
 
-pub measures-proper : (p : Part) (C : Columns) (v : List ℤ) (k j : ℕ) → Each Determinate (measuresFrom p C v k j)
+pub measures-determinate : (p : Part) (C : Columns) (v : List ℤ) (k j : ℕ) → Each Determinate (measuresFrom p C v k j)
 unfolding measuresFrom
-measures-proper p C v zero j = tt
-measures-proper p C v (suc k) j = go (isCompared p (entry j (C .goals))) refl (measures-proper p C v k (suc j))
+measures-determinate p C v zero j = tt
+measures-determinate p C v (suc k) j = go (isCompared p (entry j (C .goals))) refl (measures-determinate p C v k (suc j))
   where
     go : (t : Bool) → isCompared p (entry j (C .goals)) ≡ t → Each Determinate (measuresFrom p C v k (suc j))
         → Each Determinate (cond t (measureAt p C v j ∷ measuresFrom p C v k (suc j)) (measuresFrom p C v k (suc j)))
-    go true e a = (measure-proper p (entry j (C .lower)) (entry j (C .upper)) (entry j (C .goals)) (entry j v) e, a)
+    go true e a = (measure-determinate p (entry j (C .lower)) (entry j (C .upper)) (entry j (C .goals)) (entry j v) e, a)
     go false e a = a
 
 -- so they are sorted in earnest: none stands before a larger one
 pub measures-down : (p : Part) (C : Columns) (v : List ℤ) → Down (above below) (sorted below (measures p C v))
-measures-down p C v = sorted-down below-weak (measures p C v) (measures-proper p C v (C .count) 0)
+measures-down p C v = sorted-down below-weak (measures p C v) (measures-determinate p C v (C .count) 0)
 
 -- ---- a step that is taken
 ranked-compared : (p : Part) (lo hi g x : ℤ) → isRanked p lo hi g x ≡ true → isCompared p g ≡ true
 unfolding isRanked
 ranked-compared Bounds lo hi g x e = refl
 ranked-compared Goals lo hi g x e = e
-
--- a changed column that is compared has to come below
-forced : (z c t : Bool) → z ≡ false → c ≡ true → not (not z && c) || t ≡ true → t ≡ true
-forced true c t e f g = absurd (true≢false e)
-forced false true t e f g = g
-forced false false t e f g = absurd (false≢true f)
 
 module _ (p : Part) (C : Columns) (N : List (List ℤ)) (v : List ℤ) (i : ℕ) (o : Move) (t : Taken p C N v i o) where
   abbrev old : Measure
@@ -89,46 +77,26 @@ module _ (p : Part) (C : Columns) (N : List (List ℤ)) (v : List ℤ) (i : ℕ)
   compared : isCompared p (entry i (C .goals)) ≡ true
   compared = ranked-compared p (entry i (C .lower)) (entry i (C .upper)) (entry i (C .goals)) (entry i v) (t .ranked)
 
-  good : (changes N o i ≡ true) × (every (C .count) (passesAt p C N v o old) ≡ true)
-  unfolding improves
-  good = both-true (changes N o i) (every (C .count) (passesAt p C N v o old)) (t .good)
-
-  pub allowed : (j : ℕ) → j < C .count → isAllowed p (entry j (C .lower)) (entry j (C .upper)) (entry j after) ≡ true
-  unfolding passes
-  allowed j l = both-true _ _ (every-at (C .count) (passesAt p C N v o old) j (good .1) l) .0
-
-  sunk : (j : ℕ) → j < C .count → isCompared p (entry j (C .goals)) ≡ true → isZero (change N o j) ≡ false → below (measureAt p C after j) old ≡ true
-  unfolding passes
-  sunk j l c e =
-      forced (isZero (change N o j)) (isCompared p (entry j (C .goals))) (below (measureAt p C after j) old) e c
-      (both-true (isAllowed p (entry j (C .lower)) (entry j (C .upper)) (entry j after)) _
-      (every-at (C .count) (passesAt p C N v o old) j (good .1) l) .1)
-
-  -- past the end of a list both values are 0
-  unchanged : (j : ℕ) → isZero (change N o j) ≡ true → entry j v ≡ entry j after
-  unchanged j e =
-      ⊎-elim
-      (λ l. sym (moved-at N o v j l ∙ ap (λ (x : ℤ). entry j v +ℤ x) (isZero-true (change N o j) e) ∙ +ℤ-idr (entry j v)))
-      (λ l. List·getD-eq-default v (pos 0) {n = j} l ∙ sym (List·getD-eq-default after (pos 0) {n = j} (omega (arith, moved-length N o v))))
-      (lt-or-ge j (length v))
-
   -- one column more
   more : {b : Bool} (j : ℕ) (L K : List Measure) → j < C .count → Falls below old b L K
       → Falls below old b (cond (isCompared p (entry j (C .goals))) (measureAt p C v j ∷ L) L)
       (cond (isCompared p (entry j (C .goals))) (measureAt p C after j ∷ K) K)
   more {b} j L K l f = go (isCompared p (entry j (C .goals))) (isZero (change N o j)) refl refl
     where
-      go : (t z : Bool) → isCompared p (entry j (C .goals)) ≡ t → isZero (change N o j) ≡ z
-          → Falls below old b (cond t (measureAt p C v j ∷ L) L) (cond t (measureAt p C after j ∷ K) K)
-      go true true c e = stays _ _ (ap (λ (x : ℤ). measure p (entry j (C .lower)) (entry j (C .upper)) (entry j (C .goals)) x) (unchanged j e)) f
-      go true false c e = sinks _ _ (sunk j l c e) f
+      same : isZero (change N o j) ≡ true → measureAt p C v j ≡ measureAt p C after j
+      same e = ap (λ (x : ℤ). measure p (entry j (C .lower)) (entry j (C .upper)) (entry j (C .goals)) x) (sym (moved-still N o v j e))
+
+      go : (s z : Bool) → isCompared p (entry j (C .goals)) ≡ s → isZero (change N o j) ≡ z
+          → Falls below old b (cond s (measureAt p C v j ∷ L) L) (cond s (measureAt p C after j ∷ K) K)
+      go true true c e = stays _ _ (same e) f
+      go true false c e = sinks _ _ (taken-below p C N v i o t j l c e) f
       go false z c e = f
 
   -- the column i
   itself : (L K : List Measure) → Falls below old false L K
       → Falls below old true (cond (isCompared p (entry i (C .goals))) (old ∷ L) L)
       (cond (isCompared p (entry i (C .goals))) (measureAt p C after i ∷ K) K)
-  itself L K f = rw compared (first _ _ refl (sunk i (t .inside) compared (not-true _ (good .0))) f)
+  itself L K f = rw compared (first _ _ refl (taken-below p C N v i o t i (t .inside) compared (not-true _ (taken-changes p C N v i o t))) f)
 
   others : (k j : ℕ) → j + k ≤ C .count → Falls below old false (measuresFrom p C v k j) (measuresFrom p C after k j)
   unfolding measuresFrom
@@ -149,8 +117,8 @@ module _ (p : Part) (C : Columns) (N : List (List ℤ)) (v : List ℤ) (i : ℕ)
 
   pub taken-lower : lowerThan (measures p C after) (measures p C v) ≡ true
   taken-lower =
-      falls-lower below-weak old (measures p C v) (measures p C after) (measure-proper p _ _ _ _ compared)
-      (measures-proper p C v (C .count) 0) (measures-proper p C after (C .count) 0)
+      falls-lower below-weak old (measures p C v) (measures p C after) (measure-determinate p _ _ _ _ compared)
+      (measures-determinate p C v (C .count) 0) (measures-determinate p C after (C .count) 0)
       (falling (C .count) 0 (omega arith) (omega arith) (omega (arith, t .inside)))
 
 pub next-lower : (C : Columns) (N : List (List ℤ)) (v : List ℤ) (i : ℕ) (o : Move) → nextStep C N v ≡ Take i o

@@ -14,6 +14,7 @@ use native.Mathlib.Omega.{arith}
 use lib.IntN.{ℤ}
 use Rattle.whole.specs.Counted.{every-at, every-all}
 use Rattle.whole.specs.Tests.{isZero, every}
+use Rattle.problem.specs.CheckLaws.{both-true}
 use Rattle.settling.specs.declared.Move.{Move}
 use Rattle.settling.specs.declared.Measure.{Measure}
 use Rattle.settling.specs.declared.Part.{Part}
@@ -24,10 +25,6 @@ use Rattle.settling.specs.Steps.{isCompared, isAllowed, passes, measureAt, larg
 use Rattle.settling.proofs.Orders.{Weak, under-past, below-weak}
 
 -- ---- every
-pub and-true : (a b : Bool) → a && b ≡ true → (a ≡ true) × (b ≡ true)
-and-true true b e = (refl, e)
-and-true false b e = absurd (false≢true e)
-
 pub every-not : (n : ℕ) (f : ℕ → Bool) (j : ℕ) → j < n → f j ≡ false → every n f ≡ false
 every-not n f j h e = go (every n f) refl
   where
@@ -46,7 +43,8 @@ weak p C v = record {
 }
 
 -- ---- a move that improves i improves each higher column that it changes
-passes-up : (p : Part) (lo hi g y e : ℤ) (q r : Measure) → 0 < r .bottom → below r q ≡ false → passes p lo hi g y e q ≡ true → passes p lo hi g y e r ≡ true
+passes-up : (p : Part) (lo hi g y e : ℤ) (q r : Measure) → 0 < r .bottom → below r q ≡ false → passes p lo hi g y e q ≡ true
+    → passes p lo hi g y e r ≡ true
 unfolding passes
 passes-up p lo hi g y e q r k b f = go (isAllowed p lo hi y) (not (not (isZero e) && isCompared p g)) (below (measure p lo hi g y) q) refl f
   where
@@ -61,10 +59,11 @@ module _ (p : Part) (C : Columns) (N : List (List ℤ)) (v : List ℤ) where
       → improves p C N v o i ≡ true → improves p C N v o j ≡ true
   unfolding improves
   improves-up o i j b l c e =
-      let x = and-true (changes N o i) (every (C .count) (passesAt p C N v o (measureAt p C v i))) e in
+      let x = both-true (changes N o i) (every (C .count) (passesAt p C N v o (measureAt p C v i))) e in
       ap₂ _&&_ c
       (every-all (C .count) (passesAt p C N v o (measureAt p C v j))
-      (λ k h. passes-up p _ _ _ _ _ (measureAt p C v i) (measureAt p C v j) b l (every-at (C .count) (passesAt p C N v o (measureAt p C v i)) k (x .1) h)))
+      (λ k h. passes-up p _ _ _ _ _ (measureAt p C v i) (measureAt p C v j) b l
+      (every-at (C .count) (passesAt p C N v o (measureAt p C v i)) k (x .1) h)))
 
   pub unchanged : (o : Move) (i : ℕ) → changes N o i ≡ false → improves p C N v o i ≡ false
   unfolding improves

@@ -25,6 +25,7 @@ use lib.ListN.{length, getD}
 use Rattle.whole.specs.Integers.{add-none}
 use Rattle.whole.specs.Lists.{entry}
 use Rattle.whole.specs.Tests.{isZero}
+use Rattle.problem.specs.CheckLaws.{both-true}
 use Rattle.settling.specs.declared.Basis.{Basis}
 use Rattle.settling.specs.declared.Measure.{Measure}
 use Rattle.settling.specs.declared.Move.{Move}
@@ -39,7 +40,6 @@ use Rattle.search.specs.declared.Note.{Note}
 use Rattle.search.specs.declared.Pair.{Pair}
 use Rattle.search.specs.declared.Search.{Search}
 use Rattle.search.specs.declared.Trial.{Trial}
-use Rattle.search.specs.Blocking.{and-true}
 use Rattle.search.specs.Cells.{pick-length}
 use Rattle.search.specs.Notes.{alone, unit-changes, none, tests, Still, Stuck, Noted, better-not, late}
 use Rattle.search.specs.Places.{least-miss}
@@ -100,7 +100,7 @@ module _ (B : Basis) (b : List ℤ) (v f : ℕ) where
 
   parts : shutBy B b v f ≡ true → (ltb f (B .columns) ≡ true) × (not (changes (vectors B b) (single v (pos 1)) f) ≡ true)
   unfolding shutBy
-  parts = and-true (ltb f (B .columns)) (not (changes (vectors B b) (single v (pos 1)) f))
+  parts = both-true (ltb f (B .columns)) (not (changes (vectors B b) (single v (pos 1)) f))
 
   shut-column : shutBy B b v f ≡ true → f < B .columns
   shut-column e = ltb-true f (B .columns) (parts e .0)
@@ -150,9 +150,9 @@ pub signs-shut : {S : Search} {l b : List ℤ} {L : List ℕ} {p : Pair} {h : Hi
     shut (h .pp) && (shut (h .pm) && (shut (h .mp) && shut (h .mm))) ≡ true → z ≡ scan (better S l b) L (signPairs (p .s) (p .t)) z
 signs-shut {S} {l} {b} {L} {p} {h} z d g e =
     let shut = shutBy (S .view) b (h .vector) in
-    let a = and-true (shut (h .pp)) (shut (h .pm) && (shut (h .mp) && shut (h .mm))) e in
-    let c = and-true (shut (h .pm)) (shut (h .mp) && shut (h .mm)) (a .1) in
-    let f = and-true (shut (h .mp)) (shut (h .mm)) (c .1) in
+    let a = both-true (shut (h .pp)) (shut (h .pm) && (shut (h .mp) && shut (h .mm))) e in
+    let c = both-true (shut (h .pm)) (shut (h .mp) && shut (h .mm)) (a .1) in
+    let f = both-true (shut (h .mp)) (shut (h .mm)) (c .1) in
     four-out S l b L p z (left-out S l b L _ z g (d .pp .nothing (a .0))) (left-out S l b L _ z g (d .pm .nothing (c .0)))
     (left-out S l b L _ z g (d .mp .nothing (f .0))) (left-out S l b L _ z g (d .mm .nothing (f .1)))
 

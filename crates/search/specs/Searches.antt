@@ -22,9 +22,8 @@ use mathlib.Core.List.{List}
 use Prim.Native.Nat.{ℕ, _+_, _*_, _<_, _≤_}
 use native.Mathlib.Nat.{eq-or-lt-of-le}
 use native.Mathlib.Omega.{arith}
-use lib.IntN.{ℤ, natAbs, _+ℤ_, +ℤ-idr}
+use lib.IntN.{ℤ, natAbs}
 use lib.ListN.{length, getD, take}
-use Rattle.whole.specs.Integers.{isZero-true}
 use Rattle.whole.specs.Lists.{entry}
 use Rattle.whole.specs.Tests.{isZero}
 use Rattle.problem.specs.Limits.{M}
@@ -37,9 +36,10 @@ use Rattle.settling.specs.Moves.{moves, singles, pairs, change, changes, moved}
 use Rattle.settling.specs.Measures.{below}
 use Rattle.settling.specs.Steps.{isAllowed, passes, passesAt, insert, rankFrom, ranking, rankedAt, largerAt, improves, firstMove, firstColumn, stepAt}
 use Rattle.settling.specs.Sizes.{Sized, measureOf, isRankedOf}
-use Rattle.settling.specs.Views.{vectors, Viewed, rows-length, moved-at}
+use Rattle.settling.specs.Views.{vectors, Viewed, rows-length}
+use Rattle.settling.proofs.Stepping.{moved-still}
 use Rattle.search.specs.declared.Search.{Search}
-use Rattle.search.specs.Cells.{cellAt, columnsOf, valuesOf, cell-at, pick-length}
+use Rattle.search.specs.Cells.{cellAt, columnsOf, valuesOf, cell-at}
 use Rattle.search.specs.Rankings.{ranking-below, ranking-in, ranking-falls}
 use Rattle.search.specs.Scans.{best, stepIn, scan, scan-append, scan-first}
 use Rattle.search.specs.Blocking.{Proper, weak, unchanged, blocked}
@@ -117,7 +117,7 @@ pub unchanged-passes :
 unfolding passes
 unchanged-passes S l b o q j s h e =
     let N = vectors (S .view) b in
-    let y : entry j (moved N o (valuesIn S l)) ≡ entry j (valuesIn S l) = moved-at N o (valuesIn S l) j (omega (arith, pick-length (S .view .columns) 3 l)) ∙ ap (λ (d : ℤ). entry j (valuesIn S l) +ℤ d) (isZero-true (change N o j) e) ∙ +ℤ-idr (entry j (valuesIn S l)) in
+    let y : entry j (moved N o (valuesIn S l)) ≡ entry j (valuesIn S l) = moved-still N o (valuesIn S l) j e in
     rw (y, e, s .allowed j h)
 
 -- ---- one move

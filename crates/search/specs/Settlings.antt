@@ -15,8 +15,6 @@ use borrow.Author.Tests.{eqb-true, ltb-false, not-true}
 use lib.IntN.{ℤ, pos, negsuc, natAbs}
 use lib.ListN.{length, List·getD-eq-default}
 use Rattle.whole.specs.Lists.{entry}
-use Rattle.whole.specs.Counted.{every-at}
-use Rattle.whole.specs.Tests.{every}
 use Rattle.problem.specs.Limits.{M, maxBound}
 use Rattle.problem.specs.declared.Counts.{Counts}
 use Rattle.problem.specs.declared.Answer.the-variants.{Spent}
@@ -29,14 +27,13 @@ use Rattle.settling.specs.declared.Step.the-variants.{Rest, Take}
 use Rattle.settling.specs.Columns.{Columns}
 use Rattle.settling.specs.Parts.{lt-or-ge}
 use Rattle.settling.specs.Measures.{distance}
-use Rattle.settling.specs.Moves.{pair, signPairs, singles, pairsWith, pairs, moves, changes, moved}
-use Rattle.settling.specs.Steps.{partOf, isAllowed, passes, passesAt, measureAt, improves, nextStep}
+use Rattle.settling.specs.Moves.{pair, signPairs, singles, pairsWith, pairs, moves, moved}
+use Rattle.settling.specs.Steps.{partOf, isAllowed, nextStep}
 use Rattle.settling.specs.Settle.{ended, atRest, counted, onStep, settleFrom}
 use Rattle.settling.specs.Sizes.{inside-small}
 use Rattle.settling.specs.Views.{vectors, OfBasis, rows-length, moved-length}
 use Rattle.settling.specs.Ready.{cols, Ready}
-use Rattle.settling.proofs.Stepping.{Listed, next-taken}
-use Rattle.search.specs.Blocking.{and-true}
+use Rattle.settling.proofs.Stepping.{Listed, next-taken, taken-allowed}
 use Rattle.search.specs.Scans.{signs}
 
 -- ---- the moves
@@ -95,14 +92,9 @@ listed-moves r = all-append r (singles r 0) (pairs r 0) (listed-singles r r 0 (o
 -- ---- a step's move
 step-good : (C : Columns) (N : List (List ℤ)) (v : List ℤ) (i : ℕ) (o : Move) → nextStep C N v ≡ Take i o
     → OfBasis (length N) o × ((j : ℕ) → j < C .count → isAllowed (partOf C v) (entry j (C .lower)) (entry j (C .upper)) (entry j (moved N o v)) ≡ true)
-unfolding improves passes
 step-good C N v i o e =
-    let p = partOf C v in
     let t = next-taken C N v i o e in
-    let all = and-true (changes N o i) (every (C .count) (passesAt p C N v o (measureAt p C v i))) (t .good) .1 in (
-      listed-moves (length N) o (t .listed),
-      λ k h. and-true _ _ (every-at (C .count) (passesAt p C N v o (measureAt p C v i)) k all h) .0,
-    )
+    (listed-moves (length N) o (t .listed), taken-allowed (partOf C v) C N v i o t)
 
 -- ---- the values stay within ±M
 allowed-near : (p : Part) (lo hi y : ℤ) → natAbs lo ≤ maxBound → natAbs hi ≤ maxBound → isAllowed p lo hi y ≡ true → natAbs y ≤ M

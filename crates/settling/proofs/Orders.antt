@@ -1,11 +1,11 @@
 -- Strict weak orders, and that fractions are in one.
---   Weak Proper lt      lt is a strict weak order, in which the proper elements may stand between any two
+--   Weak Proper lt      lt is a strict weak order: never both ways, and "not below" goes on through a proper element
 --   self                nothing is below itself
 --   under-past          what is below y, where z is not below y, is below z
 --   alike               elements that do not differ compare alike
 --   back                the order read from the other side is one too; so `past-under` what y is not below, where y is below z, is below z
 --   Determinate q       the fraction q is not 0/0
---   below-weak          `below`, by cross products, is such an order, in which those may stand between any two
+--   below-weak          `below`, by cross products, is such an order, in which those are proper
 -- Assumes nothing.
 use mathlib.Core.Path.{_≡_, refl, sym, _∙_}
 use mathlib.Core.Bool.{Bool, true, false, true≢false}

@@ -1,24 +1,38 @@
--- What a step is.
+-- What a step is, and what it leaves.
 --   Listed o R           the move o is one of the list R
 --   Taken part ..        column i is ranked, and o is a move of the basis that improves it
 --   step-taken           what is taken as a step is so; `next-taken` of the next step
+--   taken-changes        it changes column i
+--   taken-allowed        it leaves an allowed value in each column
+--   taken-below          a changed column that is compared then has a measure below i's old one
+--   moved-still          a column that a move does not change keeps its value
 -- Assumes nothing.
-use mathlib.Core.Path.{_≡_, refl, _∙_, ap, subst}
-use mathlib.Core.Logic.{_⊎_, inl, inr}
+use mathlib.Core.Path.{_≡_, refl, sym, _∙_, ap, subst}
+use mathlib.Core.Logic.{_⊎_, inl, inr, ⊎-elim}
 use mathlib.Core.Bool.{Bool, true, false, cond}
 use mathlib.Core.List.{List, [], _∷_}
 use Prim.Native.Nat.{ℕ, _<_}
 use native.Mathlib.Omega.{arith}
-use lib.IntN.{ℤ}
-use lib.ListN.{length}
+use lib.IntN.{ℤ, pos, _+ℤ_, +ℤ-idr}
+use lib.ListN.{length, List·getD-eq-default}
+use Rattle.whole.specs.Lists.{entry}
+use Rattle.whole.specs.Tests.{isZero, every}
+use Rattle.whole.specs.Counted.{every-at}
+use Rattle.whole.specs.Integers.{isZero-true}
+use Rattle.problem.specs.CheckLaws.{both-true}
 use Rattle.settling.specs.declared.Move.{Move}
 use Rattle.settling.specs.declared.Part.{Part}
 use Rattle.settling.specs.declared.Step.{Step}
 use Rattle.settling.specs.declared.Step.the-variants.{Rest, Take}
 use Rattle.settling.specs.Columns.{Columns}
-use Rattle.settling.specs.Moves.{moves}
-use Rattle.settling.specs.Steps.{partOf, rankedAt, largerAt, improves, ranking, orElse, firstMove, firstColumn, stepAt, stepOf, nextStep}
+use Rattle.settling.specs.Parts.{lt-or-ge}
+use Rattle.settling.specs.Moves.{moves, change, changes, moved}
+use Rattle.settling.specs.Measures.{below}
+use Rattle.settling.specs.Steps.{partOf, isCompared, isAllowed, passes, measureAt, rankedAt, largerAt, passesAt, improves}
+use Rattle.settling.specs.Steps.{ranking, orElse, firstMove, firstColumn, stepAt, stepOf, nextStep}
+use Rattle.settling.specs.Views.{moved-length, moved-at}
 use Rattle.settling.proofs.Insertion.{Each, each-ranked}
+use Rattle.settling.proofs.Passing.{passes-measured}
 
 abbrev pub Listed : Move → List Move → Type 0
 Listed o [] = ⊥
@@ -75,3 +89,33 @@ module _ (p : Part) (C : Columns) (N : List (List ℤ)) (v : List ℤ) where
 pub next-taken : (C : Columns) (N : List (List ℤ)) (v : List ℤ) (i : ℕ) (o : Move) → nextStep C N v ≡ Take i o → Taken (partOf C v) C N v i o
 unfolding nextStep
 next-taken C N v i o e = step-taken (partOf C v) C N v i o e
+
+-- ---- what it leaves
+module _ (p : Part) (C : Columns) (N : List (List ℤ)) (v : List ℤ) (i : ℕ) (o : Move) (t : Taken p C N v i o) where
+  both : (changes N o i ≡ true) × (every (C .count) (passesAt p C N v o (measureAt p C v i)) ≡ true)
+  unfolding improves
+  both = both-true (changes N o i) (every (C .count) (passesAt p C N v o (measureAt p C v i))) (t .good)
+
+  pub taken-changes : changes N o i ≡ true
+  taken-changes = both .0
+
+  all-pass : (j : ℕ) → j < C .count → passesAt p C N v o (measureAt p C v i) j ≡ true
+  all-pass j l = every-at (C .count) (passesAt p C N v o (measureAt p C v i)) j (both .1) l
+
+  pub taken-allowed : (j : ℕ) → j < C .count → isAllowed p (entry j (C .lower)) (entry j (C .upper)) (entry j (moved N o v)) ≡ true
+  unfolding passes
+  taken-allowed j l = both-true _ _ (all-pass j l) .0
+
+  pub taken-below : (j : ℕ) → j < C .count → isCompared p (entry j (C .goals)) ≡ true → isZero (change N o j) ≡ false
+      → below (measureAt p C (moved N o v) j) (measureAt p C v i) ≡ true
+  taken-below j l c e =
+      sym (passes-measured p (entry j (C .lower)) (entry j (C .upper)) (entry j (C .goals)) (entry j (moved N o v)) (change N o j)
+      (measureAt p C v i) (taken-allowed j l) e c) ∙ all-pass j l
+
+-- past the end of a list both values are 0
+pub moved-still : (N : List (List ℤ)) (o : Move) (v : List ℤ) (j : ℕ) → isZero (change N o j) ≡ true → entry j (moved N o v) ≡ entry j v
+moved-still N o v j e =
+    ⊎-elim
+    (λ l. moved-at N o v j l ∙ ap (λ (x : ℤ). entry j v +ℤ x) (isZero-true (change N o j) e) ∙ +ℤ-idr (entry j v))
+    (λ l. List·getD-eq-default (moved N o v) (pos 0) {n = j} (omega (arith, moved-length N o v)) ∙ sym (List·getD-eq-default v (pos 0) {n = j} l))
+    (lt-or-ge j (length v))

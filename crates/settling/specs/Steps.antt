@@ -74,7 +74,7 @@ improves p C N v o i = changes N o i && every (C .count) (passesAt p C N v o (me
 abbrev pub largerAt : Part → Columns → List ℤ → ℕ → ℕ → Bool
 largerAt p C v i j = below (measureAt p C v j) (measureAt p C v i)
 
--- i put behind those that are larger; here a column behind those of later columns
+-- i put behind the larger ones at the front; in a ranking the list is of later columns
 unfoldable pub insert : {A : Type 0} → (A → A → Bool) → A → List A → List A
 insert larger i [] = i ∷ []
 insert larger i (j ∷ L) = cond (larger j i) (j ∷ insert larger i L) (i ∷ j ∷ L)
