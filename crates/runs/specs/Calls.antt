@@ -1,4 +1,7 @@
 -- Document 02, (xiii): the run of a call. A whole assignment and Continue settle once, and that is their run.
+--   settleRun P N v     the run of settling from the list v over the basis N, under the problem's limit
+--   seatedRun, foundRun the run from what seating leaves, and from what the right side finds; none where that is no list
+--   ofVerdict d R       R where the call that does d has a verdict, otherwise none
 --   assignRun P B       the lists that stand while a whole assignment settles, the seated list first; none where it is refused
 --   continueRun P B     the same of Continue, the lent list first
 --   NoListTwice P R d   what holds of the run R of a call that does d
@@ -14,7 +17,6 @@ use Rattle.settling.specs.Seating.{Seated, seated, far, goalWishes, seat}
 use Rattle.engine.specs.Assign.{Buffers, Done, m, columns, solved, assign, formed, continue}
 use Rattle.runs.specs.Runs.{standing, Descent, Ends}
 
--- from the list v over the basis N
 abbrev pub settleRun : Posed → List (List ℤ) → List ℤ → List (List ℤ)
 settleRun P N v = standing (P .problem .limit) (columns P) N v
 

@@ -1,7 +1,9 @@
 -- Document 02, (xiii): "No assignment comes twice", of a run of settling over the columns C and the basis N.
+--   measures p C v      the measures of the values v, of the columns that the part p compares, in order of column
 --   distances C v       "the list of distances" of the values v: of all columns
 --   ratios C v          "the same for ratios": of the columns with a goal
 --   lowerThan K L       K, "sorted largest first, is lower at the first place where it differs" from L
+--   afterStep s f       what f makes of the step's move, and nothing where no move improves
 --   standing g C N v    the lists that stand in a run of at most g steps from v, its own term: v, then the list after each step
 --   listAt j R          the list at place j of a run, counted from 0
 --   totalSteps k        the steps of both parts
