@@ -177,7 +177,7 @@ def shut_definitions(names):
     modules = {}
     for name in names:
         folder = os.path.join(ROOT, "crates", name, "specs")
-        for file in sorted(os.listdir(folder)):
+        for file in sorted(os.listdir(folder)) if os.path.isdir(folder) else []:
             if not file.endswith(".antt"):
                 continue
             text = open(os.path.join(folder, file), encoding="utf-8").read()

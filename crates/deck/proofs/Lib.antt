@@ -1,5 +1,3 @@
 -- The root of the laws that the proofs cite.
-pub mod Numbers
-pub mod Parts
-pub mod Storage
+pub mod Lists
 pub mod Whole

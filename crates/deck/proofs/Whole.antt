@@ -1,86 +1,189 @@
--- A whole text: what its sections left in the buffers is the deck that they state, and what the call then leaves. Assumes nothing.
--- ---- the sections' buffers
+-- A whole text: what its sections left in the tables is the deck that they state, and what the call then leaves. Assumes nothing.
+-- ---- what a section answered
 use mathlib.Core.Path.{_≡_, refl, sym, ap, _∙_, subst}
 use mathlib.Core.Bool.{Bool, true, false, _&&_}
-use mathlib.Core.List.{List, [], _++_, map}
+use mathlib.Core.List.{List, _++_, map}
 use Prim.Native.Nat.{ℕ, _+_, _-_, _*_, _≤_, _<_}
 use native.Mathlib.Omega.{arith}
 use native.Mathlib.Nat.{mul-le-mul}
 use borrow.Author.Tests.{eqb-true, lt-ltb, le-ltb}
 use lib.Dec.{T, eqb}
 use lib.IntN.{ℤ, pos}
-use lib.ListN.{length, drop, replicate, length-append, length-map, length-replicate}
-use Rattle.text.specs.Tokens.{tokens}
+use lib.ListN.{length, take, drop, replicate, length-append, length-map}
+use lib.Seq.{length-take-le}
+use Rattle.whole.specs.Lists.{zeros, entry}
 use Rattle.text.specs.Buffers.{written}
-use Rattle.problem.specs.Limits.{maxBound}
+use Rattle.text.specs.Positions.{nextAt}
+use Rattle.text.specs.declared.Token.{Token}
+use Rattle.text.specs.declared.Next.{Next}
+use Rattle.text.specs.declared.Next.the-variants.{Found, End}
 use Rattle.problem.specs.declared.Refusal.{Refusal}
 use Rattle.problem.specs.declared.Refusal.the-variants.{Length, Layout}
-use Rattle.deck.specs.Rules.{ok, no, closed}
-use Rattle.deck.specs.Sections.{deckColumns, deckRows, maxText, Deck, Line, deck, readDeck}
-use Rattle.deck.specs.Columns.{lowerOf, upperOf, goalOf, rightOf, slackColumns, columnsOf, coefficientRows, posed}
-use Rattle.deck.specs.Reader.{DeckBuffers, ReadDone, lengthsFit, padded, turnedBack, accepted, read}
-use Rattle.deck.specs.declared.Reading.{Reading}
-use Rattle.deck.specs.declared.Reading.the-variants.{Read, Refused}
-use Rattle.deck.specs.Steps.{blank, noneLeft, intervalSection, rowSection, IntervalsStored, LinesStored, DeckStored, compacted}
-use Rattle.deck.specs.declared.Interval.{Interval}
-use Rattle.deck.specs.declared.Cursor.{Cursor}
+use Rattle.sections.specs.Rules.{Outcome, ok, no, then, onEnd, closed}
+use Rattle.sections.specs.Sections.{deckColumns, deckRows, coefficientCount, maxText, Line, intervalSection, rowSection}
+use Rattle.sections.specs.Columns.{lowerOf, upperOf, goalOf, rightOf, slackColumns, coefficientRows, columnWidth, columnCells, cell, cells, padded}
+use Rattle.sections.specs.Steps.{cursor, IntervalsDone, intervalsDone, intervalsLeft, RowsDone, rowsDone, rowsLeft}
+use Rattle.sections.specs.declared.Interval.{Interval}
+use Rattle.sections.specs.declared.Cursor.{Cursor}
+use Rattle.sections.specs.declared.Section.{Section}
+use Rattle.sections.specs.declared.Section.the-variants as section
+use Rattle.deck.specs.Posing.{Deck, deck, readDeck, columnsOf, posed}
+use Rattle.deck.specs.Reader.{DeckBuffers, deckBuffers, readDone, lengthsFit, turnedBack, accepted, read}
+use Rattle.deck.specs.Steps.{noneLeft, DeckStored, compacted, picked}
+use Rattle.deck.specs.declared.Reading.the-variants.{Read}
 use Rattle.text.proofs.Copying.{written-all}
-use Rattle.deck.proofs.Numbers.{closed-is, closed-not}
-use Rattle.deck.proofs.Parts.{deck-read}
-use Rattle.deck.proofs.Storage.{map-two, padded-none, padded-written, padded-zeros, slacks-upper, slacks-goal, length-rows, compacted-is, blank-is}
+use Rattle.sections.proofs.Storage.{padded-written, from-blank, wiped, cells-two, length-cells, length-rows}
+use Rattle.deck.proofs.Lists.{compacted-is, picked-is}
 
-module _ (size c : ℕ) (is ys : List Interval) where
-  -- the numbers of the y's, after those of the intervals
-  joined : (f : Interval → ℤ) (l l' : List ℤ) → length is ≡ c → c + length ys ≤ size → l ≡ padded size (map f is) → l' ≡ written l c (map f ys)
-      → l' ≡ padded size (map f (is ++ ys))
-  joined f l l' e h p q =
-      let m = length-map is f in
-      let k = length-map ys f in
-      q ∙ (rw p (padded-written size c (map f is) (map f ys) (m ∙ e) (omega arith) ∙ ap (padded size) (sym (map-two f is ys))))
+abbrev isRead : Section → ℕ
+isRead (section.Read c) = 1
+isRead (section.Refused why) = 0
 
-  -- the same where they are all 0, and the buffer was not touched
-  untouched : (f : Interval → ℤ) (g : List ℤ) → length is + length ys ≤ size → map f ys ≡ replicate (length ys) (pos 0) → g ≡ padded size (map f is)
-      → g ≡ padded size (map f (is ++ ys))
-  untouched f g h z p =
-      let m = length-map is f in
-      p ∙ (padded-zeros size (map f is) (length ys) (omega arith) ∙ ap (padded size) (ap (λ (x : List ℤ). map f is ++ x) (sym z) ∙ sym (map-two f is ys)))
+abbrev cursorOf : Section → Cursor
+cursorOf (section.Read c) = c
+cursorOf (section.Refused why) = cursor 0 0 0 0
 
-from-blank : (size : ℕ) (o u w : List ℤ) → length w ≤ size → o ≡ blank size → u ≡ written o 0 w → u ≡ padded size w
-from-blank size o u w h e f = f ∙ (rw (e, padded-none size) (padded-written size 0 [] w refl (omega arith)))
+abbrev reason : Section → Refusal
+reason (section.Read c) = Layout
+reason (section.Refused why) = why
 
-module _ (s : List ℕ) (p c : Cursor) (l u g l' u' b₀ t₀ b t : List ℤ) (i : IntervalsStored s (intervalSection (tokens s)) p l u g)
-    (w : LinesStored s (rowSection (p .intervals) (tokens (drop (p .at) s))) (p .intervals) c l b₀ t₀ l' b t) where
-  sections : deck (tokens s) ≡ closed (record { intervals = i .is; lines = w .ls }) (tokens (drop (c .at) s))
+never : {A : Type 0} → _≡_ {A = ℕ} 0 1 → A
+never e = absurd (omega arith)
+
+pub record IntervalsFound (o : Outcome (List Interval)) (p : Cursor) (k : List ℤ) : Type 0 where
+  pub is : List Interval
+  pub read : o ≡ ok is (p .at)
+  pub intervals : p .intervals ≡ length is
+  pub columns : p .columns ≡ p .intervals
+  pub rows : p .rows ≡ 0
+  pub columns-is : k ≡ padded columnCells (cells is)
+
+pub intervals-found : (o : Outcome (List Interval)) (p : Cursor) (k : List ℤ) → intervalsDone (section.Read p) k ≡ intervalsLeft o → IntervalsFound o p k
+intervals-found (ok is e) p k h =
+    let c : p ≡ cursor e (length is) (length is) 0 = ap (λ (x : IntervalsDone). cursorOf (x .section)) h in
+    record {
+      is = is;
+      read = ap (λ (x : Cursor). ok is (x .at)) (sym c);
+      intervals = ap (λ (x : Cursor). x .intervals) c;
+      columns = ap (λ (x : Cursor). x .columns) c ∙ sym (ap (λ (x : Cursor). x .intervals) c);
+      rows = ap (λ (x : Cursor). x .rows) c;
+      columns-is = ap (λ (x : IntervalsDone). x .columns) h;
+    }
+intervals-found (no why) p k h = never (sym (ap (λ (x : IntervalsDone). isRead (x .section)) h))
+
+pub intervals-refused : (o : Outcome (List Interval)) (why : Refusal) (k : List ℤ) → intervalsDone (section.Refused why) k ≡ intervalsLeft o → o ≡ no why
+intervals-refused (ok is e) why k h = never (ap (λ (x : IntervalsDone). isRead (x .section)) h)
+intervals-refused (no w) why k h = ap no (sym (ap (λ (x : IntervalsDone). reason (x .section)) h))
+
+pub record RowsFound (n : ℕ) (k₀ : List ℤ) (o : Outcome (List Line)) (c : Cursor) (k b t : List ℤ) : Type 0 where
+  pub ls : List Line
+  pub read : o ≡ ok ls (c .at)
+  pub columns : c .columns ≡ n + length (slackColumns ls)
+  pub rows : c .rows ≡ length ls
+  pub columns-is : k ≡ written k₀ (n * columnWidth) (cells (slackColumns ls))
+  pub rights-is : b ≡ padded deckRows (map rightOf ls)
+  pub table-is : t ≡ padded coefficientCount (coefficientRows deckColumns n ls)
+
+module _ (n : ℕ) (k₀ : List ℤ) (k b t : List ℤ) where
+  pub rows-found : (o : Outcome (List Line)) (c : Cursor) → rowsDone (section.Read c) k b t ≡ rowsLeft n k₀ o → RowsFound n k₀ o c k b t
+  rows-found (ok ls e) c h =
+      let d : c ≡ cursor e n (n + length (slackColumns ls)) (length ls) = ap (λ (x : RowsDone). cursorOf (x .section)) h in
+      record {
+        ls = ls;
+        read = ap (λ (x : Cursor). ok ls (x .at)) (sym d);
+        columns = ap (λ (x : Cursor). x .columns) d;
+        rows = ap (λ (x : Cursor). x .rows) d;
+        columns-is = ap (λ (x : RowsDone). x .columns) h;
+        rights-is = ap (λ (x : RowsDone). x .rights) h;
+        table-is = ap (λ (x : RowsDone). x .table) h;
+      }
+  rows-found (no why) c h = never (sym (ap (λ (x : RowsDone). isRead (x .section)) h))
+
+  pub rows-refused : (o : Outcome (List Line)) (why : Refusal) → rowsDone (section.Refused why) k b t ≡ rowsLeft n k₀ o → o ≡ no why
+  rows-refused (ok ls e) why h = never (ap (λ (x : RowsDone). isRead (x .section)) h)
+  rows-refused (no w) why h = ap no (sym (ap (λ (x : RowsDone). reason (x .section)) h))
+
+-- ---- what is left of the text
+module _ (s : List ℕ) (at : ℕ) where
+  pub left-some : (t : Token) (e : ℕ) → nextAt s at ≡ Found t e → false ≡ noneLeft (nextAt s at)
+  left-some t e h = rw h
+
+  pub left-none : nextAt s at ≡ End → true ≡ noneLeft (nextAt s at)
+  left-none h = rw h
+
+closed-is : {A : Type 0} (a : A) (at : ℕ) (n : Next) → noneLeft n ≡ true → onEnd a at n ≡ ok a at
+closed-is a at End h = refl
+closed-is a at (Found t e) h = absurd (subst T (sym h) tt)
+
+closed-not : {A : Type 0} (a : A) (at : ℕ) (n : Next) → noneLeft n ≡ false → onEnd a at n ≡ no Layout
+closed-not a at End h = absurd (subst T h tt)
+closed-not a at (Found t e) h = refl
+
+-- ---- a deck is its sections, one after the other
+module _ (s : List ℕ) where
+  abbrev afterRows : List Interval → Outcome (List Line) → Outcome Deck
+  afterRows is o = then o (λ ls at. closed s (record { intervals = is; lines = ls }) at)
+
+  abbrev afterIntervals : Outcome (List Interval) → Outcome Deck
+  afterIntervals o = then o (λ is at. afterRows is (rowSection s (length is) at))
+
+  pub deck-intervals : (why : Refusal) → intervalSection s 0 ≡ no why → deck s ≡ no why
+  deck-intervals why p = ap afterIntervals p
+
+  pub deck-rows : (is : List Interval) (at : ℕ) (why : Refusal) → intervalSection s 0 ≡ ok is at → rowSection s (length is) at ≡ no why → deck s ≡ no why
+  deck-rows is at why p q = ap afterIntervals p ∙ ap (afterRows is) q
+
+  deck-read : (is : List Interval) (ls : List Line) (p q : ℕ) → intervalSection s 0 ≡ ok is p → rowSection s (length is) p ≡ ok ls q
+      → deck s ≡ closed s (record { intervals = is; lines = ls }) q
+  deck-read is ls p q e f = ap afterIntervals e ∙ ap (afterRows is) f
+
+-- what lies in a buffer fits into it
+fits-padded : (size : ℕ) (o u : List ℤ) → o ≡ padded size u → length o ≡ size → length u ≤ size
+fits-padded size o u e h = let a = ap length e ∙ length-append u (zeros (size - length u)) in omega arith
+
+fits-written : (o u w : List ℤ) (at : ℕ) → u ≡ written o at w → at ≤ length o → length u ≡ length o → at + length w ≤ length o
+fits-written o u w at e h l =
+    let a = ap length e ∙ length-append (take at o) (w ++ drop (at + length w) o) in
+    let b = length-append w (drop (at + length w) o) in
+    let c = length-take-le at o h in
+    omega arith
+
+pub few-intervals : {o : Outcome (List Interval)} {p : Cursor} {k : List ℤ} → IntervalsFound o p k → length k ≡ columnCells → p .intervals ≤ deckColumns
+few-intervals i h = omega (arith, i .intervals, length-cells (i .is), fits-padded columnCells _ (cells (i .is)) (i .columns-is) h)
+
+module _ (s : List ℕ) (p c : Cursor) (k k' b t : List ℤ) (i : IntervalsFound (intervalSection s 0) p k)
+    (w : RowsFound (p .intervals) k (rowSection s (p .intervals) (p .at)) c k' b t) where
+  sections : deck s ≡ closed s (record { intervals = i .is; lines = w .ls }) (c .at)
   sections =
-      let r : rowSection (length (i .is)) (tokens (drop (p .at) s)) ≡ ok (w .ls) (tokens (drop (c .at) s)) = rw (i .count) at (w .read) in
-      deck-read (tokens s) (tokens (drop (p .at) s)) (tokens (drop (c .at) s)) (i .is) (w .ls) (i .read) r
+      let r : rowSection s (length (i .is)) (p .at) ≡ ok (w .ls) (c .at) = rw (i .intervals) at (w .read) in
+      deck-read s (i .is) (w .ls) (p .at) (c .at) (i .read) r
 
-  pub left-over : noneLeft (tokens (drop (c .at) s)) ≡ false → deck (tokens s) ≡ no Layout
-  left-over h = sections ∙ closed-not (record { intervals = i .is; lines = w .ls }) (tokens (drop (c .at) s)) h
+  pub left-over : noneLeft (nextAt s (c .at)) ≡ false → deck s ≡ no Layout
+  left-over h = sections ∙ closed-not (record { intervals = i .is; lines = w .ls }) (c .at) (nextAt s (c .at)) h
 
-  pub stored : b₀ ≡ blank deckRows → t₀ ≡ blank (deckRows * deckColumns) → noneLeft (tokens (drop (c .at) s)) ≡ true
-      → u' ≡ written u (c .intervals) (replicate (c .columns - c .intervals) (pos maxBound)) → DeckStored (deck (tokens s)) c l' u' g b t
-  stored eb et h eu =
+  pub stored : length k ≡ columnCells → length k' ≡ columnCells → length b ≡ deckRows → noneLeft (nextAt s (c .at)) ≡ true → DeckStored (deck s) c k' b t
+  stored hk hk' hb h =
       let ys : List Interval = slackColumns (w .ls) in
-      let n = length-append (i .is) ys in
-      let k : c .columns - c .intervals ≡ length ys = omega (arith, w .columns, w .intervals) in
-      let m : length (i .is) ≡ p .intervals = sym (i .count) in
-      let f : p .intervals + length ys ≤ deckColumns = omega (arith, w .columns, w .few) in
-      let bound : written u (c .intervals) (replicate (c .columns - c .intervals) (pos maxBound)) ≡ written u (p .intervals) (map upperOf ys) =
-      ap (λ (j : ℕ). written u j (replicate (c .columns - c .intervals) (pos maxBound))) (w .intervals) ∙
-      ap (written u (p .intervals)) (ap (λ (j : ℕ). replicate j (pos maxBound)) k ∙ sym (slacks-upper (w .ls))) in
+      let m : length (i .is) ≡ p .intervals = sym (i .intervals) in
+      let a = length-cells (i .is) in
+      let y = length-cells ys in
+      let few = fits-padded columnCells k (cells (i .is)) (i .columns-is) hk in
+      let f = fits-written k k' (cells ys) (p .intervals * columnWidth) (w .columns-is) (omega arith) (hk' ∙ sym hk) in
+      let l : length (cells (i .is)) ≡ p .intervals * columnWidth = a ∙ ap (λ (j : ℕ). j * columnWidth) m in
       record {
         deck = record { intervals = i .is; lines = w .ls };
-        read = sections ∙ closed-is (record { intervals = i .is; lines = w .ls }) (tokens (drop (c .at) s)) h;
-        columns = omega (arith, w .columns);
+        read = sections ∙ closed-is (record { intervals = i .is; lines = w .ls }) (c .at) (nextAt s (c .at)) h;
+        columns = omega (arith, w .columns, length-append (i .is) ys);
         rows = w .rows;
-        few = w .few;
-        few-rows = w .few-rows;
-        lower-is = joined deckColumns (p .intervals) (i .is) ys lowerOf l l' m f (i .lower) (w .lower-is);
-        upper-is = joined deckColumns (p .intervals) (i .is) ys upperOf u u' m f (i .upper) (eu ∙ bound);
-        goals-is = untouched deckColumns (p .intervals) (i .is) ys goalOf g (omega arith) (slacks-goal (w .ls)) (i .goals);
-        rights-is = from-blank deckRows b₀ b (map rightOf (w .ls)) (omega (arith, length-map (w .ls) rightOf, w .rows, w .few-rows)) eb (w .rights-is);
-        table-is = rw m (from-blank (deckRows * deckColumns) t₀ t (coefficientRows deckColumns (p .intervals) (w .ls)) (omega (arith, length-rows deckColumns (p .intervals) (w .ls), w .rows, w .few-rows)) et (w .table-is));
+        few = omega (arith, w .columns);
+        few-rows = omega (arith, w .rows, fits-padded deckRows b (map rightOf (w .ls)) (w .rights-is) hb, length-map (w .ls) rightOf);
+        columns-is =
+            w .columns-is ∙
+            (rw (i .columns-is)
+            (padded-written columnCells (p .intervals * columnWidth) (cells (i .is)) (cells ys) l (omega arith) ∙
+            ap (padded columnCells) (sym (cells-two (i .is) ys))));
+        rights-is = w .rights-is;
+        table-is = rw m (w .table-is);
       }
 
 -- ---- the call
@@ -93,41 +196,17 @@ module _ (s : List ℕ) (B : DeckBuffers) where
   unfolding read readDeck
   read-long h l = rw (h, lt-ltb maxText (length s) l)
 
-  pub read-is : (d : Deck) → lengthsFit B ≡ true → length s ≤ maxText → deck (tokens s) ≡ ok d [] → read s B ≡ accepted (posed 0 d)
+  pub read-is : (d : Deck) (at : ℕ) → lengthsFit B ≡ true → length s ≤ maxText → deck s ≡ ok d at → read s B ≡ accepted (posed 0 d)
   unfolding read readDeck
-  read-is d h l e = rw (h, le-ltb maxText (length s) l) (rw e)
+  read-is d at h l e = rw (h, le-ltb maxText (length s) l) (rw e)
 
-  pub read-not : (why : Refusal) → lengthsFit B ≡ true → length s ≤ maxText → deck (tokens s) ≡ no why → read s B ≡ turnedBack why B
+  pub read-not : (why : Refusal) → lengthsFit B ≡ true → length s ≤ maxText → deck s ≡ no why → read s B ≡ turnedBack why B
   unfolding read readDeck
   read-not why h l e = rw (h, le-ltb maxText (length s) l) (rw e)
 
--- what is to be shown of a call, from what it is by the definition
-pub record Answered (s : List ℕ) (B : DeckBuffers) (r : Reading) (c b l u g : List ℤ) : Type 0 where
-  pub result : r ≡ read s B .reading
-  pub coefficients : c ≡ read s B .buffers .coefficients
-  pub rights : b ≡ read s B .buffers .rights
-  pub lower : l ≡ read s B .buffers .lower
-  pub upper : u ≡ read s B .buffers .upper
-  pub goals : g ≡ read s B .buffers .goals
-
-pub answered : (s : List ℕ) (B : DeckBuffers) (D : ReadDone) → read s B ≡ D
-    → Answered s B (D .reading) (D .buffers .coefficients) (D .buffers .rights) (D .buffers .lower) (D .buffers .upper) (D .buffers .goals)
-answered s B D e = record {
-  result = ap (λ (x : ReadDone). x .reading) (sym e);
-  coefficients = ap (λ (x : ReadDone). x .buffers .coefficients) (sym e);
-  rights = ap (λ (x : ReadDone). x .buffers .rights) (sym e);
-  lower = ap (λ (x : ReadDone). x .buffers .lower) (sym e);
-  upper = ap (λ (x : ReadDone). x .buffers .upper) (sym e);
-  goals = ap (λ (x : ReadDone). x .buffers .goals) (sym e);
-}
-
-pub refused : (s : List ℕ) (B : DeckBuffers) (why : Refusal) → read s B ≡ turnedBack why B
-    → Answered s B (Refused why) (B .coefficients) (B .rights) (B .lower) (B .upper) (B .goals)
-refused s B why e = answered s B (turnedBack why B) e
-
 -- the lengths that fit
 pub record Largest (B : DeckBuffers) : Type 0 where
-  pub coefficients : length (B .coefficients) ≡ deckRows * deckColumns
+  pub coefficients : length (B .coefficients) ≡ coefficientCount
   pub rights : length (B .rights) ≡ deckRows
   pub lower : length (B .lower) ≡ deckColumns
   pub upper : length (B .upper) ≡ deckColumns
@@ -137,59 +216,59 @@ both : (a b : Bool) → a && b ≡ true → (a ≡ true) × (b ≡ true)
 both true b h = (refl, h)
 both false b h = absurd (subst T (sym h) tt)
 
-pub largest : (B : DeckBuffers) → lengthsFit B ≡ true → Largest B
-largest B h =
-    let a = both (eqb (length (B .coefficients)) (deckRows * deckColumns)) _ h in
+pub sizes : (B : DeckBuffers) → lengthsFit B ≡ true → Largest B
+sizes B h =
+    let a = both (eqb (length (B .coefficients)) (coefficientCount)) _ h in
     let b = both (eqb (length (B .rights)) deckRows) _ (a .1) in
     let c = both (eqb (length (B .lower)) deckColumns) _ (b .1) in
     let d = both (eqb (length (B .upper)) deckColumns) _ (c .1) in
     record {
-      coefficients = eqb-true (length (B .coefficients)) (deckRows * deckColumns) (a .0);
+      coefficients = eqb-true (length (B .coefficients)) (coefficientCount) (a .0);
       rights = eqb-true (length (B .rights)) deckRows (b .0);
       lower = eqb-true (length (B .lower)) deckColumns (c .0);
       upper = eqb-true (length (B .upper)) deckColumns (d .0);
       goals = eqb-true (length (B .goals)) deckColumns (d .1);
     }
 
--- a list of the largest size, copied out
+-- a list copied out
 list-is : (size : ℕ) (o o' w p : List ℤ) → length o ≡ size → length w ≡ size → o' ≡ written o 0 w → w ≡ p → o' ≡ p
 list-is size o o' w p a b e f = e ∙ (written-all o w (b ∙ sym a) ∙ f)
 
--- the coefficients: cleared, and then the first n of each row
-table-is : (o o₁ o₂ t : List ℤ) (n m c : ℕ) (ls : List Line) → length o ≡ deckRows * deckColumns → n ≤ deckColumns → m ≤ deckRows → m ≡ length ls
-    → o₁ ≡ written o 0 (replicate (length o - 0) (pos 0)) → o₂ ≡ written o₁ 0 (compacted n m 0 t)
-    → t ≡ padded (deckRows * deckColumns) (coefficientRows deckColumns c ls) → o₂ ≡ padded (deckRows * deckColumns) (coefficientRows n c ls)
-table-is o o₁ o₂ t n m c ls a h k q e f x =
-    let z : length o - 0 ≡ length o = omega arith in
-    let y : compacted n m 0 t ≡ coefficientRows n c ls =
-    ap (λ (j : ℕ). compacted n j 0 t) q ∙ compacted-is n c 0 ls t (replicate (deckRows * deckColumns - length (coefficientRows deckColumns c ls)) (pos 0)) h x in
-    let v : o₁ ≡ blank (deckRows * deckColumns) =
-    e ∙ (rw z (written-all o (replicate (length o) (pos 0)) (length-replicate (length o) (pos 0)) ∙ (ap (λ (j : ℕ). replicate j (pos 0)) a ∙ sym (blank-is (deckRows * deckColumns))))) in
-    from-blank (deckRows * deckColumns) o₁ o₂ (coefficientRows n c ls) (omega (arith, length-rows n c ls, few-rows n (length ls) h (rw q at k))) v (f ∙ ap (written o₁ 0) y)
-  where
-    few-rows : (n m : ℕ) → n ≤ deckColumns → m ≤ deckRows → m * n ≤ deckRows * deckColumns
-    few-rows n m h k = mul-le-mul k h
+-- one number of each column
+column-is : (f : ℕ) (g : Interval → ℤ) → ((i : Interval) (r : List ℤ) → entry f (cell i ++ r) ≡ g i) → (k o : List ℤ) (is : List Interval)
+    → length is ≤ deckColumns → k ≡ padded columnCells (cells is) → o ≡ picked f deckColumns k → o ≡ padded deckColumns (map g is)
+column-is f g each k o is h e p =
+    p ∙
+    (ap (picked f deckColumns) e ∙
+    (picked-is f g each is deckColumns (columnCells - length (cells is)) h ∙ ap (λ (j : ℕ). map g is ++ zeros (deckColumns - j)) (sym (length-map is g))))
 
--- an accepted text, whose buffers l to t were copied out into lent ones of the largest size
-pub accepting : (s : List ℕ) (B : DeckBuffers) (c : Cursor) (l u g b t o₁ c' b' l' u' g' : List ℤ) → lengthsFit B ≡ true → length s ≤ maxText
-    → DeckStored (deck (tokens s)) c l u g b t → length l ≡ deckColumns → length u ≡ deckColumns → length g ≡ deckColumns → length b ≡ deckRows
-    → o₁ ≡ written (B .coefficients) 0 (replicate (length (B .coefficients) - 0) (pos 0)) → c' ≡ written o₁ 0 (compacted (c .columns) (c .rows) 0 t)
-    → b' ≡ written (B .rights) 0 b → l' ≡ written (B .lower) 0 l → u' ≡ written (B .upper) 0 u → g' ≡ written (B .goals) 0 g
-    → Answered s B (Read (c .columns) (c .rows)) c' b' l' u' g'
+-- the coefficients: cleared, and then the first n of each row
+table-is : (o o₁ o₂ t : List ℤ) (n m c : ℕ) (ls : List Line) → length o ≡ coefficientCount → n ≤ deckColumns → m ≤ deckRows → m ≡ length ls
+    → o₁ ≡ written o 0 (replicate (coefficientCount - 0) (pos 0)) → o₂ ≡ written o₁ 0 (compacted n m 0 t)
+    → t ≡ padded coefficientCount (coefficientRows deckColumns c ls) → o₂ ≡ padded coefficientCount (coefficientRows n c ls)
+table-is o o₁ o₂ t n m c ls a h k q e f x =
+    let y : compacted n m 0 t ≡ coefficientRows n c ls =
+    ap (λ (j : ℕ). compacted n j 0 t) q ∙ compacted-is n c 0 ls t (zeros (coefficientCount - length (coefficientRows deckColumns c ls))) h x in
+    from-blank coefficientCount o₁ o₂ (coefficientRows n c ls) (omega (arith, length-rows n c ls, few-cells n (length ls) h (rw q at k))) (wiped coefficientCount o o₁ a e) (f ∙ ap (written o₁ 0) y)
+  where
+    few-cells : (n m : ℕ) → n ≤ deckColumns → m ≤ deckRows → m * n ≤ coefficientCount
+    few-cells n m h k = mul-le-mul k h
+
+-- an accepted text, whose tables k, b and t went out into lent lists of the largest size
+pub accepting : (s : List ℕ) (B : DeckBuffers) (c : Cursor) (k b t o₁ c' b' l' u' g' : List ℤ) → lengthsFit B ≡ true → length s ≤ maxText
+    → DeckStored (deck s) c k b t → length b ≡ deckRows → o₁ ≡ written (B .coefficients) 0 (replicate (coefficientCount - 0) (pos 0))
+    → c' ≡ written o₁ 0 (compacted (c .columns) (c .rows) 0 t) → b' ≡ written (B .rights) 0 b → l' ≡ picked 0 deckColumns k
+    → u' ≡ picked 1 deckColumns k → g' ≡ picked 2 deckColumns k → readDone (Read (c .columns) (c .rows)) (deckBuffers c' b' l' u' g') ≡ read s B
 unfolding posed
-accepting s B c l u g b t o₁ c' b' l' u' g' f k st hl hu hg hb e₁ e₂ eb el eu eg =
-    let z = largest B f in
-    let a = answered s B (accepted (posed 0 (st .deck))) (read-is s B (st .deck) f k (st .read)) in
-    let n : Read (c .columns) (c .rows) ≡ Read (length (columnsOf (st .deck))) (length (st .deck .lines)) =
-    ap (λ (j : ℕ). Read j (c .rows)) (st .columns) ∙ ap (Read (length (columnsOf (st .deck)))) (st .rows) in
-    let t' : c' ≡ padded (deckRows * deckColumns) (coefficientRows (length (columnsOf (st .deck))) (length (st .deck .intervals)) (st .deck .lines)) =
-    table-is (B .coefficients) o₁ c' t (c .columns) (c .rows) (length (st .deck .intervals)) (st .deck .lines) (z .coefficients) (st .few) (st .few-rows) (st .rows) e₁ e₂ (st .table-is) ∙
-    ap (λ (j : ℕ). padded (deckRows * deckColumns) (coefficientRows j (length (st .deck .intervals)) (st .deck .lines))) (st .columns) in
-    record {
-      result = n ∙ a .result;
-      coefficients = t' ∙ a .coefficients;
-      rights = list-is deckRows (B .rights) b' b _ (z .rights) hb eb (st .rights-is) ∙ a .rights;
-      lower = list-is deckColumns (B .lower) l' l _ (z .lower) hl el (st .lower-is) ∙ a .lower;
-      upper = list-is deckColumns (B .upper) u' u _ (z .upper) hu eu (st .upper-is) ∙ a .upper;
-      goals = list-is deckColumns (B .goals) g' g _ (z .goals) hg eg (st .goals-is) ∙ a .goals;
-    }
+accepting s B c k b t o₁ c' b' l' u' g' f h st hb e₁ e₂ eb el eu eg =
+    let z = sizes B f in
+    let d = st .deck in
+    let n : length (columnsOf d) ≤ deckColumns = omega (arith, st .few, st .columns) in
+    let pc =
+    table-is (B .coefficients) o₁ c' t (c .columns) (c .rows) (length (d .intervals)) (d .lines) (z .coefficients) (st .few) (st .few-rows) (st .rows) e₁ e₂ (st .table-is) ∙
+    ap (λ (j : ℕ). padded coefficientCount (coefficientRows j (length (d .intervals)) (d .lines))) (st .columns) in
+    let pb = list-is deckRows (B .rights) b' b _ (z .rights) hb eb (st .rights-is) in
+    let pl = column-is 0 lowerOf (λ i r. refl) k l' (columnsOf d) n (st .columns-is) el in
+    let pu = column-is 1 upperOf (λ i r. refl) k u' (columnsOf d) n (st .columns-is) eu in
+    let pg = column-is 2 goalOf (λ i r. refl) k g' (columnsOf d) n (st .columns-is) eg in
+    (λ i. readDone (Read (st .columns i) (st .rows i)) (deckBuffers (pc i) (pb i) (pl i) (pu i) (pg i))) ∙ sym (read-is s B d (c .at) f h (st .read))

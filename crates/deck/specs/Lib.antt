@@ -1,6 +1,4 @@
 -- The root of the definitions.
-pub mod Rules
-pub mod Sections
-pub mod Columns
+pub mod Posing
 pub mod Reader
 pub mod Steps

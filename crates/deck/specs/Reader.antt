@@ -1,23 +1,24 @@
--- Document 01, "Continue, text, listing": the reader. "The reader fills buffers of the largest size, 48 numbers each and 2,304 coefficients, n to a row
--- without gaps; the rest becomes 0. A wrong length is refusal 2, before the text is looked at; then a text over 32,768 bytes is 11."
+-- Document 01, "Continue, text, listing": the reader. "The reader fills buffers of the largest size, 48 numbers each and 2,304 coefficients, n to a
+-- row without gaps; the rest becomes 0. A wrong length is refusal 2, before the text is looked at; then a text over 32,768 bytes is 11."
 --   DeckBuffers    the lent buffers; `deckBuffers` makes one of five lists
 --   Reading        what is returned: n and m, or the refusal (declared in src/)
---   ReadDone       what is returned, and what the buffers then hold; a refused text leaves them as they were
+--   ReadDone       what is returned, and what the buffers then hold; `readDone` makes one of both. A refused text leaves them as they were
+--   largest ..     the lengths of the five buffers are those of the largest
 --   read s B       the reader on the text s
 -- Assumes nothing.
-use mathlib.Core.Bool.{Bool, true, false, cond, _&&_}
-use mathlib.Core.List.{List, _++_}
-use Prim.Native.Nat.{ℕ, _-_, _*_}
+use mathlib.Core.Bool.{Bool, cond, _&&_}
+use mathlib.Core.List.{List}
+use Prim.Native.Nat.{ℕ}
 use lib.Dec.{eqb}
-use lib.IntN.{ℤ, pos}
+use lib.IntN.{ℤ}
 use lib.ListN.{length}
-use Rattle.whole.specs.Lists.{zeros}
 use Rattle.problem.specs.Checks.{Posed}
 use Rattle.problem.specs.declared.Refusal.{Refusal}
 use Rattle.problem.specs.declared.Refusal.the-variants.{Length}
-use Rattle.deck.specs.Rules.{Outcome, ok, no}
-use Rattle.deck.specs.Sections.{deckColumns, deckRows, Deck, readDeck}
-use Rattle.deck.specs.Columns.{posed}
+use Rattle.sections.specs.Rules.{Outcome, ok, no}
+use Rattle.sections.specs.Sections.{deckColumns, deckRows, coefficientCount}
+use Rattle.sections.specs.Columns.{padded}
+use Rattle.deck.specs.Posing.{Deck, readDeck, posed}
 use Rattle.deck.specs.declared.Reading.{Reading}
 use Rattle.deck.specs.declared.Reading.the-variants.{Read, Refused}
 
@@ -36,19 +37,19 @@ pub record ReadDone : Type 0 where
   pub reading : Reading
   pub buffers : DeckBuffers
 
-abbrev pub lengthsFit : DeckBuffers → Bool
-lengthsFit B =
-    eqb (length (B .coefficients)) (deckRows * deckColumns)
-    && (eqb (length (B .rights)) deckRows
-    && (eqb (length (B .lower)) deckColumns && (eqb (length (B .upper)) deckColumns && eqb (length (B .goals)) deckColumns)))
+abbrev pub readDone : Reading → DeckBuffers → ReadDone
+readDone r B = record { reading = r; buffers = B }
 
--- a buffer of size numbers: "the rest becomes 0"
-abbrev pub padded : ℕ → List ℤ → List ℤ
-padded size u = u ++ zeros (size - length u)
+-- the lengths of coefficients, right sides, lower bounds, upper bounds and goals
+abbrev pub largest : ℕ → ℕ → ℕ → ℕ → ℕ → Bool
+largest c b l u g = eqb c coefficientCount && (eqb b deckRows && (eqb l deckColumns && (eqb u deckColumns && eqb g deckColumns)))
+
+abbrev pub lengthsFit : DeckBuffers → Bool
+lengthsFit B = largest (length (B .coefficients)) (length (B .rights)) (length (B .lower)) (length (B .upper)) (length (B .goals))
 
 abbrev pub filled : Posed → DeckBuffers
 filled P = record {
-  coefficients = padded (deckRows * deckColumns) (P .coefficients);
+  coefficients = padded (coefficientCount) (P .coefficients);
   rights = padded deckRows (P .rights);
   lower = padded deckColumns (P .lower);
   upper = padded deckColumns (P .upper);
@@ -56,14 +57,14 @@ filled P = record {
 }
 
 abbrev pub turnedBack : Refusal → DeckBuffers → ReadDone
-turnedBack why B = record { reading = Refused why; buffers = B }
+turnedBack why B = readDone (Refused why) B
 
 -- the buffers hold no step limit, so that any serves here
 abbrev pub accepted : Posed → ReadDone
-accepted P = record { reading = Read (P .problem .columns) (P .problem .rows); buffers = filled P }
+accepted P = readDone (Read (P .problem .columns) (P .problem .rows)) (filled P)
 
 abbrev pub onDeck : Outcome Deck → DeckBuffers → ReadDone
-onDeck (ok d ts) B = accepted (posed 0 d)
+onDeck (ok d at) B = accepted (posed 0 d)
 onDeck (no why) B = turnedBack why B
 
 unfoldable pub read : List ℕ → DeckBuffers → ReadDone

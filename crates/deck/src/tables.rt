@@ -1,17 +1,18 @@
-// The table of the widest rows, made as narrow as the problem.
-use crate::Sizes;
+// From the reader's tables to lists: coefficients as narrow as the problem, and one number of each column.
+use sections::Sizes;
 use text::buffers::copy;
 ghost use mathlib.Core.Path.{_≡_};
-ghost use Prim.Native.Nat.{_*_, _≤_};
+ghost use Prim.Native.Nat.{_≤_, _<_};
 ghost use lib.ListN.{length};
 ghost use Rattle.text.specs.Buffers.{written};
-ghost use Rattle.deck.specs.Sections.{deckColumns, deckRows};
-ghost use Rattle.deck.specs.Steps.{compacted};
+ghost use Rattle.sections.specs.Sections.{deckColumns, deckRows, coefficientCount};
+ghost use Rattle.sections.specs.Columns.{columnWidth, columnCells};
+ghost use Rattle.deck.specs.Steps.{compacted, picked};
 
 // The first n of each row's coefficients, without gaps.
 pub fn compact(table: &[i64], n: usize, m: usize, out: &mut [i64])
     requires { ⌜ (n ≤ deckColumns) × (m ≤ deckRows) ⌝ }
-    requires { ⌜ (length (now table) ≡ deckRows * deckColumns) × (length (now out) ≡ deckRows * deckColumns) ⌝ }
+    requires { ⌜ (length (now table) ≡ coefficientCount) × (length (now out) ≡ coefficientCount) ⌝ }
     ensures { λ _. ⌜ now (out .exit) ≡ written (now (out .entry)) 0 (compacted n m 0 (now (table .entry))) ⌝ }
 {
     let mut to = 0;
@@ -20,5 +21,16 @@ pub fn compact(table: &[i64], n: usize, m: usize, out: &mut [i64])
         let e = a + n;
         copy(out, to, &table[a..e]);
         to += n;
+    }
+}
+
+// The number at one place of each column.
+pub fn pick(columns: &[i64], place: usize, out: &mut [i64])
+    requires { ⌜ place < columnWidth ⌝ }
+    requires { ⌜ (length (now columns) ≡ columnCells) × (length (now out) ≡ deckColumns) ⌝ }
+    ensures { λ _. ⌜ now (out .exit) ≡ picked place deckColumns (now (columns .entry)) ⌝ }
+{
+    for i in 0..Sizes::COLUMNS {
+        out[i] = columns[i * Sizes::WIDTH + place];
     }
 }

@@ -1,5 +1,5 @@
 -- What a whole assignment and a Continue come to, by what the tableau answers.
---   done t x        a finished assignment with t in the tableau
+--   doneWith t x    a finished assignment with t in the tableau
 --   solved-form, solved-kept   the form that the right side goes through, and that it is not past the limit where the whole is not
 --   assign-over, -none, -found   a whole assignment past the limit, without whole numbers, and from a starting list on
 --   finishable      what is found can be finished
@@ -8,42 +8,37 @@
 -- Assumes nothing.
 use mathlib.Core.Path.{_≡_, refl, sym, _∙_, ap, ap₂, subst}
 use mathlib.Core.Bool.{Bool, true, false, cond, _||_, true≢false}
-use mathlib.Core.List.{List, [], _∷_, _++_}
-use Prim.Native.Nat.{ℕ, _+_, _*_, _≤_}
+use mathlib.Core.List.{List}
+use Prim.Native.Nat.{ℕ}
 use native.Mathlib.Omega.{arith}
-use lib.IntN.{ℤ, natAbs}
-use lib.ListN.{length, take, drop}
-use Rattle.whole.specs.Lists.{entry, zeros}
-use Rattle.lattice.specs.Rows.{neg, allZero, flat}
+use lib.IntN.{ℤ}
+use lib.ListN.{length, take}
+use Rattle.lattice.specs.Rows.{allZero, flat}
 use Rattle.lattice.specs.Span.{All}
 use Rattle.lattice.specs.Hermite.{Led}
 use Rattle.lattice.specs.FlatLaws.{length-chop}
-use Rattle.problem.specs.Limits.{M}
 use Rattle.problem.specs.Checks.{Posed, firstCause}
 use Rattle.problem.specs.CheckLaws.{Passes, passes, fits}
 use Rattle.problem.specs.declared.Lent.{Lent}
 use Rattle.problem.specs.declared.Check.the-variants.{Passed, Failed}
 use Rattle.problem.specs.declared.Refusal.{Refusal}
 use Rattle.problem.specs.declared.Refusal.the-variants.{NoWholeNumbers, Standing}
-use Rattle.tableau.specs.Elimination.{Left}
-use Rattle.tableau.specs.RightSide.{sweep, leading, remaining, basis, Found, none, some, Solved, rightSide, form, solve}
+use Rattle.tableau.specs.RightSide.{basis, Found, none, some, Solved, rightSide, form, solve}
 use Rattle.tableau.specs.Theorems.{problem-basis, solve-tells}
 use Rattle.rightside.specs.Solutions.{answerOf, solutionOf}
 use Rattle.rightside.specs.declared.Solution.the-variants.{Over, None, Found as Met}
-use Rattle.rightside.proofs.Answers.{solution-over, solution-none, solution-found, start-found}
-use Rattle.settling.specs.Seating.{Seated, seated, far, goalWishes, seat}
-use Rattle.settling.specs.Settle.{settle}
-use Rattle.settling.specs.Strides.{strides}
-use Rattle.engine.specs.Assign.{Buffers, Done, n, m, matrix, columns, lentOf, refused, overLimit, settleOn, onSeated, onFound, solved, assignFit, assign, stands, formed, continueFit, continue}
+use Rattle.rightside.proofs.Answers.{solution-over, solution-none}
+use Rattle.settling.specs.Seating.{Seated, seated, far, seat}
+use Rattle.engine.specs.Assign.{Buffers, Done, done, n, m, matrix, columns, lentOf, refused, overLimit, settleOn, onSeated, solved, assignFit, assign, stands, formed, continueFit, continue}
 use Rattle.engine.specs.Demand.{Within, within-sized}
 use Rattle.engine.specs.Satisfied.{found-basis}
-use Rattle.engine.specs.Views.{columnsOf, basisOf}
-use Rattle.engine.specs.Placed.{Placed, LedBasis, Stridable}
-use Rattle.engine.specs.Finish.{Finished, onSeat, finished, Finishable}
+use Rattle.engine.specs.Views.{basisOf}
+use Rattle.engine.specs.Finish.{Finished, settledBy, onSeat, finished, Finishable}
+use Rattle.engine.proofs.Readiness.{table}
 use Rattle.engine.proofs.Forming.{Laid, laid-basis, laid-placed, start-small}
 
-abbrev pub done : List ℤ → Finished → Done
-done t x = record { answer = x .answer; tableau = t; values = x .values; strides = x .strides }
+abbrev pub doneWith : List ℤ → Finished → Done
+doneWith t x = done (x .answer) t (x .values) (x .strides)
 
 -- ---- what the tableau answers
 never : {A : Type 0} → _≡_ {A = ℕ} 0 1 → A
@@ -99,7 +94,7 @@ module _ (P : Posed) where
     pub assign-none : None ≡ solutionOf (solved P) → assignFit P B ≡ refused NoWholeNumbers (flat (solved P .form)) B
     assign-none e = rw (solution-none (solved P) e, none-is (solved P) e) refl
 
-    seated-done : (T N : List (List ℤ)) (z : Seated) → onSeated P T N B z ≡ done (flat T) (onSeat (P .problem) (columns P) N (B .values) (B .strides) z)
+    seated-done : (T N : List (List ℤ)) (z : Seated) → onSeated P T N B z ≡ doneWith (flat T) (onSeat (P .problem .limit) (columns P) N (B .values) (B .strides) z)
     unfolding settleOn
     seated-done T N far = refl
     seated-done T N (seated v) = refl
@@ -117,18 +112,18 @@ module _ (P : Posed) (B : Buffers) (w : Within P B) where
         ∙ sym (laid-basis P (lentOf B) q a)
 
     pub assign-found : (s : List ℤ) → s ≡ x .start → solved P .over ≡ false
-        → assignFit P B ≡ done t (finished (P .problem) (P .lower) (P .upper) (P .goals) t s (B .values) (B .strides))
+        → assignFit P B ≡ doneWith t (finished (P .problem) (columns P) t s (B .values) (B .strides))
     assign-found s e o =
-        rw (o, x .is) (seated-done P B (solved P .form) (x .vectors) (seat (goalWishes (columns P)) (columns P) (x .vectors) (x .start)))
-        ∙ ap (λ (T : List (List ℤ)). done (flat T) (onSeat (P .problem) (columns P) (x .vectors) (B .values) (B .strides) (seat (goalWishes (columns P)) (columns P) (x .vectors) (x .start)))) (solved-form P)
-        ∙ ap (λ (u : List ℤ). done u (onSeat (P .problem) (columns P) (x .vectors) (B .values) (B .strides) (seat (goalWishes (columns P)) (columns P) (x .vectors) (x .start)))) (sym (a .is))
-        ∙ ap₂ (λ (N : List (List ℤ)) (v : List ℤ). done t (onSeat (P .problem) (columns P) N (B .values) (B .strides) (seat (goalWishes (columns P)) (columns P) N v))) same-basis (sym e)
+        rw (o, x .is) (seated-done P B (solved P .form) (x .vectors) (seat (columns P) (x .vectors) (x .start)))
+        ∙ ap (λ (T : List (List ℤ)). doneWith (flat T) (onSeat (P .problem .limit) (columns P) (x .vectors) (B .values) (B .strides) (seat (columns P) (x .vectors) (x .start)))) (solved-form P)
+        ∙ ap (λ (u : List ℤ). doneWith u (onSeat (P .problem .limit) (columns P) (x .vectors) (B .values) (B .strides) (seat (columns P) (x .vectors) (x .start)))) (sym (a .is))
+        ∙ ap₂ (λ (N : List (List ℤ)) (v : List ℤ). doneWith t (onSeat (P .problem .limit) (columns P) N (B .values) (B .strides) (seat (columns P) N v))) same-basis (sym e)
 
     start-long : length (x .start) ≡ n P
     start-long = (rw (x .is) at (solve-tells (n P) (matrix P) (P .rights) (within-sized P B w))) .long
 
     pub finishable : (s : List ℤ) → s ≡ x .start → solved P .over ≡ false
-        → Finishable (P .problem) t s (P .lower) (P .upper) (P .goals) (B .values) (B .strides)
+        → Finishable (P .problem) t s (table P) (B .values) (B .strides)
     finishable s e o = record {
       placed = laid-placed P (lentOf B) q a s (ap length e ∙ start-long) (λ j. rw e (start-small P (lentOf B) q (x .start) (x .vectors) o (x .is) j));
       led = record {
@@ -169,12 +164,7 @@ module _ (P : Posed) (B : Buffers) where
 
   -- settled over the basis of a list
   abbrev pub settledIn : List ℤ → List (List ℤ) → Done
-  settledIn t N = record {
-    answer = settle (P .problem .limit) (columns P) N (B .values) .answer;
-    tableau = t;
-    values = settle (P .problem .limit) (columns P) N (B .values) .values;
-    strides = strides (n P) N;
-  }
+  settledIn t N = doneWith t (settledBy (P .problem .limit) (columns P) N (B .values))
 
   pub continue-settled : (L : Lent) (q : Passes P L) {t : List ℤ} (a : Laid P L q t) → stands P (B .values) ≡ true → continueFit P B ≡ settledIn t (basisOf (P .problem) t)
   unfolding settleOn

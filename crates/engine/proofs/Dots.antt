@@ -14,7 +14,7 @@ use mathlib.Core.Path.{_≡_, refl, sym, _∙_, ap, ap₂, subst}
 use mathlib.Core.Bool.{Bool, true, false, not, _||_, true≢false}
 use mathlib.Core.List.{List, [], _∷_}
 use Prim.Native.Nat.{ℕ, zero, suc, _+_, _*_, _-_, _<_, _≤_}
-use native.Mathlib.Nat.{mul-le-mul, mul-le-mul-right, zero-mul}
+use native.Mathlib.Nat.{mul-le-mul, mul-le-mul-right}
 use native.Mathlib.Omega.{arith}
 use borrow.Author.Tests.{ltb-true, ltb-false, le-ltb, le-leb}
 use lib.IntN.{ℤ, pos, natAbs, _+ℤ_, _*ℤ_}
@@ -29,11 +29,11 @@ use Rattle.whole.specs.Tests.{spans}
 use Rattle.whole.specs.Counted.{every-all}
 use Rattle.whole.proofs.Signed.{abs-add, abs-mul, sfits-abs}
 use Rattle.lattice.specs.Sums.{dot}
-use Rattle.problem.specs.Limits.{M, maxColumns, maxCoefficient, anyBeyond}
+use Rattle.problem.specs.Limits.{M, maxColumns, maxRows, maxCoefficient, anyBeyond}
 use Rattle.problem.specs.Checks.{allSpan}
 use Rattle.problem.specs.CheckLaws.{all-small}
 use Rattle.tableau.specs.Within.{within-entry}
-use Rattle.engine.specs.Standing.{Summable, RowStandable}
+use Rattle.engine.specs.Standing.{maxSum, Summable, RowStandable}
 
 abbrev pub step : ℕ
 step = M * maxCoefficient
@@ -74,9 +74,9 @@ summed-more a v (suc i) s q p z =
 pub summed-all : (a v : List ℤ) (j : ℕ) (s : ℤ) → j ≡ 0 → Summed a v j s → s ≡ dot a v
 summed-all a v j s e z = z .is ∙ ap (λ (i : ℕ). dot (drop i a) (drop i v)) e
 
-pub room : (a v : List ℤ) (j : ℕ) (s : ℤ) → Summable a v → Summed a v j s → natAbs s ≤ 48 * step
+pub room : (a v : List ℤ) (j : ℕ) (s : ℤ) → Summable a v → Summed a v j s → natAbs s ≤ maxSum
 room a v j s q z =
-    let h : (length a - j) * step ≤ 48 * step = mul-le-mul-right {n = 48} step (omega (arith, q .few)) in
+    let h : (length a - j) * step ≤ maxSum = mul-le-mul-right {n = maxColumns} step (omega (arith, q .few)) in
     omega (arith, h, z .small)
 
 -- ---- what the machine reads back of a small number
@@ -91,9 +91,9 @@ sum-small (y ∷ a) [] f g = omega arith
 sum-small (y ∷ a) (x ∷ v) f g =
     omega (arith, abs-add (dot a v) (x *ℤ y), product-small x y (g 0) (f 0), sum-small a v (λ i. f (suc i)) (λ i. g (suc i)))
 
-pub dot-small : (a v : List ℤ) → Summable a v → natAbs (dot a v) ≤ 48 * step
+pub dot-small : (a v : List ℤ) → Summable a v → natAbs (dot a v) ≤ maxSum
 dot-small a v q =
-    let h : length a * step ≤ 48 * step = mul-le-mul-right {n = 48} step (omega (arith, q .few)) in
+    let h : length a * step ≤ maxSum = mul-le-mul-right {n = maxColumns} step (omega (arith, q .few)) in
     omega (arith, h, sum-small a v (q .coefficients) (q .values))
 
 part-small : (k : ℕ) (l : List ℤ) (n a : ℕ) → ((i : ℕ) → natAbs (entry i l) ≤ k) → (i : ℕ) → natAbs (entry i (take n (drop a l))) ≤ k
@@ -109,8 +109,8 @@ module _ {a b v : List ℤ} {i : ℕ} (q : RowStandable a b v i) where
   pub row-inside : i * length v + length v ≤ length a
   row-inside = let h : (i + 1) * length v ≤ length b * length v = mul-le-mul-right (length v) (omega (arith, q .row)) in omega (arith, h, q .coefficients-long)
 
-  pub table-small : length a ≤ 2304
-  table-small = let h : length b * length v ≤ 48 * 48 = mul-le-mul (q .few-rows) (q .few-columns) in omega (arith, h, q .coefficients-long)
+  pub table-small : length a ≤ maxRows * maxColumns
+  table-small = let h : length b * length v ≤ maxRows * maxColumns = mul-le-mul (q .few-rows) (q .few-columns) in omega (arith, h, q .coefficients-long)
 
   pub row-summable : (n : ℕ) → n ≡ length v → Summable (take n (drop (i * length v) a)) v
   row-summable n e =

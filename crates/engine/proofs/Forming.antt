@@ -5,9 +5,9 @@
 --   laid-parted     it is parted; laid-placed, so everything is placed for seating and settling
 --   start-small     a starting list lies within ±M
 -- Assumes nothing.
-use mathlib.Core.Path.{_≡_, refl, sym, _∙_, ap, ap₂, subst}
+use mathlib.Core.Path.{_≡_, refl, sym, _∙_, ap, subst}
 use mathlib.Core.Bool.{Bool, true, false, cond, _||_, true≢false}
-use mathlib.Core.List.{List, [], _∷_, _++_}
+use mathlib.Core.List.{List, _++_}
 use Prim.Native.Nat.{ℕ, _+_, _*_, _≤_}
 use native.Mathlib.Omega.{arith}
 use lib.IntN.{ℤ, pos, natAbs}
@@ -22,8 +22,8 @@ use Rattle.problem.specs.Checks.{Posed, allSpan}
 use Rattle.problem.specs.CheckLaws.{Passes, Fits, fits, both-true}
 use Rattle.problem.specs.declared.Lent.{Lent}
 use Rattle.tableau.specs.Table.{tableau}
-use Rattle.tableau.specs.Elimination.{Left, Run, eliminate}
-use Rattle.tableau.specs.RightSide.{sweep, leading, remaining, basis, Found, none, some, Solved, rightSide, form, solve}
+use Rattle.tableau.specs.Elimination.{Left}
+use Rattle.tableau.specs.RightSide.{sweep, leading, remaining, basis, none, some, Solved, rightSide, form, solve}
 use Rattle.tableau.specs.Theorems.{problem-count, problem-wide, problem-split}
 use Rattle.tableau.specs.Within.{Within, within-append, within-neg, within-zeros, within-drop, within-entry}
 use Rattle.tableau.specs.Buffers.{Formable}
@@ -34,7 +34,7 @@ use Rattle.rightside.proofs.Sweeping.{sweep-within}
 use Rattle.engine.specs.Assign.{n, m, matrix, solved, formed}
 use Rattle.engine.specs.Views.{width, tableOf, basisOf, Parted, flat-length}
 use Rattle.engine.specs.Placed.{Placed}
-use Rattle.engine.proofs.Readiness.{view-lies, ready}
+use Rattle.engine.proofs.Readiness.{view-lies, table, ready}
 
 module _ (P : Posed) (L : Lent) (q : Passes P L) where
   abbrev f : Fits P L
@@ -88,7 +88,7 @@ module _ (P : Posed) (L : Lent) (q : Passes P L) where
       split = rw laid-table (subst (λ (k : ℕ). leading k (formed P .table) ++ remaining k (formed P .table) ≡ formed P .table) count (problem-split (n P) (matrix P)));
     }
 
-    pub laid-placed : (v : List ℤ) → length v ≡ n P → ((j : ℕ) → natAbs (entry j v) ≤ M) → Placed (P .problem) t v (P .lower) (P .upper) (P .goals)
+    pub laid-placed : (v : List ℤ) → length v ≡ n P → ((j : ℕ) → natAbs (entry j v) ≤ M) → Placed (P .problem) t v (table P)
     laid-placed v e g = record {
       few-rows = f .few-rows;
       parted = laid-parted;

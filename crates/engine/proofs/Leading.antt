@@ -4,6 +4,7 @@
 --   leads-yes, -no     one row further up leads, or does not
 --   leads-all          from the first row on they are all
 --   leads-few          there are no more than rows
+--   maxTableau         the numbers of the largest tableau
 --   product-small      a row's place in a tableau is a small number
 -- Assumes nothing.
 use mathlib.Core.Path.{_≡_, refl, sym, _∙_, ap, ap₂}
@@ -63,7 +64,10 @@ pub leads-few : (n w m : ℕ) (t : List ℤ) (i : ℕ) → leads n w m t i ≤ n
 leads-few n w m t i = omega (arith, leading-few m (chop (n - i) w (drop (i * w) t)), length-chop (n - i) w (drop (i * w) t))
 
 -- ---- products of sizes are small
-pub product-small : (a b : ℕ) → a ≤ maxColumns → b ≤ maxRows + maxColumns → a * b ≤ 4608
+abbrev pub maxTableau : ℕ
+maxTableau = maxColumns * (maxRows + maxColumns)
+
+pub product-small : (a b : ℕ) → a ≤ maxColumns → b ≤ maxRows + maxColumns → a * b ≤ maxTableau
 product-small a b h k = mul-le-mul {n₂ = maxColumns} {m₂ = maxRows + maxColumns} h k
 
 -- ---- for the loop: row j − 1 leads, or not; and past the first row the count is whole

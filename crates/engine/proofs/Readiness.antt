@@ -1,15 +1,14 @@
 -- A problem that passes the checks is ready for seating and settling over the basis that lies in its tableau.
 --   view-lies   the basis lies in a tableau of n rows, and no number of it lies beyond ±M where none of the tableau does
+--   table P     its columns, packed; table-columns, and read back
 --   ready       so it is, with a list of values within ±M
 -- Assumes nothing.
-use mathlib.Core.Path.{_≡_, refl, sym, _∙_, ap, subst}
-use mathlib.Core.Bool.{Bool, true, false, cond}
+use mathlib.Core.Path.{_≡_, refl, sym, subst}
 use mathlib.Core.List.{List}
 use Prim.Native.Nat.{ℕ, suc, _+_, _*_, _-_, _<_, _≤_}
 use native.Mathlib.Nat.{mul-le-mul-right}
 use native.Mathlib.Omega.{arith}
-use borrow.Author.Tests.{lt-ltb, le-ltb}
-use lib.Dec.{ltb}
+use borrow.Author.Tests.{lt-ltb}
 use lib.IntN.{ℤ, pos, natAbs}
 use lib.ListN.{length, drop, length-drop}
 use lib.Seq.{getD-drop}
@@ -19,9 +18,11 @@ use Rattle.problem.specs.Checks.{Posed}
 use Rattle.problem.specs.CheckLaws.{Fits}
 use Rattle.problem.specs.declared.Problem.{Problem}
 use Rattle.problem.specs.declared.Lent.{Lent}
+use Rattle.settling.specs.Columns.{Columns, columnsIn, packed}
 use Rattle.settling.specs.Views.{Viewed}
-use Rattle.settling.specs.Ready.{Ready}
-use Rattle.engine.specs.Assign.{n, m}
+use Rattle.settling.specs.Ready.{FitColumn, Ready}
+use Rattle.settling.proofs.Packing.{packed-length, packed-columns}
+use Rattle.engine.specs.Assign.{n, m, columns}
 use Rattle.engine.specs.Views.{width, basisView, basisStart}
 
 -- a number of vector s, counted from row h on, lies in the table
@@ -43,18 +44,29 @@ view-lies p h t l a = record {
         let i : h * width p + p .rows + (s * width p + j) < p .columns * width p = inside (p .columns) h (width p) (p .rows) s j (omega arith) (omega arith) in
         omega (arith, length-drop (basisStart p h) t, e, i)
 
+-- ---- the table of a problem's columns
+abbrev pub table : Posed → List ℤ
+table P = packed (columns P)
+
+pub table-columns : (P : Posed) (L : Lent) → Fits P L → columnsIn (n P) (table P) ≡ columns P
+table-columns P L f = packed-columns (n P) (P .lower) (P .upper) (P .goals) (f .lower-long) (f .upper-long) (f .goals-long)
+
+fit-column : (P : Posed) (L : Lent) → Fits P L → (j : ℕ) → FitColumn (columns P .column j)
+fit-column P L f j = record {
+  lower = f .lower-small j;
+  upper = f .upper-small j;
+  low = f .goals-small j;
+  high = f .goals-small j;
+  above = f .goal-above j;
+}
+
 pub ready : (P : Posed) (L : Lent) → Fits P L → (h : ℕ) (l v : List ℤ) → Viewed (basisView (P .problem) h) l → length v ≡ n P → ((j : ℕ) → natAbs (entry j v) ≤ M)
-    → Ready (basisView (P .problem) h) v (P .lower) (P .upper) (P .goals) l
+    → Ready (basisView (P .problem) h) v (table P) l
 ready P L f h l v b e a = record {
   few = f .few-columns;
   basis = b;
   values-long = e;
-  lower-long = f .lower-long;
-  upper-long = f .upper-long;
-  goals-long = f .goals-long;
   values-small = a;
-  lower-small = f .lower-small;
-  upper-small = f .upper-small;
-  goals-small = f .goals-small;
-  goal-above = f .goal-above;
+  table-long = packed-length (columns P .column) (n P) 0;
+  columns = λ j. subst (λ (C : Columns). FitColumn (C .column j)) (sym (table-columns P L f)) (fit-column P L f j);
 }

@@ -2,15 +2,14 @@
 --   few-leading      no more rows lead than there are columns
 --   place-inside     the basis starts inside the tableau; tableau-small, which is small
 --   place-basis      the vectors that the code sees there are the basis
---   place-columns    and the columns are the problem's
 --   place-over       so is what is made of them
 --   place-ready      so what is placed is ready for them
 --   place-led        and a basis with leads above 0 can be seated
 -- Assumes nothing.
-use mathlib.Core.Path.{_≡_, refl, sym, _∙_, ap, ap₂, subst}
+use mathlib.Core.Path.{_≡_, refl, sym, _∙_, ap, ap₂}
 use mathlib.Core.Bool.{Bool, true, false, cond}
 use mathlib.Core.List.{List, []}
-use Prim.Native.Nat.{ℕ, suc, _+_, _*_, _-_, _<_, _≤_}
+use Prim.Native.Nat.{ℕ, _+_, _*_, _-_, _<_, _≤_}
 use native.Mathlib.Nat.{mul-le-mul-right, add-le-add}
 use native.Mathlib.Omega.{arith}
 use borrow.Author.Tests.{ltb-true}
@@ -26,16 +25,16 @@ use Rattle.lattice.specs.Hermite.{Led}
 use Rattle.problem.specs.Limits.{maxColumns, maxRows}
 use Rattle.problem.specs.declared.Problem.{Problem}
 use Rattle.tableau.specs.RightSide.{leading}
-use Rattle.settling.specs.Columns.{Columns}
-use Rattle.settling.specs.Ready.{cols, Ready}
+use Rattle.settling.specs.Columns.{Columns, columnsIn}
+use Rattle.settling.specs.Ready.{Ready}
 use Rattle.settling.specs.Moves.{vector}
 use Rattle.settling.specs.Seats as Seats
 use Rattle.settling.specs.Views.{vectors, rows-length}
 use Rattle.settling.specs.declared.Basis.{Basis}
-use Rattle.engine.specs.Views.{width, basisView, basisStart, tableOf, basisOf, columnsOf, placeOf, Parted, basis-in}
+use Rattle.engine.specs.Views.{width, basisView, basisStart, tableOf, basisOf, placeOf, Parted, basis-in}
 use Rattle.engine.specs.Placed.{Placed, LedBasis}
 use Rattle.engine.specs.declared.views.Place.{Place}
-use Rattle.engine.proofs.Leading.{leading-few, product-small}
+use Rattle.engine.proofs.Leading.{leading-few, maxTableau, product-small}
 
 pub few-leading : (n m : ℕ) (t : List ℤ) (h : ℕ) → h ≡ length (leading m (chop n (m + n) t)) → h ≤ n
 few-leading n m t h e = omega (arith, leading-few m (chop n (m + n) t), length-chop n (m + n) t)
@@ -69,16 +68,13 @@ module _ (p : Problem) (t : List ℤ) (x : Place) (e : x ≡ placeOf p t) where
   pub place-basis : Parted p t → vectors (x .view) (take (length t - x .at) (drop (x .at) t)) ≡ basisOf p t
   place-basis q = ap₂ vectors view seen ∙ basis-in p t q
 
-  place-columns : (lo hi gs : List ℤ) → cols (x .view) lo hi gs ≡ columnsOf p lo hi gs
-  place-columns lo hi gs = ap (λ (C : Basis). cols C lo hi gs) view
-
   -- what is made of the columns and the vectors that the code sees is made of the problem's and the basis
-  pub place-over : {A : Type 0} → Parted p t → (F : Columns → List (List ℤ) → A) (lo hi gs : List ℤ)
-      → F (cols (x .view) lo hi gs) (vectors (x .view) (take (length t - x .at) (drop (x .at) t))) ≡ F (columnsOf p lo hi gs) (basisOf p t)
-  place-over q F lo hi gs = ap₂ F (place-columns lo hi gs) (place-basis q)
+  pub place-over : {A : Type 0} → Parted p t → (F : Columns → List (List ℤ) → A) (c : List ℤ)
+      → F (columnsIn (x .view .columns) c) (vectors (x .view) (take (length t - x .at) (drop (x .at) t))) ≡ F (columnsIn (p .columns) c) (basisOf p t)
+  place-over q F c = ap₂ F (ap (λ (B : Basis). columnsIn (B .columns) c) view) (place-basis q)
 
-  pub place-ready : (v lo hi gs : List ℤ) → Placed p t v lo hi gs → Ready (x .view) v lo hi gs (take (length t - x .at) (drop (x .at) t))
-  place-ready v lo hi gs q = rw (view, seen) (q .ready h)
+  pub place-ready : (v c : List ℤ) → Placed p t v c → Ready (x .view) v c (take (length t - x .at) (drop (x .at) t))
+  place-ready v c q = rw (view, seen) (q .ready h)
 
   -- a vector that seating takes is one of the basis
   pub place-led : Parted p t → LedBasis p t → (s : ℕ) → s < x .view .vectors → Seats.Led (vector (vectors (x .view) (take (length t - x .at) (drop (x .at) t))) s)
@@ -88,5 +84,5 @@ module _ (p : Problem) (t : List ℤ) (x : Place) (e : x ≡ placeOf p t) where
       let d : Led (p .columns) (vector (basisOf p t) s) = all-at (Led (p .columns)) (basisOf p t) s [] (omega (arith, k)) (b .led) in
       rw (place-basis q) (record { inside = omega (arith, d .wide, d .inside); above = positive-above (d .above) })
 
-pub tableau-small : (p : Problem) (t : List ℤ) → Parted p t → p .columns ≤ maxColumns → p .rows ≤ maxRows → length t ≤ 4608
+pub tableau-small : (p : Problem) (t : List ℤ) → Parted p t → p .columns ≤ maxColumns → p .rows ≤ maxRows → length t ≤ maxTableau
 tableau-small p t q c r = omega (arith, q .long, product-small (p .columns) (width p) c (add-le-add r c))

@@ -1,12 +1,12 @@
 -- A whole assignment and Continue, of document 01: what they return, and what they leave in each lent buffer.
 --   Buffers          the lent buffers that a call fills: the tableau, the interval list and the strides
---   Done             what a call returns and what these buffers then hold; "problem buffers are only read"
+--   Done             what a call returns and what these buffers then hold; "problem buffers are only read". `done` makes one of the four
 --   refused ..       "number, counts 0", with the lists as before
 --   assign P B       "A whole assignment is the tableau, the right side, seating and settling."
 --   continue P B     "Continue settles a lent list that satisfies the rows. It forms the tableau but takes neither the right-side step nor seating."
 -- "Order: 1 to 6, then 10, then 7 and 8 as met, then 9."
 -- Assumes nothing.
-use mathlib.Core.Bool.{Bool, true, false, not, cond, _&&_}
+use mathlib.Core.Bool.{Bool, not, cond, _&&_}
 use mathlib.Core.List.{List}
 use Prim.Native.Nat.{ℕ}
 use lib.IntN.{ℤ, _-ℤ_}
@@ -27,8 +27,8 @@ use Rattle.problem.specs.declared.Answer.{Answer}
 use Rattle.problem.specs.declared.Answer.the-variants.{Refused}
 use Rattle.tableau.specs.Elimination.{Run}
 use Rattle.tableau.specs.RightSide.{Found, none, some, Solved, basis, form, solve}
-use Rattle.settling.specs.Columns.{Columns}
-use Rattle.settling.specs.Seating.{Seated, seated, far, goalWishes, seat}
+use Rattle.settling.specs.Columns.{Columns, listed}
+use Rattle.settling.specs.Seating.{Seated, seated, far, seat}
 use Rattle.settling.specs.Settle.{Settled, settle}
 use Rattle.settling.specs.Strides.{strides}
 
@@ -57,6 +57,10 @@ posed p coefficients rights lower upper goals = record {
 abbrev pub buffers : List ℤ → List ℤ → List ℕ → Buffers
 buffers tableau values strides = record { tableau = tableau; values = values; strides = strides }
 
+-- what it returns, and what it leaves
+abbrev pub done : Answer → List ℤ → List ℤ → List ℕ → Done
+done answer tableau values strides = record { answer = answer; tableau = tableau; values = values; strides = strides }
+
 -- ---- the problem's parts
 abbrev pub n : Posed → ℕ
 n P = P .problem .columns
@@ -68,7 +72,7 @@ abbrev pub matrix : Posed → List (List ℤ)
 matrix P = chop (m P) (n P) (P .coefficients)
 
 abbrev pub columns : Posed → Columns
-columns P = record { count = n P; lower = P .lower; upper = P .upper; goals = P .goals }
+columns P = listed (n P) (P .lower) (P .upper) (P .goals)
 
 abbrev pub lentOf : Buffers → Lent
 lentOf B = record { tableau = length (B .tableau); values = length (B .values); strides = length (B .strides) }
@@ -76,7 +80,7 @@ lentOf B = record { tableau = length (B .tableau); values = length (B .values); 
 -- ---- what is left: the table "Turned back"
 -- T is what the tableau then holds
 abbrev pub refused : Refusal → List ℤ → Buffers → Done
-refused why T B = record { answer = Refused why; tableau = T; values = B .values; strides = B .strides }
+refused why T B = done (Refused why) T (B .values) (B .strides)
 
 -- 7: "tableau all 0, lists as before"
 abbrev pub overLimit : Buffers → Done
@@ -84,7 +88,7 @@ overLimit B = refused Elimination (zeros (length (B .tableau))) B
 
 -- "leaves the form in the tableau, the final values in the interval list and the strides in theirs"
 abbrev pub settled : List (List ℤ) → List ℕ → Settled → Done
-settled T d z = record { answer = z .answer; tableau = flat T; values = z .values; strides = d }
+settled T d z = done (z .answer) (flat T) (z .values) d
 
 -- settling over the basis N of the form T, from the list v
 unfoldable pub settleOn : Posed → List (List ℤ) → List (List ℤ) → List ℤ → Done
@@ -102,7 +106,7 @@ onSeated P T N B (seated v) = settleOn P T N v
 
 abbrev pub onFound : Posed → List (List ℤ) → Buffers → Found → Done
 onFound P T B none = refused NoWholeNumbers (flat T) B
-onFound P T B (some start N) = onSeated P T N B (seat (goalWishes (columns P)) (columns P) N start)
+onFound P T B (some start N) = onSeated P T N B (seat (columns P) N start)
 
 abbrev pub solved : Posed → Solved
 solved P = solve (n P) (matrix P) (P .rights)

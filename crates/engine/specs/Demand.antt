@@ -15,28 +15,25 @@
 -- Assumes nothing.
 use mathlib.Core.Path.{_≡_, refl, sym, _∙_, ap, subst}
 use mathlib.Core.Logic.{_↔_}
-use mathlib.Core.Bool.{Bool, true, false, cond, _&&_, true≢false}
-use mathlib.Core.List.{List, [], _∷_}
-use Prim.Native.Nat.{ℕ, zero, suc, _+_, _*_, _≤_}
+use mathlib.Core.Bool.{Bool, true, false, cond, true≢false}
+use mathlib.Core.List.{List}
+use Prim.Native.Nat.{ℕ, zero, suc}
 use native.Mathlib.Omega.{arith}
 use lib.IntN.{ℤ}
-use lib.ListN.{length}
 use Rattle.lattice.specs.Sums.{Satisfies}
 use Rattle.lattice.specs.FlatLaws.{chop-rows, length-chop}
 use Rattle.problem.specs.Answers.{noSteps, isVerdict}
 use Rattle.problem.specs.Checks.{Posed, firstCause}
 use Rattle.problem.specs.CheckLaws.{passes, Fits, fits}
-use Rattle.problem.specs.declared.Refusal.{Refusal}
-use Rattle.problem.specs.declared.Refusal.the-variants.{Elimination, NoWholeNumbers, Seating}
-use Rattle.problem.specs.declared.Check.{Check}
-use Rattle.problem.specs.declared.Check.the-variants.{Passed, Failed}
+use Rattle.problem.specs.declared.Refusal.the-variants.{Elimination, NoWholeNumbers}
+use Rattle.problem.specs.declared.Check.the-variants.{Passed}
 use Rattle.problem.specs.declared.Counts.{Counts}
 use Rattle.problem.specs.declared.Answer.the-variants.{Spent, Refused}
 use Rattle.tableau.specs.RightSide.{Found, none, some, solve}
 use Rattle.tableau.specs.Generators.{Sized}
 use Rattle.tableau.specs.Theorems.{solve-same}
-use Rattle.settling.specs.Columns.{Columns}
-use Rattle.settling.specs.Seating.{Seated, seated, far, goalWishes, seat}
+use Rattle.settling.specs.Columns.{Columns, listed}
+use Rattle.settling.specs.Seating.{Seated, seated, far, seat}
 use Rattle.settling.specs.Moves.{moved}
 use Rattle.settling.specs.Steps.{partOf, nextStep}
 use Rattle.settling.specs.Settle.{ended, atRest, counted, onStep, settleFrom, settle}
@@ -46,7 +43,7 @@ use Rattle.settling.specs.declared.Part.the-variants.{Bounds, Goals}
 use Rattle.settling.specs.declared.Move.{Move}
 use Rattle.settling.specs.declared.Step.{Step}
 use Rattle.settling.specs.declared.Step.the-variants.{Rest, Take}
-use Rattle.engine.specs.Assign.{Buffers, Done, n, m, matrix, columns, lentOf, refused, overLimit, settleOn, onCheck, onSeated, onFound, solved, assign}
+use Rattle.engine.specs.Assign.{Buffers, Done, n, m, matrix, columns, lentOf, overLimit, settleOn, onSeated, onFound, solved, assign}
 
 -- ---- the words
 pub record Within (P : Posed) (B : Buffers) : Type 0 where
@@ -125,7 +122,7 @@ module _ (P : Posed) (T : List (List ℤ)) (B : Buffers) where
   found-below : (f : Found) → onFound P T B f .answer ≡ Refused Elimination → ⊥
   unfolding settleOn settle
   found-below none e = let z : _≡_ {A = ℕ} 8 7 = cc in omega arith
-  found-below (some v N) e = go (seat (goalWishes (columns P)) (columns P) N v) e
+  found-below (some v N) e = go (seat (columns P) N v) e
     where
       go : (z : Seated) → onSeated P T N B z .answer ≡ Refused Elimination → ⊥
       go far e = let z : _≡_ {A = ℕ} 9 7 = cc in omega arith
@@ -149,7 +146,7 @@ module _ (P : Posed) (T : List (List ℤ)) (B : Buffers) where
   found-none : (f : Found) → onFound P T B f .answer ≡ Refused NoWholeNumbers → f ≡ none
   unfolding settleOn settle
   found-none none e = refl
-  found-none (some v N) e = absurd (go (seat (goalWishes (columns P)) (columns P) N v) e)
+  found-none (some v N) e = absurd (go (seat (columns P) N v) e)
     where
       go : (z : Seated) → onSeated P T N B z .answer ≡ Refused NoWholeNumbers → ⊥
       go far e = let z : _≡_ {A = ℕ} 9 8 = cc in omega arith
@@ -165,7 +162,7 @@ none-is-none P B w f =
 -- ---- equal starts and columns have equal outcomes
 module _ (P Q : Posed) (T U : List (List ℤ)) (B C : Buffers) (e : n P ≡ n Q) (s : SameColumns P Q) where
   columns-same : columns P ≡ columns Q
-  columns-same = λ i. record { count = e i; lower = s .lower i; upper = s .upper i; goals = s .goals i }
+  columns-same = λ i. listed (e i) (s .lower i) (s .upper i) (s .goals i)
 
   seated-same : (N : List (List ℤ)) (z : Seated) → SameOutcome (onSeated P T N B z) (onSeated Q U N C z)
   unfolding settleOn
@@ -179,9 +176,9 @@ module _ (P Q : Posed) (T U : List (List ℤ)) (B C : Buffers) (e : n P ≡ n Q)
   found-same : (f : Found) → SameOutcome (onFound P T B f) (onFound Q U C f)
   found-same none = record { answer = refl; intervals = λ h. absurd (true≢false (sym h)); strides = λ h. absurd (true≢false (sym h)) }
   found-same (some v N) =
-      let z : seat (goalWishes (columns P)) (columns P) N v ≡ seat (goalWishes (columns Q)) (columns Q) N v = λ i. seat (goalWishes (columns-same i)) (columns-same i) N v in
-      subst (λ (x : Seated). SameOutcome (onSeated P T N B (seat (goalWishes (columns P)) (columns P) N v)) (onSeated Q U N C x)) z
-      (seated-same N (seat (goalWishes (columns P)) (columns P) N v))
+      let z : seat (columns P) N v ≡ seat (columns Q) N v = λ i. seat (columns-same i) N v in
+      subst (λ (x : Seated). SameOutcome (onSeated P T N B (seat (columns P) N v)) (onSeated Q U N C x)) z
+      (seated-same N (seat (columns P) N v))
 
 -- ---- the demand
 -- at another's number of columns

@@ -1,6 +1,6 @@
 -- What seating and settling need of a problem whose form lies in the tableau.
---   Placed p t v lo hi gs   the list t is parted into leading and remaining rows; wherever the basis starts in it, the values v, the bounds and the
---                           goals are ready for it
+--   Placed p t v c          the list t is parted into leading and remaining rows; wherever the basis starts in it, the values v and the table of
+--                           columns c are ready for it
 --   LedBasis p t            each vector of the basis has a lead above 0
 --   Stridable p d           the buffer of the strides has a number for each column
 -- Assumes nothing.
@@ -16,10 +16,10 @@ use Rattle.problem.specs.declared.Problem.{Problem}
 use Rattle.settling.specs.Ready.{Ready}
 use Rattle.engine.specs.Views.{basisView, basisStart, basisOf, Parted}
 
-pub record Placed (p : Problem) (t v lo hi gs : List ℤ) : Type 0 where
+pub record Placed (p : Problem) (t v c : List ℤ) : Type 0 where
   pub few-rows : p .rows ≤ maxRows
   pub parted : Parted p t
-  pub ready : (h : ℕ) → Ready (basisView p h) v lo hi gs (drop (basisStart p h) t)
+  pub ready : (h : ℕ) → Ready (basisView p h) v c (drop (basisStart p h) t)
 
 pub record LedBasis (p : Problem) (t : List ℤ) : Type 0 where
   pub led : All (Led (p .columns)) (basisOf p t)

@@ -1,19 +1,15 @@
 -- Demand 2: intervals that are returned satisfy every row, and with FITTED lie in their bounds.
---   Keeps Q N             adding a multiple of a vector of N to a list with the property Q leaves one with Q
---   seat-keeps            seating keeps such a property, and so do the steps of settling
---   settle-fitted         FITTED is said of lists within the bounds only
 --   assign-satisfies      the intervals of a whole assignment with a verdict satisfy the rows
 --   continue-satisfies    and so do those of a Continue with a verdict
 --   assign-fitted, continue-fitted   with FITTED they lie in their bounds
 -- Assumes nothing.
 use mathlib.Core.Path.{_≡_, refl, sym, _∙_, ap, subst}
-use mathlib.Core.Logic.{_↔_}
-use mathlib.Core.Bool.{Bool, true, false, not, cond, _&&_, _||_, true≢false}
+use mathlib.Core.Bool.{Bool, true, false, not, cond, _||_, true≢false}
 use mathlib.Core.List.{List, [], _∷_, _++_}
-use Prim.Native.Nat.{ℕ, zero, suc, _+_, _*_, _≤_}
+use Prim.Native.Nat.{ℕ, _+_}
 use native.Mathlib.Omega.{arith}
 use lib.IntN.{ℤ, pos, negsuc, _-ℤ_}
-use lib.ListN.{length, getD, take, drop}
+use lib.ListN.{length, take, drop}
 use lib.Seq.{ext-getD}
 use Rattle.whole.specs.Lists.{entry, zeros}
 use Rattle.whole.specs.Tests.{isZero, every}
@@ -21,7 +17,7 @@ use Rattle.whole.specs.Counted.{every-at}
 use Rattle.whole.specs.Integers.{rep, diff-rel, isZero-true}
 use Rattle.lattice.specs.Rows.{plus, minus, neg, allZero}
 use Rattle.lattice.specs.RowLaws.{length-plus, plus-comm}
-use Rattle.lattice.specs.Sums.{sums, Satisfies}
+use Rattle.lattice.specs.Sums.{sums}
 use Rattle.lattice.specs.SumLaws.{length-sums}
 use Rattle.lattice.specs.FlatLaws.{length-chop}
 use Rattle.lattice.specs.Span.{All, Len, Span, all-map, all-both, span-row, span-under, span-plus}
@@ -35,99 +31,21 @@ use Rattle.problem.specs.declared.Counts.{Counts}
 use Rattle.problem.specs.declared.Refusal.the-variants.{Standing}
 use Rattle.problem.specs.declared.Check.{Check}
 use Rattle.problem.specs.declared.Check.the-variants.{Passed, Failed}
-use Rattle.problem.specs.declared.Answer.the-variants.{Fitted, Outside, Spent, Refused}
+use Rattle.problem.specs.declared.Answer.the-variants.{Fitted}
 use Rattle.tableau.specs.Elimination.{Left}
 use Rattle.tableau.specs.RightSide.{sweep, leading, remaining, basis, Found, none, some, Solved, rightSide, form, solve}
 use Rattle.tableau.specs.Generators.{Tells, Sized}
 use Rattle.tableau.specs.Theorems.{solve-tells, solve-none}
-use Rattle.settling.specs.Columns.{Columns}
-use Rattle.settling.specs.Seating.{Seated, seated, far, goalWishes, seatOne, seat}
-use Rattle.settling.specs.Moves.{vector, moved}
-use Rattle.settling.specs.Steps.{inBounds, partIf, partOf, nextStep}
-use Rattle.settling.specs.Settle.{Settled, ended, atRest, counted, onStep, settleFrom, settle}
-use Rattle.settling.specs.declared.Wish.{Wish}
-use Rattle.settling.specs.declared.Part.{Part}
-use Rattle.settling.specs.declared.Part.the-variants.{Bounds, Goals}
-use Rattle.settling.specs.declared.Move.{Move}
-use Rattle.settling.specs.declared.Step.{Step}
-use Rattle.settling.specs.declared.Step.the-variants.{Rest, Take}
+use Rattle.settling.specs.Seating.{Seated, seated, far, seat}
+use Rattle.settling.specs.Steps.{inBounds}
+use Rattle.settling.specs.Settle.{settle}
+use Rattle.settling.proofs.Keeping.{Keeps, seat-keeps, settle-keeps, settle-fitted}
 use Rattle.engine.specs.Assign.{Buffers, Done, n, m, matrix, columns, lentOf, refused, overLimit, settleOn, onCheck, onSeated, onFound, solved, assign, stands, formed, continue}
 use Rattle.engine.specs.Demand.{Within, SatisfiesRows, within-sized, assign-is}
 
 -- two constructors are never equal: `cc` then has 0 equal to 1
 never : {A : Type 0} → _≡_ {A = ℕ} 0 1 → A
 never e = absurd (omega arith)
-
--- ---- what sums of vectors keep
-pub record Keeps (Q : List ℤ → Type 0) (N : List (List ℤ)) : Type 0 where
-  pub adds : (c : ℤ) (v : List ℤ) → Q v → All (λ (r : List ℤ). Q (plus c r v)) N
-
-module _ (Q : List ℤ → Type 0) where
-  keeps-rest : (r : List ℤ) (N : List (List ℤ)) → Keeps Q (r ∷ N) → Keeps Q N
-  keeps-rest r N k = record { adds = λ c v q. k .adds c v q .1 }
-
-  module _ (w : ℕ → Wish) (C : Columns) where
-    pub seat-keeps : (N : List (List ℤ)) (v u : List ℤ) → Keeps Q N → Q v → seat w C N v ≡ seated u → Q u
-    unfolding seat seatOne
-    seat-keeps [] v u k q e = subst Q (cc) q
-    seat-keeps (r ∷ N) v u k q e = go (anyBeyond (seatOne w C r v)) e (seat-keeps N (seatOne w C r v) u (keeps-rest r N k) (k .adds _ v q .0))
-      where
-        go : (t : Bool) → cond t far (seat w C N (seatOne w C r v)) ≡ seated u → (seat w C N (seatOne w C r v) ≡ seated u → Q u) → Q u
-        go true e f = never (cc)
-        go false e f = f e
-
-  -- a vector of N, or none
-  vector-keeps : (N : List (List ℤ)) (c : ℤ) (v : List ℤ) (s : ℕ) → Q v → All (λ (r : List ℤ). Q (plus c r v)) N → Q (plus c (getD N s []) v)
-  unfolding plus
-  vector-keeps [] c v s q a = q
-  vector-keeps (r ∷ N) c v zero q a = a .0
-  vector-keeps (r ∷ N) c v (suc s) q a = vector-keeps N c v s q (a .1)
-
-  module _ (C : Columns) (N : List (List ℤ)) (k : Keeps Q N) where
-    moved-keeps : (o : Move) (v : List ℤ) → Q v → Q (moved N o v)
-    unfolding moved
-    moved-keeps o v q =
-        let p : Q (plus (o .a) (vector N (o .s)) v) = vector-keeps N (o .a) v (o .s) q (k .adds (o .a) v q) in
-        vector-keeps N (o .b) _ (o .t) p (k .adds (o .b) _ p)
-
-    pub settle-keeps : (g : ℕ) (x : Counts) (v : List ℤ) → Q v → Q (settleFrom g C N x v .values)
-    unfolding settleFrom
-    settle-keeps zero x v q = go (nextStep C N v)
-      where
-        go : (z : Step) → Q (onStep z (ended (atRest (partOf C v) x) v) (λ o. ended (Spent x) v) .values)
-        go Rest = q
-        go (Take i o) = q
-    settle-keeps (suc g) x v q = go (nextStep C N v) (λ o. settle-keeps g (counted (partOf C v) x) (moved N o v) (moved-keeps o v q))
-      where
-        go : (z : Step) → ((o : Move) → Q (settleFrom g C N (counted (partOf C v) x) (moved N o v) .values))
-            → Q (onStep z (ended (atRest (partOf C v) x) v) (λ o. settleFrom g C N (counted (partOf C v) x) (moved N o v)) .values)
-        go Rest f = q
-        go (Take i o) f = f o
-
--- ---- FITTED
-rest-fitted : (C : Columns) (v : List ℤ) (x y : Counts) → atRest (partOf C v) x ≡ Fitted y → inBounds C v ≡ true
-rest-fitted C v x y e = go (inBounds C v) refl e
-  where
-    go : (t : Bool) → inBounds C v ≡ t → atRest (partIf t) x ≡ Fitted y → inBounds C v ≡ true
-    go true f e = f
-    go false f e = never (cc)
-
-pub settle-fitted : (g : ℕ) (C : Columns) (N : List (List ℤ)) (x y : Counts) (v : List ℤ) → settleFrom g C N x v .answer ≡ Fitted y
-    → inBounds C (settleFrom g C N x v .values) ≡ true
-unfolding settleFrom
-settle-fitted zero C N x y v = go (nextStep C N v)
-  where
-    go : (z : Step) → onStep z (ended (atRest (partOf C v) x) v) (λ o. ended (Spent x) v) .answer ≡ Fitted y
-        → inBounds C (onStep z (ended (atRest (partOf C v) x) v) (λ o. ended (Spent x) v) .values) ≡ true
-    go Rest e = rest-fitted C v x y e
-    go (Take i o) e = never (cc)
-settle-fitted (suc g) C N x y v = go (nextStep C N v) (λ o. settle-fitted g C N (counted (partOf C v) x) y (moved N o v))
-  where
-    go : (z : Step) → ((o : Move) → settleFrom g C N (counted (partOf C v) x) (moved N o v) .answer ≡ Fitted y → inBounds C (settleFrom g C N (counted (partOf C v) x) (moved N o v) .values) ≡ true)
-        → onStep z (ended (atRest (partOf C v) x) v) (λ o. settleFrom g C N (counted (partOf C v) x) (moved N o v)) .answer ≡ Fitted y
-        → inBounds C (onStep z (ended (atRest (partOf C v) x) v) (λ o. settleFrom g C N (counted (partOf C v) x) (moved N o v)) .values) ≡ true
-    go Rest f e = rest-fitted C v x y e
-    go (Take i o) f e = f o e
 
 -- ---- the vectors of a description
 span-rows : (T : List (List ℤ)) → All (Span T) T
@@ -151,16 +69,16 @@ module _ (P : Posed) (T : List (List ℤ)) (B : Buffers) where
   found-satisfies : (f : Found) → Tells (n P) (SatisfiesRows P) f → isVerdict (onFound P T B f .answer) ≡ true → SatisfiesRows P (onFound P T B f .values)
   unfolding settleOn settle
   found-satisfies none a e = absurd (true≢false (sym e))
-  found-satisfies (some v N) d e = go (seat (goalWishes (columns P)) (columns P) N v) refl e
+  found-satisfies (some v N) d e = go (seat (columns P) N v) refl e
     where
       k : Keeps (SatisfiesRows P) N
       k = describes-keeps (n P) (SatisfiesRows P) v N (λ x s. s .wide) d
 
-      go : (z : Seated) → seat (goalWishes (columns P)) (columns P) N v ≡ z → isVerdict (onSeated P T N B z .answer) ≡ true → SatisfiesRows P (onSeated P T N B z .values)
+      go : (z : Seated) → seat (columns P) N v ≡ z → isVerdict (onSeated P T N B z .answer) ≡ true → SatisfiesRows P (onSeated P T N B z .values)
       go far h e = absurd (true≢false (sym e))
       go (seated u) h e =
           settle-keeps (SatisfiesRows P) (columns P) N k (P .problem .limit) noSteps u
-          (seat-keeps (SatisfiesRows P) (goalWishes (columns P)) (columns P) N v u k (d .set v (d .long) .1 (coset-self N v)) h)
+          (seat-keeps (SatisfiesRows P) (columns P) N v u k (d .set v (d .long) .1 (coset-self N v)) h)
 
 pub assign-satisfies : (P : Posed) (B : Buffers) → Within P B → isVerdict (assign P B .answer) ≡ true → SatisfiesRows P (assign P B .values)
 assign-satisfies P B w e = rw (assign-is P B w) (go (solved P .over) (rw (assign-is P B w) at e))
@@ -255,7 +173,7 @@ assign-fitted P B k = checked (firstCause P (lentOf B))
 
     on-found : (f : Found) → onFound P T B f .answer ≡ Fitted k → inBounds (columns P) (onFound P T B f .values) ≡ true
     on-found none e = never (cc)
-    on-found (some v N) e = on-seated N (seat (goalWishes (columns P)) (columns P) N v) e
+    on-found (some v N) e = on-seated N (seat (columns P) N v) e
 
     marked : (t : Bool) → cond t (overLimit B) (onFound P T B (solved P .found)) .answer ≡ Fitted k
         → inBounds (columns P) (cond t (overLimit B) (onFound P T B (solved P .found)) .values) ≡ true

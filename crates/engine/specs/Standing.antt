@@ -1,5 +1,6 @@
 -- Refusal 10 in the terms of a call's buffers: a list "beyond ±M or failing a row".
---   Summable a v       a row of at most 48 coefficients within the limits, and as many values within ±M
+--   maxSum             no more can a row add up to
+--   Summable a v       a row of coefficients within the limits, and as many values within ±M
 --   keepsRow n a b v i   row i of the coefficients a, n to a row, adds up to its right side in b
 --   standsIn p a b v   no value lies beyond ±M, and every row is kept
 --   Standable ..       what the checks leave of these lists; RowStandable, where the values lie within ±M too, of row i
@@ -15,6 +16,9 @@ use Rattle.whole.specs.Tests.{isZero, every}
 use Rattle.lattice.specs.Sums.{dot}
 use Rattle.problem.specs.Limits.{M, maxColumns, maxRows, maxCoefficient, maxRight, anyBeyond}
 use Rattle.problem.specs.declared.Problem.{Problem}
+
+abbrev pub maxSum : ℕ
+maxSum = maxColumns * (M * maxCoefficient)
 
 pub record Summable (a v : List ℤ) : Type 0 where
   pub few : length a ≤ maxColumns

@@ -8,12 +8,12 @@
 --   basis-view       the vectors of the view are the basis
 --   basis-in         so they are in such a list
 -- Assumes nothing.
-use mathlib.Core.Path.{_≡_, refl, sym, _∙_, ap, ap₂, subst}
+use mathlib.Core.Path.{_≡_, refl, sym, _∙_, ap, ap₂}
 use mathlib.Core.Bool.{Bool, true, false, cond}
 use mathlib.Core.List.{List, [], _∷_, _++_, map}
-use Prim.Native.Nat.{ℕ, zero, suc, _+_, _*_, _-_, _<_, _≤_}
+use Prim.Native.Nat.{ℕ, zero, suc, _+_, _*_, _-_, _≤_}
 use native.Mathlib.Omega.{arith}
-use borrow.Author.Tests.{lt-ltb, le-ltb, ltb-true, ltb-false}
+use borrow.Author.Tests.{ltb-false}
 use lib.Dec.{ltb}
 use lib.IntN.{ℤ, natAbs}
 use lib.ListN.{length, take, drop, length-append, length-drop}
@@ -25,7 +25,6 @@ use Rattle.lattice.specs.FlatLaws.{flat-append, flat-chop, chop-rows, length-ch
 use Rattle.problem.specs.Limits.{M}
 use Rattle.problem.specs.declared.Problem.{Problem}
 use Rattle.tableau.specs.RightSide.{leading, remaining, basis}
-use Rattle.settling.specs.Columns.{Columns}
 use Rattle.settling.specs.Views.{rowsOf, vectors}
 use Rattle.settling.specs.declared.Basis.{Basis}
 use Rattle.engine.specs.declared.views.Place.{Place}
@@ -45,10 +44,6 @@ tableOf p t = chop (p .columns) (width p) t
 
 abbrev pub basisOf : Problem → List ℤ → List (List ℤ)
 basisOf p t = basis (p .rows) (tableOf p t)
-
--- the columns as settling sees them
-abbrev pub columnsOf : Problem → List ℤ → List ℤ → List ℤ → Columns
-columnsOf p lower upper goals = record { count = p .columns; lower = lower; upper = upper; goals = goals }
 
 pub record Parted (p : Problem) (t : List ℤ) : Type 0 where
   pub long : length t ≡ p .columns * width p

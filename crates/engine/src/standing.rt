@@ -1,17 +1,17 @@
 ghost use mathlib.Core.Path.{_≡_};
-ghost use Prim.Native.Nat.{ℕ, _+_, _*_, _<_, _≤_};
+ghost use Prim.Native.Nat.{_+_, _*_, _<_, _≤_};
 ghost use lib.IntN.{ℤ, natAbs, _+ℤ_, _-ℤ_, _*ℤ_};
 ghost use lib.ListN.{length};
 ghost use Rattle.lattice.specs.Sums as Sums;
 ghost use Rattle.problem.specs.Limits.{M, maxCoefficient, maxRight};
-ghost use Rattle.engine.specs.Standing.{Summable, Standable, RowStandable, keepsRow, standsIn};
+ghost use Rattle.engine.specs.Standing.{maxSum, Summable, Standable, RowStandable, keepsRow, standsIn};
 use problem::Problem;
 use problem::checks::all_span;
 use whole::magnitude;
 
-// s and a product of a value and a coefficient. At most 48 of these are added up, which keeps the sum far below 2^63.
+// s and a product of a value and a coefficient. At most `Problem::MAX_COLUMNS` of these are added up, which keeps the sum far below 2^63.
 fn add_product(s: i64, x: i64, a: i64) -> i64
-    requires { ⌜ (natAbs s ≤ 48 * (M * maxCoefficient)) × (natAbs x ≤ M) × (natAbs a ≤ maxCoefficient) ⌝ }
+    requires { ⌜ (natAbs s ≤ maxSum) × (natAbs x ≤ M) × (natAbs a ≤ maxCoefficient) ⌝ }
     ensures { λ r. ⌜ r ≡ s +ℤ x *ℤ a ⌝ }
 {
     s + x * a
@@ -33,7 +33,7 @@ fn dot(row: &[i64], values: &[i64]) -> i64
 
 // A row's sum less its right side.
 fn less_right(s: i64, b: i64) -> i64
-    requires { ⌜ (natAbs s ≤ 48 * (M * maxCoefficient)) × (natAbs b ≤ maxRight) ⌝ }
+    requires { ⌜ (natAbs s ≤ maxSum) × (natAbs b ≤ maxRight) ⌝ }
     ensures { λ r. ⌜ r ≡ s -ℤ b ⌝ }
 {
     s - b

@@ -1,7 +1,7 @@
 -- The reader as C calls it: what it returns and what it leaves in each lent buffer.
 --   readingNumber r   0 for a text that is read, or the refusal's number
 --   sizesOf r         the two numbers that tell of r: n and m; 0 and 0 with a refusal
---   ReadCalled        what the call returns, and what the buffers that it fills then hold
+--   ReadCalled        what the call returns, and what the buffers that it fills and the sizes then hold; `readReturned` makes one of the three
 --   readTold d        of a reader that has done d: the number, the five buffers of a problem, and the sizes
 --   readUntold B z    where the sizes z have a wrong length: refusal 2, "nothing changed"
 --   readCalled s B z  either, by the length of z; s is the text
@@ -12,7 +12,6 @@ use mathlib.Core.Bool.{cond}
 use mathlib.Core.List.{List, [], _∷_}
 use Prim.Native.Nat.{ℕ}
 use lib.Dec.{eqb}
-use lib.IntN.{ℤ}
 use lib.ListN.{length}
 use borrow.Author.Tests.{eq-eqb, ne-eqb}
 use Rattle.problem.specs.Answers.{refusalNumber}
@@ -34,34 +33,17 @@ sizesOf (Refused why) = 0 ∷ 0 ∷ []
 
 pub record ReadCalled : Type 0 where
   pub number : ℕ
-  pub coefficients : List ℤ
-  pub rights : List ℤ
-  pub lower : List ℤ
-  pub upper : List ℤ
-  pub goals : List ℤ
+  pub buffers : DeckBuffers
   pub sizes : List ℕ
 
+abbrev pub readReturned : ℕ → DeckBuffers → List ℕ → ReadCalled
+readReturned number buffers sizes = record { number = number; buffers = buffers; sizes = sizes }
+
 abbrev pub readTold : ReadDone → ReadCalled
-readTold d = record {
-  number = readingNumber (d .reading);
-  coefficients = d .buffers .coefficients;
-  rights = d .buffers .rights;
-  lower = d .buffers .lower;
-  upper = d .buffers .upper;
-  goals = d .buffers .goals;
-  sizes = sizesOf (d .reading);
-}
+readTold d = readReturned (readingNumber (d .reading)) (d .buffers) (sizesOf (d .reading))
 
 abbrev pub readUntold : DeckBuffers → List ℕ → ReadCalled
-readUntold B z = record {
-  number = refusalNumber Length;
-  coefficients = B .coefficients;
-  rights = B .rights;
-  lower = B .lower;
-  upper = B .upper;
-  goals = B .goals;
-  sizes = z;
-}
+readUntold B z = readReturned (refusalNumber Length) B z
 
 unfoldable pub readCalled : List ℕ → DeckBuffers → List ℕ → ReadCalled
 readCalled s B z = cond (eqb (length z) sizesLength) (readTold (read s B)) (readUntold B z)

@@ -4,7 +4,7 @@ mod reading;
 ghost use mathlib.Core.Path.{_≡_};
 ghost use lib.ListN.{length};
 ghost use Rattle.engine.specs.Assign.{posed, buffers, assign, continue};
-ghost use Rattle.link.specs.Calls.{problemOf, verdictNumber, reportOf, reportLength, called};
+ghost use Rattle.link.specs.Calls.{problemOf, verdictNumber, reportOf, reportLength, returned, called};
 use problem::Answer;
 use problem::Problem;
 use problem::Refusal;
@@ -52,11 +52,10 @@ pub extern "C" fn koralimbu_assign(
     strides: &mut [u64],
     report: &mut [u32],
 ) -> u32
-    ensures { λ r. ⌜ r ≡ called (buffers (now (tableau .entry)) (now (values .entry)) (now (strides .entry))) (now (report .entry)) (assign (posed (problemOf n m limit) (now (coefficients .entry)) (now (rights .entry)) (now (lower .entry)) (now (upper .entry)) (now (goals .entry))) (buffers (now (tableau .entry)) (now (values .entry)) (now (strides .entry)))) .number ⌝ }
-    ensures { λ _. ⌜ now (tableau .exit) ≡ called (buffers (now (tableau .entry)) (now (values .entry)) (now (strides .entry))) (now (report .entry)) (assign (posed (problemOf n m limit) (now (coefficients .entry)) (now (rights .entry)) (now (lower .entry)) (now (upper .entry)) (now (goals .entry))) (buffers (now (tableau .entry)) (now (values .entry)) (now (strides .entry)))) .tableau ⌝ }
-    ensures { λ _. ⌜ now (values .exit) ≡ called (buffers (now (tableau .entry)) (now (values .entry)) (now (strides .entry))) (now (report .entry)) (assign (posed (problemOf n m limit) (now (coefficients .entry)) (now (rights .entry)) (now (lower .entry)) (now (upper .entry)) (now (goals .entry))) (buffers (now (tableau .entry)) (now (values .entry)) (now (strides .entry)))) .values ⌝ }
-    ensures { λ _. ⌜ now (strides .exit) ≡ called (buffers (now (tableau .entry)) (now (values .entry)) (now (strides .entry))) (now (report .entry)) (assign (posed (problemOf n m limit) (now (coefficients .entry)) (now (rights .entry)) (now (lower .entry)) (now (upper .entry)) (now (goals .entry))) (buffers (now (tableau .entry)) (now (values .entry)) (now (strides .entry)))) .strides ⌝ }
-    ensures { λ _. ⌜ now (report .exit) ≡ called (buffers (now (tableau .entry)) (now (values .entry)) (now (strides .entry))) (now (report .entry)) (assign (posed (problemOf n m limit) (now (coefficients .entry)) (now (rights .entry)) (now (lower .entry)) (now (upper .entry)) (now (goals .entry))) (buffers (now (tableau .entry)) (now (values .entry)) (now (strides .entry)))) .report ⌝ }
+    ensures { λ r. ⌜ returned r (buffers (now (tableau .exit)) (now (values .exit)) (now (strides .exit))) (now (report .exit))
+        ≡ called assign
+        (posed (problemOf n m limit) (now (coefficients .entry)) (now (rights .entry)) (now (lower .entry)) (now (upper .entry)) (now (goals .entry)))
+        (buffers (now (tableau .entry)) (now (values .entry)) (now (strides .entry))) (now (report .entry)) ⌝ }
 {
     if report.len() != REPORT {
         return Refusal::Length.number();
@@ -97,11 +96,10 @@ pub extern "C" fn koralimbu_continue(
     strides: &mut [u64],
     report: &mut [u32],
 ) -> u32
-    ensures { λ r. ⌜ r ≡ called (buffers (now (tableau .entry)) (now (values .entry)) (now (strides .entry))) (now (report .entry)) (continue (posed (problemOf n m limit) (now (coefficients .entry)) (now (rights .entry)) (now (lower .entry)) (now (upper .entry)) (now (goals .entry))) (buffers (now (tableau .entry)) (now (values .entry)) (now (strides .entry)))) .number ⌝ }
-    ensures { λ _. ⌜ now (tableau .exit) ≡ called (buffers (now (tableau .entry)) (now (values .entry)) (now (strides .entry))) (now (report .entry)) (continue (posed (problemOf n m limit) (now (coefficients .entry)) (now (rights .entry)) (now (lower .entry)) (now (upper .entry)) (now (goals .entry))) (buffers (now (tableau .entry)) (now (values .entry)) (now (strides .entry)))) .tableau ⌝ }
-    ensures { λ _. ⌜ now (values .exit) ≡ called (buffers (now (tableau .entry)) (now (values .entry)) (now (strides .entry))) (now (report .entry)) (continue (posed (problemOf n m limit) (now (coefficients .entry)) (now (rights .entry)) (now (lower .entry)) (now (upper .entry)) (now (goals .entry))) (buffers (now (tableau .entry)) (now (values .entry)) (now (strides .entry)))) .values ⌝ }
-    ensures { λ _. ⌜ now (strides .exit) ≡ called (buffers (now (tableau .entry)) (now (values .entry)) (now (strides .entry))) (now (report .entry)) (continue (posed (problemOf n m limit) (now (coefficients .entry)) (now (rights .entry)) (now (lower .entry)) (now (upper .entry)) (now (goals .entry))) (buffers (now (tableau .entry)) (now (values .entry)) (now (strides .entry)))) .strides ⌝ }
-    ensures { λ _. ⌜ now (report .exit) ≡ called (buffers (now (tableau .entry)) (now (values .entry)) (now (strides .entry))) (now (report .entry)) (continue (posed (problemOf n m limit) (now (coefficients .entry)) (now (rights .entry)) (now (lower .entry)) (now (upper .entry)) (now (goals .entry))) (buffers (now (tableau .entry)) (now (values .entry)) (now (strides .entry)))) .report ⌝ }
+    ensures { λ r. ⌜ returned r (buffers (now (tableau .exit)) (now (values .exit)) (now (strides .exit))) (now (report .exit))
+        ≡ called continue
+        (posed (problemOf n m limit) (now (coefficients .entry)) (now (rights .entry)) (now (lower .entry)) (now (upper .entry)) (now (goals .entry)))
+        (buffers (now (tableau .entry)) (now (values .entry)) (now (strides .entry))) (now (report .entry)) ⌝ }
 {
     if report.len() != REPORT {
         return Refusal::Length.number();

@@ -2,7 +2,7 @@
 ghost use mathlib.Core.Path.{_≡_};
 ghost use lib.ListN.{length};
 ghost use Rattle.deck.specs.Reader.{deckBuffers};
-ghost use Rattle.link.specs.Reads.{readingNumber, sizesOf, sizesLength, readCalled};
+ghost use Rattle.link.specs.Reads.{readingNumber, sizesOf, sizesLength, readReturned, readCalled};
 use deck::Reading;
 use problem::Refusal;
 
@@ -45,13 +45,12 @@ pub extern "C" fn koralimbu_read(
     goals: &mut [i64],
     sizes: &mut [usize],
 ) -> u32
-    ensures { λ r. ⌜ r ≡ readCalled (now (text .entry)) (deckBuffers (now (coefficients .entry)) (now (rights .entry)) (now (lower .entry)) (now (upper .entry)) (now (goals .entry))) (now (sizes .entry)) .number ⌝ }
-    ensures { λ _. ⌜ now (coefficients .exit) ≡ readCalled (now (text .entry)) (deckBuffers (now (coefficients .entry)) (now (rights .entry)) (now (lower .entry)) (now (upper .entry)) (now (goals .entry))) (now (sizes .entry)) .coefficients ⌝ }
-    ensures { λ _. ⌜ now (rights .exit) ≡ readCalled (now (text .entry)) (deckBuffers (now (coefficients .entry)) (now (rights .entry)) (now (lower .entry)) (now (upper .entry)) (now (goals .entry))) (now (sizes .entry)) .rights ⌝ }
-    ensures { λ _. ⌜ now (lower .exit) ≡ readCalled (now (text .entry)) (deckBuffers (now (coefficients .entry)) (now (rights .entry)) (now (lower .entry)) (now (upper .entry)) (now (goals .entry))) (now (sizes .entry)) .lower ⌝ }
-    ensures { λ _. ⌜ now (upper .exit) ≡ readCalled (now (text .entry)) (deckBuffers (now (coefficients .entry)) (now (rights .entry)) (now (lower .entry)) (now (upper .entry)) (now (goals .entry))) (now (sizes .entry)) .upper ⌝ }
-    ensures { λ _. ⌜ now (goals .exit) ≡ readCalled (now (text .entry)) (deckBuffers (now (coefficients .entry)) (now (rights .entry)) (now (lower .entry)) (now (upper .entry)) (now (goals .entry))) (now (sizes .entry)) .goals ⌝ }
-    ensures { λ _. ⌜ now (sizes .exit) ≡ readCalled (now (text .entry)) (deckBuffers (now (coefficients .entry)) (now (rights .entry)) (now (lower .entry)) (now (upper .entry)) (now (goals .entry))) (now (sizes .entry)) .sizes ⌝ }
+    ensures { λ r. ⌜ readReturned r
+        (deckBuffers (now (coefficients .exit)) (now (rights .exit)) (now (lower .exit)) (now (upper .exit)) (now (goals .exit)))
+        (now (sizes .exit))
+        ≡ readCalled (now (text .entry))
+        (deckBuffers (now (coefficients .entry)) (now (rights .entry)) (now (lower .entry)) (now (upper .entry)) (now (goals .entry)))
+        (now (sizes .entry)) ⌝ }
 {
     if sizes.len() != SIZES {
         return Refusal::Length.number();

@@ -7,15 +7,19 @@
 --   maxSteps              "Step limit 0 to 65,535"
 --   M                     "M is 2,147,483,647"
 --   limits                all of them; `Problem::limits` in src/ holds the code's constants to these
+--   groupColumns, groupRows   the same of a group: the columns and rows that one elimination forms together. A problem is one group today;
+--                         the names are apart so that a problem may come to hold more than one group does
+--   groupLimits           both; `Group::limits` in src/ holds the code's constants to these
 --   beyond x              x lies beyond ±M
 --   anyBeyond r           some number of the list does
 -- Assumes nothing.
-use mathlib.Core.Bool.{Bool, true, false, _||_}
+use mathlib.Core.Bool.{Bool, false, _||_}
 use mathlib.Core.List.{List, [], _∷_}
 use Prim.Native.Nat.{ℕ}
 use lib.Dec.{ltb}
 use lib.IntN.{ℤ, natAbs}
 use Rattle.problem.specs.declared.Limits.{Limits}
+use Rattle.problem.specs.declared.groups.Group.{Group}
 
 abbrev pub maxColumns : ℕ
 maxColumns = 48
@@ -52,6 +56,15 @@ limits = record {
   steps = maxSteps;
   number = M;
 }
+
+abbrev pub groupColumns : ℕ
+groupColumns = 48
+
+abbrev pub groupRows : ℕ
+groupRows = 48
+
+abbrev pub groupLimits : Group
+groupLimits = record { columns = groupColumns; rows = groupRows }
 
 abbrev pub beyond : ℤ → Bool
 beyond x = ltb M (natAbs x)

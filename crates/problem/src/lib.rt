@@ -5,6 +5,7 @@ ghost use Rattle.problem.specs.Answers.{refusalNumber, answerNumber, ans
 ghost use Rattle.problem.specs.Checks.{emptyProblem};
 
 pub mod checks;
+pub mod groups;
 
 // A problem's numbers: n columns, m rows and the step limit. Its lists are lent beside it, as slices.
 pub struct Problem {

@@ -1,12 +1,12 @@
 -- Laws of the listing: how long its lines are, its columns one at a time, and what the call leaves. Assumes nothing.
 -- ---- lengths: a number of 64 bits has at most 20 digits
-use mathlib.Core.Path.{_≡_, refl, sym, ap, _∙_}
-use mathlib.Core.Bool.{Bool, true, false}
+use mathlib.Core.Path.{_≡_, sym, ap, _∙_}
+use mathlib.Core.Bool.{Bool, true, false, cond}
 use mathlib.Core.List.{List, [], _++_, append-nil}
 use Prim.Native.Nat.{ℕ, _+_, _-_, _≤_, _<_, _^_}
 use native.Mathlib.Numerals.{add-one}
 use native.Mathlib.Omega.{arith}
-use borrow.Author.Tests.{eq-eqb, ne-eqb, eqb-true, eqb-false, le-leb, lt-leb}
+use borrow.Author.Tests.{eq-eqb, ne-eqb, le-leb, lt-leb}
 use lib.Dec.{eqb}
 use lib.IntN.{ℤ, pos, negsuc, natAbs}
 use lib.ListN.{length, take, drop, getD, length-append, drop-of-length-le}
@@ -17,11 +17,10 @@ use Rattle.text.specs.Buffers.{Wrote}
 use Rattle.text.specs.Decimals.{natural, integer}
 use Rattle.problem.specs.Answers.{refusalNumber}
 use Rattle.problem.specs.declared.Counts.{Counts}
-use Rattle.problem.specs.declared.Refusal.{Refusal}
-use Rattle.problem.specs.declared.Refusal.the-variants.{Size, Length, Coefficient, Bound, Goal, Limit, Elimination, NoWholeNumbers, Seating, Standing, Layout, Term}
+use Rattle.problem.specs.declared.Refusal.the-variants.{NoWholeNumbers}
 use Rattle.problem.specs.declared.Answer.{Answer}
 use Rattle.problem.specs.declared.Answer.the-variants.{Fitted, Outside, Spent, Refused}
-use Rattle.report.specs.Listing.{NONE, lineEnd, verdict, line, linesFrom, numbered, refusal, headline, listing, linesOf, untouched, writeListing}
+use Rattle.report.specs.Listing.{NONE, lineEnd, verdict, line, linesFrom, numbered, refusal, headline, listing, linesOf, listingDone, writeListing}
 use Rattle.report.specs.declared.Written.the-variants.{Bytes, Uneven, NoRoom}
 use Rattle.text.proofs.Digits.{length-natural, length-integer}
 
@@ -40,57 +39,19 @@ abs-fits (negsuc n) f = omega (arith, f .sfits)
 pub length-verdict : (w : List ℕ) (k : Counts) → length w ≤ 7 → k .bounds < 2 ^ 64 → k .goals < 2 ^ 64 → length (verdict w k) ≤ 64
 length-verdict w k h p q = simp length-append (omega (arith, length-digits (k .bounds) p, length-digits (k .goals) q))
 
--- ---- a refusal's line, by its number
-pub refusal-none : (why : Refusal) → refusalNumber why ≡ 8 → refusal why ≡ NONE ++ lineEnd
-refusal-none Size h = absurd (omega arith)
-refusal-none Length h = absurd (omega arith)
-refusal-none Coefficient h = absurd (omega arith)
-refusal-none Bound h = absurd (omega arith)
-refusal-none Goal h = absurd (omega arith)
-refusal-none Limit h = absurd (omega arith)
-refusal-none Elimination h = absurd (omega arith)
-refusal-none NoWholeNumbers h = refl
-refusal-none Seating h = absurd (omega arith)
-refusal-none Standing h = absurd (omega arith)
-refusal-none Layout h = absurd (omega arith)
-refusal-none Term h = absurd (omega arith)
+-- ---- the line of a refusal's number
+pub refusal-none : (k : ℕ) → k ≡ refusalNumber NoWholeNumbers → refusal k ≡ NONE ++ lineEnd
+refusal-none k h = rw (eq-eqb k (refusalNumber NoWholeNumbers) h)
 
-pub refusal-other : (why : Refusal) → (refusalNumber why ≡ 8 → ⊥) → refusal why ≡ numbered why
-refusal-other Size h = refl
-refusal-other Length h = refl
-refusal-other Coefficient h = refl
-refusal-other Bound h = refl
-refusal-other Goal h = refl
-refusal-other Limit h = refl
-refusal-other Elimination h = refl
-refusal-other NoWholeNumbers h = absurd (h refl)
-refusal-other Seating h = refl
-refusal-other Standing h = refl
-refusal-other Layout h = refl
-refusal-other Term h = refl
+pub refusal-other : (k : ℕ) → (k ≡ refusalNumber NoWholeNumbers → ⊥) → refusal k ≡ numbered k
+refusal-other k h = rw (ne-eqb k (refusalNumber NoWholeNumbers) h)
 
-number-small : (why : Refusal) → refusalNumber why < 2 ^ 64
-number-small Size = omega arith
-number-small Length = omega arith
-number-small Coefficient = omega arith
-number-small Bound = omega arith
-number-small Goal = omega arith
-number-small Limit = omega arith
-number-small Elimination = omega arith
-number-small NoWholeNumbers = omega arith
-number-small Seating = omega arith
-number-small Standing = omega arith
-number-small Layout = omega arith
-number-small Term = omega arith
-
-pub length-refusal : (why : Refusal) → length (refusal why) ≤ 64
-length-refusal why = by (eqb (refusalNumber why) 8) refl
+pub length-refusal : (k : ℕ) → k < 2 ^ 64 → length (refusal k) ≤ 64
+length-refusal k h = by (eqb k (refusalNumber NoWholeNumbers))
   where
-    by : (t : Bool) → eqb (refusalNumber why) 8 ≡ t → length (refusal why) ≤ 64
-    by true e = rw (refusal-none why (eqb-true (refusalNumber why) 8 e)) (omega arith)
-    by false e =
-        rw (refusal-other why (eqb-false (refusalNumber why) 8 e))
-        (simp length-append (omega (arith, length-digits (refusalNumber why) (number-small why))))
+    by : (t : Bool) → length (cond t (NONE ++ lineEnd) (numbered k)) ≤ 64
+    by true = omega arith
+    by false = simp length-append (omega (arith, length-digits k h))
 
 -- ---- the columns' lines, one at a time
 module _ (v : List ℤ) (d : List ℕ) (i : ℕ) where
@@ -115,7 +76,7 @@ unfolding listing linesFrom
 listing-is (Fitted k) v d h = rw (take-length v, take-all (length v) d (omega arith))
 listing-is (Outside k) v d h = rw (take-length v, take-all (length v) d (omega arith))
 listing-is (Spent k) v d h = rw (take-length v, take-all (length v) d (omega arith))
-listing-is (Refused why) v d h = sym (append-nil (refusal why))
+listing-is (Refused why) v d h = sym (append-nil (refusal (refusalNumber why)))
 
 lines-few : (a : Answer) (n : ℕ) → linesOf a n ≤ n
 lines-few (Fitted k) n = omega arith
@@ -137,16 +98,16 @@ pub listing-length : (a : Answer) (v : List ℤ) (d : List ℕ) (n : ℕ) → n 
 listing-length a v d n p q = ap length (listing-lines a v d n p q) ∙ length-append (headline a) (linesFrom 0 (take n v) (take n d))
 
 module _ (o : List ℕ) (a : Answer) (v : List ℤ) (d : List ℕ) where
-  pub write-uneven : (linesOf a (length d) ≡ linesOf a (length v) → ⊥) → writeListing o a v d ≡ untouched Uneven o
+  pub write-uneven : (linesOf a (length d) ≡ linesOf a (length v) → ⊥) → writeListing o a v d ≡ listingDone Uneven o
   unfolding writeListing
   write-uneven h = rw (ne-eqb (linesOf a (length d)) (linesOf a (length v)) h)
 
-  pub write-short : linesOf a (length d) ≡ linesOf a (length v) → length o < length (listing a v d) → writeListing o a v d ≡ untouched NoRoom o
+  pub write-short : linesOf a (length d) ≡ linesOf a (length v) → length o < length (listing a v d) → writeListing o a v d ≡ listingDone NoRoom o
   unfolding writeListing
   write-short h l = rw (eq-eqb (linesOf a (length d)) (linesOf a (length v)) h, lt-leb (length (listing a v d)) (length o) l)
 
   pub write-done : (r : ℕ) (p : List ℕ) → linesOf a (length d) ≡ linesOf a (length v) → length (listing a v d) ≤ length o → Wrote o 0 (listing a v d) r p
-      → writeListing o a v d ≡ record { written = Bytes r; out = p }
+      → writeListing o a v d ≡ listingDone (Bytes r) p
   unfolding writeListing
   write-done r p h l w =
       let z : 0 + length (listing a v d) ≡ length (listing a v d) = omega arith in

@@ -1,24 +1,25 @@
 -- Document 01, "Continue, text, listing": the listing's bytes. It "prints FITTED, OUTSIDE, SPENT, NONE or REFUSED. After the first three come both
 -- counts, then a line for each column: column, value, stride. NONE stands alone (refusal 8). REFUSED is followed by the number. Fields are parted by
 -- one space; each line ends with byte 10."
+--   refusal k              the line of the refusal that has the number k
 --   headline a             the first line
 --   line c v d             a column's line
 --   listing a v d          the listing of the answer a, with the values v and the strides d where it is a verdict
 --   Written                what is returned: how many bytes were written, or that the lists are not of one length or the buffer has no room
 --                          (declared in src/)
---   writeListing o a v d   what is returned, and what the lent buffer o then holds: the listing's bytes, and then what stood there
+--   ListingDone            what is returned, and what the lent buffer then holds; `listingDone` makes one of both
+--   writeListing o a v d   the call on the lent buffer o, which then holds the listing's bytes, and then what stood there
 -- Assumes nothing.
 use mathlib.Core.Bool.{cond}
 use mathlib.Core.List.{List, [], _∷_, _++_}
-use Prim.Native.Nat.{ℕ, zero, suc, _+_}
+use Prim.Native.Nat.{ℕ, _+_}
 use lib.Dec.{leb, eqb}
 use lib.IntN.{ℤ}
 use lib.ListN.{length, drop}
 use Rattle.text.specs.Decimals.{natural, integer}
 use Rattle.problem.specs.Answers.{refusalNumber}
 use Rattle.problem.specs.declared.Counts.{Counts}
-use Rattle.problem.specs.declared.Refusal.{Refusal}
-use Rattle.problem.specs.declared.Refusal.the-variants.{Size, Length, Coefficient, Bound, Goal, Limit, Elimination, NoWholeNumbers, Seating, Standing, Layout, Term}
+use Rattle.problem.specs.declared.Refusal.the-variants.{NoWholeNumbers}
 use Rattle.problem.specs.declared.Answer.{Answer}
 use Rattle.problem.specs.declared.Answer.the-variants.{Fitted, Outside, Spent, Refused}
 use Rattle.report.specs.declared.Written.{Written}
@@ -62,34 +63,24 @@ linesFrom i [] ds = []
 linesFrom i (v ∷ vs) [] = []
 linesFrom i (v ∷ vs) (d ∷ ds) = line (i + 1) v d ++ linesFrom (i + 1) vs ds
 
-abbrev pub numbered : Refusal → List ℕ
-numbered why = REFUSED ++ (field (natural (refusalNumber why)) ++ lineEnd)
+-- the line of a refusal's number: "NONE stands alone (refusal 8). REFUSED is followed by the number."
+abbrev pub numbered : ℕ → List ℕ
+numbered k = REFUSED ++ (field (natural k) ++ lineEnd)
 
-abbrev pub refusal : Refusal → List ℕ
-refusal NoWholeNumbers = NONE ++ lineEnd
-refusal Size = numbered Size
-refusal Length = numbered Length
-refusal Coefficient = numbered Coefficient
-refusal Bound = numbered Bound
-refusal Goal = numbered Goal
-refusal Limit = numbered Limit
-refusal Elimination = numbered Elimination
-refusal Seating = numbered Seating
-refusal Standing = numbered Standing
-refusal Layout = numbered Layout
-refusal Term = numbered Term
+abbrev pub refusal : ℕ → List ℕ
+refusal k = cond (eqb k (refusalNumber NoWholeNumbers)) (NONE ++ lineEnd) (numbered k)
 
 abbrev pub headline : Answer → List ℕ
 headline (Fitted k) = verdict FITTED k
 headline (Outside k) = verdict OUTSIDE k
 headline (Spent k) = verdict SPENT k
-headline (Refused why) = refusal why
+headline (Refused why) = refusal (refusalNumber why)
 
 unfoldable pub listing : Answer → List ℤ → List ℕ → List ℕ
 listing (Fitted k) v d = verdict FITTED k ++ linesFrom 0 v d
 listing (Outside k) v d = verdict OUTSIDE k ++ linesFrom 0 v d
 listing (Spent k) v d = verdict SPENT k ++ linesFrom 0 v d
-listing (Refused why) v d = refusal why
+listing (Refused why) v d = refusal (refusalNumber why)
 
 -- of n columns, how many are listed: all with a verdict, none with a refusal
 abbrev pub linesOf : Answer → ℕ → ℕ
@@ -102,12 +93,12 @@ pub record ListingDone : Type 0 where
   pub written : Written
   pub out : List ℕ
 
-abbrev pub untouched : Written → List ℕ → ListingDone
-untouched w o = record { written = w; out = o }
+abbrev pub listingDone : Written → List ℕ → ListingDone
+listingDone w o = record { written = w; out = o }
 
 -- the bytes of w, where they fit into o
 abbrev pub placedIn : List ℕ → List ℕ → ListingDone
-placedIn o w = cond (leb (length w) (length o)) (record { written = Bytes (length w); out = w ++ drop (length w) o }) (untouched NoRoom o)
+placedIn o w = cond (leb (length w) (length o)) (listingDone (Bytes (length w)) (w ++ drop (length w) o)) (listingDone NoRoom o)
 
 unfoldable pub writeListing : List ℕ → Answer → List ℤ → List ℕ → ListingDone
-writeListing o a v d = cond (eqb (linesOf a (length d)) (linesOf a (length v))) (placedIn o (listing a v d)) (untouched Uneven o)
+writeListing o a v d = cond (eqb (linesOf a (length d)) (linesOf a (length v))) (placedIn o (listing a v d)) (listingDone Uneven o)

@@ -11,7 +11,7 @@ ghost use lib.Dec.{leb};
 ghost use lib.ListN.{length};
 ghost use Rattle.text.specs.Buffers.{Wrote};
 ghost use Rattle.text.specs.Decimals.{natural, integer};
-ghost use Rattle.report.specs.Listing.{field, verdict, refusal, line, linesFrom, headline, linesOf, countsOf, writeListing};
+ghost use Rattle.report.specs.Listing.{field, verdict, refusal, line, linesFrom, headline, linesOf, countsOf, listingDone, writeListing};
 
 // What is written: how many bytes. Or nothing, where the lists are not of one length or the buffer is too short.
 pub enum Written {
@@ -49,17 +49,17 @@ fn put_verdict(out: &mut [u8], word: &[u8], counts: Counts) -> usize
     put(out, c, b"\n")
 }
 
-// NONE, or REFUSED with the number.
-fn put_refusal(out: &mut [u8], why: Refusal) -> usize
-    requires { ⌜ length (refusal why) ≤ length (now out) ⌝ }
-    ensures { λ r. ⌜ Wrote (now (out .entry)) 0 (refusal why) r (now (out .exit)) ⌝ }
+// The line of a refusal's number: NONE, or REFUSED with it.
+fn put_refusal(out: &mut [u8], number: u32) -> usize
+    requires { ⌜ length (refusal number) ≤ length (now out) ⌝ }
+    ensures { λ r. ⌜ Wrote (now (out .entry)) 0 (refusal number) r (now (out .exit)) ⌝ }
 {
-    let k = why.number();
-    if k == 8 {
+    let none = Refusal::NoWholeNumbers;
+    if number == none.number() {
         return put(out, 0, b"NONE\n");
     }
     let a = put(out, 0, b"REFUSED");
-    let b = put_field(out, a, k as u64);
+    let b = put_field(out, a, number as u64);
     put(out, b, b"\n")
 }
 
@@ -72,7 +72,7 @@ fn put_headline(out: &mut [u8], answer: Answer) -> usize
         Answer::Fitted(k) => put_verdict(out, b"FITTED", k),
         Answer::Outside(k) => put_verdict(out, b"OUTSIDE", k),
         Answer::Spent(k) => put_verdict(out, b"SPENT", k),
-        Answer::Refused(why) => put_refusal(out, why),
+        Answer::Refused(why) => put_refusal(out, why.number()),
     }
 }
 
@@ -109,12 +109,12 @@ fn verdict_length(word: &[u8], bounds: u32, goals: u32) -> usize
     put_verdict(&mut line, word, Counts { bounds, goals })
 }
 
-// The length of a refusal's line.
-fn refusal_length(why: Refusal) -> usize
-    ensures { λ r. ⌜ r ≡ length (refusal why) ⌝ }
+// The length of the line of a refusal's number.
+fn refusal_length(number: u32) -> usize
+    ensures { λ r. ⌜ r ≡ length (refusal number) ⌝ }
 {
     let mut line = [0u8; 64];
-    put_refusal(&mut line, why)
+    put_refusal(&mut line, number)
 }
 
 // The length of the first line.
@@ -125,7 +125,7 @@ fn headline_length(answer: Answer) -> usize
         Answer::Fitted(k) => verdict_length(b"FITTED", k.bounds, k.goals),
         Answer::Outside(k) => verdict_length(b"OUTSIDE", k.bounds, k.goals),
         Answer::Spent(k) => verdict_length(b"SPENT", k.bounds, k.goals),
-        Answer::Refused(why) => refusal_length(why),
+        Answer::Refused(why) => refusal_length(why.number()),
     }
 }
 
@@ -167,8 +167,7 @@ fn lines_of(answer: Answer, n: usize) -> usize
 
 // Writes the listing of an answer at the front of a buffer. The values and the strides are listed with a verdict only.
 pub fn write_listing(out: &mut [u8], answer: Answer, values: &[i64], strides: &[u64]) -> Written
-    ensures { λ r. ⌜ r ≡ writeListing (now (out .entry)) answer (now (values .entry)) (now (strides .entry)) .written ⌝ }
-    ensures { λ _. ⌜ now (out .exit) ≡ writeListing (now (out .entry)) answer (now (values .entry)) (now (strides .entry)) .out ⌝ }
+    ensures { λ r. ⌜ listingDone r (now (out .exit)) ≡ writeListing (now (out .entry)) answer (now (values .entry)) (now (strides .entry)) ⌝ }
 {
     let n = lines_of(answer, values.len());
     if lines_of(answer, strides.len()) != n {

@@ -1,5 +1,6 @@
 -- Laws of what the right side answers.
 --   righted-over, -none, -late, -found   a number beyond ±M in the first half; the first m numbers not all 0; one in the second half; none
+--   righted-starts                       where a starting list is found, it is the left list's numbers from m on
 --   solution-.., start-..                what an answer says of the mark, and of the buffer of the starting list
 --   work-wide, list-.., found-is         the list (−b, then zeros) that the right side starts with
 -- Assumes nothing.
@@ -17,10 +18,10 @@ use Rattle.lattice.specs.RowLaws.{length-neg}
 use Rattle.problem.specs.declared.Problem.{Problem}
 use Rattle.tableau.specs.Elimination.{Left}
 use Rattle.tableau.specs.RightSide as RightSide
-use Rattle.tableau.specs.RightSide.{none, some, Solved, sweep, leading, remaining, basis, rightSide}
-use Rattle.rightside.specs.Solutions.{answerOf, solutionOf, startOf, startAfter}
+use Rattle.tableau.specs.RightSide.{none, some, Solved, sweep, leading, remaining, basis, rightSide, leftOf, listLeft}
+use Rattle.rightside.specs.Solutions.{answerOf, solutionOf, startOf, startAfter, Righted, righted}
 use Rattle.tableau.specs.Within.{Within, within-append, within-neg, within-zeros}
-use Rattle.rightside.specs.Halves.{Righted, Findable, foundOf}
+use Rattle.rightside.specs.Halves.{Findable, foundOf}
 use Rattle.rightside.specs.declared.Solution.{Solution}
 use Rattle.rightside.specs.declared.Solution.the-variants.{Over, None, Found}
 
@@ -29,6 +30,9 @@ over-found e = let z : _≡_ {A = ℕ} 0 1 = cc in omega arith
 
 none-found : None ≡ Found → ⊥
 none-found e = let z : _≡_ {A = ℕ} 0 1 = cc in omega arith
+
+abbrev pub told : Solution → List ℤ → Righted
+told r u = record { answer = r; list = u }
 
 module _ (m : ℕ) (T : List (List ℤ)) (v : List ℤ) where
   abbrev first : Left
@@ -47,36 +51,50 @@ module _ (m : ℕ) (T : List (List ℤ)) (v : List ℤ) where
   unfolding rightSide
   is-by = refl
 
-  pub righted-over : (u : List ℤ) → first .over ≡ true → Righted m T v Over u
-  righted-over u e = record {
-    answer = sym (ap solutionOf is-by ∙ ap (λ (o : Bool). solutionOf (by (allZero (take m (first .row))) o (second .over))) e ∙ go (allZero (take m (first .row))));
-    start = λ f. absurd (over-found f);
+  abbrev all : Bool → Bool → Bool → Righted
+  all z o p = record {
+    answer = solutionOf (by z o p);
+    list = cond (by z o p .over) (zeros (length v)) (leftOf (by z o p .found) (first .row) (second .row));
   }
+
+  is-all : righted m T v ≡ all (allZero (take m (first .row))) (first .over) (second .over)
+  unfolding rightSide listLeft
+  is-all = refl
+
+  pub righted-over : {u : List ℤ} → first .over ≡ true → u ≡ zeros (length v) → told Over u ≡ righted m T v
+  righted-over e l =
+      let z : Bool = allZero (take m (first .row)) in
+      ap (told Over) l ∙ sym (is-all ∙ ap (λ (o : Bool). all z o (second .over)) e ∙ go z)
     where
-      go : (z : Bool) → solutionOf (by z true (second .over)) ≡ Over
+      go : (z : Bool) → all z true (second .over) ≡ told Over (zeros (length v))
       go true = refl
       go false = refl
 
-  pub righted-none : (u : List ℤ) → first .over ≡ false → allZero (take m (first .row)) ≡ false → Righted m T v None u
-  righted-none u e z = record {
-    answer = sym (ap solutionOf is-by ∙ ap₂ (λ (a o : Bool). solutionOf (by a o (second .over))) z e);
-    start = λ f. absurd (none-found f);
-  }
+  pub righted-none : {u : List ℤ} → first .over ≡ false → allZero (take m (first .row)) ≡ false → u ≡ first .row → told None u ≡ righted m T v
+  righted-none e z l = ap (told None) l ∙ sym (is-all ∙ ap₂ (λ (a o : Bool). all a o (second .over)) z e)
 
-  pub righted-late : (u : List ℤ) → first .over ≡ false → allZero (take m (first .row)) ≡ true → second .over ≡ true → Righted m T v Over u
-  righted-late u e z f = record {
-    answer = sym (ap solutionOf is-by ∙ ap₂ (λ (a o : Bool). solutionOf (by a o (second .over))) z e ∙ ap (λ (p : Bool). solutionOf (by true false p)) f);
-    start = λ f. absurd (over-found f);
-  }
+  -- the first m numbers are 0
+  module _ (e : first .over ≡ false) (z : allZero (take m (first .row)) ≡ true) where
+    is-late : {p : Bool} → second .over ≡ p → righted m T v ≡ all true false p
+    is-late f = is-all ∙ ap₂ (λ (a o : Bool). all a o (second .over)) z e ∙ ap (all true false) f
 
-  pub righted-found : (u : List ℤ) → first .over ≡ false → allZero (take m (first .row)) ≡ true → second .over ≡ false → u ≡ second .row → Righted m T v Found u
-  righted-found u e z f r = record {
-    answer = sym (ap solutionOf is-by ∙ ap₂ (λ (a o : Bool). solutionOf (by a o (second .over))) z e ∙ ap (λ (p : Bool). solutionOf (by true false p)) f);
-    start = λ _.
-        ap (λ (x : Solved). x .found) is-by
-        ∙ ap (λ (a : Bool). by a (first .over) (second .over) .found) z
-        ∙ ap (λ (l : List ℤ). some (drop m l) (basis m T)) (sym r);
-  }
+    pub righted-late : {u : List ℤ} → second .over ≡ true → u ≡ zeros (length v) → told Over u ≡ righted m T v
+    righted-late f l = ap (told Over) l ∙ sym (is-late f)
+
+    pub righted-found : {u : List ℤ} → second .over ≡ false → u ≡ second .row → told Found u ≡ righted m T v
+    righted-found f l = ap (told Found) l ∙ sym (is-late f)
+
+  starts-by : (z o p : Bool) (u : List ℤ) → told Found u ≡ all z o p → by z o p .found ≡ some (drop m u) (basis m T)
+  starts-by true true p u e = absurd (over-found (ap (λ (x : Righted). x .answer) (sym e)))
+  starts-by true false true u e = absurd (over-found (ap (λ (x : Righted). x .answer) (sym e)))
+  starts-by true false false u e = ap (λ (x : Righted). some (drop m (x .list)) (basis m T)) (sym e)
+  starts-by false true p u e = absurd (over-found (ap (λ (x : Righted). x .answer) (sym e)))
+  starts-by false false p u e = absurd (none-found (ap (λ (x : Righted). x .answer) (sym e)))
+
+  pub righted-starts : {u : List ℤ} → told Found u ≡ righted m T v → rightSide m T false v .found ≡ some (drop m u) (basis m T)
+  righted-starts {u} e =
+      ap (λ (x : Solved). x .found) is-by
+      ∙ starts-by (allZero (take m (first .row))) (first .over) (second .over) u (e ∙ is-all)
 
 -- ---- what an answer says of the solution
 over-none : None ≡ Over → ⊥

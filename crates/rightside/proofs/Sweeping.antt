@@ -1,6 +1,7 @@
 -- Laws of the right side, row by row.
 --   lead-pivot     a row whose lead is above 0 is a pivot there
 --   own-wide, own-within   a row's own step keeps the length, and numbers within ±M where it marks none beyond
+--   over-left, kept-left   what taking rows leaves, with a number beyond ±M and without
 --   Sweeps         the loop: `left` rows of t from the number `at` on are still to be taken from v
 --   starts, goes-on, stops, ends   at first, after a row, at a number beyond ±M, past the last row
 --   sweep-wide, sweep-within       a whole sweep keeps the length, and so on
@@ -15,16 +16,18 @@ use lib.Dec.{ltb}
 use lib.IntN.{ℤ, pos, negsuc}
 use lib.ListN.{length, take, drop, length-drop}
 use lib.Seq.{length-take-le, drop-drop}
+use Rattle.whole.specs.Lists.{zeros}
 use Rattle.lattice.specs.Rows.{ZeroTo, lead, chop}
 use Rattle.lattice.specs.Span.{All}
 use Rattle.lattice.specs.FlatLaws.{chop-next}
 use Rattle.tableau.specs.Elimination.{Left, kept, reduced}
 use Rattle.tableau.specs.RightSide.{further, sweep, leading, remaining}
 use Rattle.tableau.specs.Within.{Within, neither}
-use Rattle.tableau.specs.Steps.{Pivot, Leads}
+use Rattle.tableau.specs.Steps.{Pivot, Leads, leftAfter}
 use Rattle.rightside.specs.Halves.{wantedOf, halfOf, ownStep, Swept}
 use Rattle.rightside.specs.declared.Half.{Half}
 use Rattle.rightside.specs.declared.Half.the-variants.{Leading, Remaining}
+use Rattle.tableau.proofs.Stepping.{left-by}
 use Rattle.tableau.proofs.Walking.{reduced-step}
 
 -- ---- a row
@@ -78,6 +81,13 @@ unfolding sweep leading remaining
 sweep-none Leading m v = refl
 sweep-none Remaining m v = refl
 
+-- ---- what is left, by the mark
+pub over-left : {x : Left} {v u : List ℤ} → Swept x v true u → u ≡ zeros (length v)
+over-left {x} {v} s = s .left ∙ left-by x v (sym (s .answer))
+
+pub kept-left : {x : Left} {v u : List ℤ} → Swept x v false u → u ≡ x .row
+kept-left {x} {v} s = s .left ∙ left-by x v (sym (s .answer))
+
 -- ---- the loop
 pub record Sweeps (half : Half) (m w k : ℕ) (t v₀ v : List ℤ) (at left : ℕ) : Type 0 where
   pub wide : length v ≡ w
@@ -112,30 +122,36 @@ module _ {half : Half} {m w k : ℕ} {t v₀ v : List ℤ} {at left : ℕ} (h : 
   one : sweep (halfOf half m (chop k w t)) v₀ ≡ further (ownStep half m row v .over) (sweep (halfOf half m rows) (ownStep half m row v .row))
   one = sym (h .rest) ∙ ap (λ (T : List (List ℤ)). sweep (halfOf half m T) v) apart ∙ sweep-cons half m row rows v
 
-  pub stops : ownStep half m row v .over ≡ true → sweep (halfOf half m (chop k w t)) v₀ .over ≡ true
-  stops e = ap (λ (x : Left). x .over) one ∙ ap (λ (b : Bool). b || sweep (halfOf half m rows) (ownStep half m row v .row) .over) e
+  pub stops : {u : List ℤ} → length v₀ ≡ w → Swept (ownStep half m row v) v true u → Swept (sweep (halfOf half m (chop k w t)) v₀) v₀ true u
+  stops {u} l s =
+      let e : sweep (halfOf half m (chop k w t)) v₀ .over ≡ true =
+      ap (λ (x : Left). x .over) one ∙ ap (λ (b : Bool). b || sweep (halfOf half m rows) (ownStep half m row v .row) .over) (sym (s .answer)) in
+      record { answer = sym e; left = over-left s ∙ ap zeros (h .wide ∙ sym l) ∙ sym (left-by (sweep (halfOf half m (chop k w t)) v₀) v₀ e) }
 
-  pub goes-on : {u : List ℤ} → ownStep half m row v .over ≡ false → u ≡ ownStep half m row v .row → Sweeps half m w k t v₀ u (at + w) (left - 1)
-  goes-on {u} o e = record {
-    wide = ap length e ∙ own-wide half m row v ∙ h .wide;
-    room = let l : left * w ≡ (left - 1) * w + w = less left some in omega (arith, h .room);
-    small = subst Within (sym e) (own-within half m row v (h .small) o);
-    leads = subst (All Leads) apart (h .leads) .1;
-    rest =
-        ap (sweep (halfOf half m rows)) e
-        ∙ ap (λ (b : Bool). further b (sweep (halfOf half m rows) (ownStep half m row v .row))) (sym o)
-        ∙ sym one;
-  }
+  pub goes-on : {u : List ℤ} → Swept (ownStep half m row v) v false u → Sweeps half m w k t v₀ u (at + w) (left - 1)
+  goes-on {u} s =
+      let o : ownStep half m row v .over ≡ false = sym (s .answer) in
+      let e : u ≡ ownStep half m row v .row = kept-left s in
+      record {
+        wide = ap length e ∙ own-wide half m row v ∙ h .wide;
+        room = let l : left * w ≡ (left - 1) * w + w = less left some in omega (arith, h .room);
+        small = subst Within (sym e) (own-within half m row v (h .small) o);
+        leads = subst (All Leads) apart (h .leads) .1;
+        rest =
+            ap (sweep (halfOf half m rows)) e
+            ∙ ap (λ (b : Bool). further b (sweep (halfOf half m rows) (ownStep half m row v .row))) (sym o)
+            ∙ sym one;
+      }
     where
       less : (n : ℕ) → 0 < n → n * w ≡ (n - 1) * w + w
       less zero p = absurd (omega arith)
       less (suc n) p = suc-mul n w ∙ ap (λ (i : ℕ). i * w + w) {x = n} {y = suc n - 1} (omega arith)
 
-pub ends : {half : Half} {m w k : ℕ} {t v₀ v : List ℤ} {at left : ℕ} → Sweeps half m w k t v₀ v at left → left ≡ 0 → Swept half m (chop k w t) v₀ false v
+pub ends : {half : Half} {m w k : ℕ} {t v₀ v : List ℤ} {at left : ℕ} → Sweeps half m w k t v₀ v at left → left ≡ 0 → Swept (sweep (halfOf half m (chop k w t)) v₀) v₀ false v
 ends {half} {m} {w} {k} {t} {v₀} {v} {at} {left} h e =
     let all : sweep (halfOf half m (chop k w t)) v₀ ≡ kept v =
     sym (h .rest) ∙ ap (λ (n : ℕ). sweep (halfOf half m (chop n w (drop at t))) v) e ∙ sweep-none half m v in
-    record { answer = ap (λ (x : Left). x .over) (sym all); left = λ _. ap (λ (x : Left). x .row) (sym all) }
+    record { answer = ap (λ (x : Left). x .over) (sym all); left = ap (λ (x : Left). leftAfter x v₀) (sym all) }
 
 -- ---- a whole sweep
 pub sweep-wide : (T : List (List ℤ)) (v : List ℤ) → length (sweep T v .row) ≡ length v

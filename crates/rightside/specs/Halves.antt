@@ -2,9 +2,9 @@
 --   wantedOf half m c   a row with its lead at c is of that half
 --   halfOf half m T     the rows of that half
 --   ownStep             a row's step in the right side, or none where the row is of the other half
---   Swept               what a sweep over the rows of a half answers and leaves
+--   sweptOf half m k t v   the rows of a half, of the k rows in t, taken from v
+--   Swept x v r u       what taking rows from v answers, r, and leaves of it, u: all 0 where a number lies beyond ±M
 --   foundOf, Findable   the right side of a form in a list, and what it asks
---   Righted             what the right side of a form T answers, and the list that it leaves where a starting list is found
 -- Assumes nothing.
 use mathlib.Core.Path.{_≡_}
 use mathlib.Core.Bool.{Bool, false, cond, not}
@@ -12,18 +12,15 @@ use mathlib.Core.List.{List, _++_}
 use Prim.Native.Nat.{ℕ, _+_, _*_}
 use lib.Dec.{ltb}
 use lib.IntN.{ℤ}
-use lib.ListN.{length, drop}
+use lib.ListN.{length}
 use Rattle.whole.specs.Lists.{zeros}
 use Rattle.lattice.specs.Rows.{neg, lead, chop}
 use Rattle.lattice.specs.Span.{All}
 use Rattle.problem.specs.declared.Problem.{Problem}
 use Rattle.tableau.specs.Elimination.{Left, kept, reduced}
-use Rattle.tableau.specs.RightSide.{some, Solved, leading, remaining, basis, sweep, rightSide}
+use Rattle.tableau.specs.RightSide.{Solved, leading, remaining, sweep, rightSide}
 use Rattle.tableau.specs.Within.{Within}
-use Rattle.tableau.specs.Steps.{Stops, Leads}
-use Rattle.rightside.specs.Solutions.{solutionOf}
-use Rattle.rightside.specs.declared.Solution.{Solution}
-use Rattle.rightside.specs.declared.Solution.the-variants as code
+use Rattle.tableau.specs.Steps.{Leads, leftAfter}
 use Rattle.rightside.specs.declared.Half.{Half}
 use Rattle.rightside.specs.declared.Half.the-variants.{Leading, Remaining}
 
@@ -38,12 +35,12 @@ halfOf Remaining m T = remaining m T
 abbrev pub ownStep : Half → ℕ → List ℤ → List ℤ → Left
 ownStep half m r v = cond (wantedOf half m (lead r)) (reduced (lead r) r v) (kept v)
 
-abbrev pub Swept : Half → ℕ → List (List ℤ) → List ℤ → Bool → List ℤ → Type 0
-Swept half m T v r u = Stops (sweep (halfOf half m T) v .over) (sweep (halfOf half m T) v .row) r u
+abbrev pub sweptOf : Half → ℕ → ℕ → List ℤ → List ℤ → Left
+sweptOf half m k t v = sweep (halfOf half m (chop k (length v) t)) v
 
-pub record Righted (m : ℕ) (T : List (List ℤ)) (v : List ℤ) (r : Solution) (u : List ℤ) : Type 0 where
-  pub answer : r ≡ solutionOf (rightSide m T false v)
-  pub start : r ≡ code.Found → rightSide m T false v .found ≡ some (drop m u) (basis m T)
+pub record Swept (x : Left) (v : List ℤ) (r : Bool) (u : List ℤ) : Type 0 where
+  pub answer : r ≡ x .over
+  pub left : u ≡ leftAfter x v
 
 -- the right side of a form in the list t, for the right sides b
 abbrev pub foundOf : Problem → List ℤ → List ℤ → Solved

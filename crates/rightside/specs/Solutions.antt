@@ -1,22 +1,26 @@
--- What the solution of a problem is, and what it leaves in the lent buffers. Document 01, "Turned back": for 7 "tableau all 0, lists as
--- before", for 8 "tableau the form, lists as before".
+-- What the right side of a form answers, what the solution of a problem is, and what they leave in the lent buffers. Document 01, "Turned
+-- back": for 7 "tableau all 0, lists as before", for 8 "tableau the form, lists as before".
 --   Solvable p t a b s   what the causes 1 to 3 leave of a problem p, the tableau's buffer t, the coefficients a, the right sides b and the buffer
 --                        s of the starting list
 --   solvedOf p a b       the form and the right side
 --   solutionOf x         what is answered
 --   tableauAfter x t, startAfter x s   what the two buffers hold then
+--   Righted              what the right side of a form answers, and what the list that it works on holds then
+--   righted m T v        that of the form T, the right side v and m rows: all 0 where a number lies beyond ±M, else the list that is left
+--   rightedOf m k t v    that of the form's k rows in t
 -- Assumes nothing.
 use mathlib.Core.Path.{_≡_}
-use mathlib.Core.Bool.{true, cond}
+use mathlib.Core.Bool.{true, false, cond}
 use mathlib.Core.List.{List}
+use Prim.Native.Nat.{ℕ}
 use lib.IntN.{ℤ}
 use lib.ListN.{length}
 use Rattle.whole.specs.Lists.{zeros}
-use Rattle.lattice.specs.Rows.{flat}
+use Rattle.lattice.specs.Rows.{flat, chop}
 use Rattle.problem.specs.Limits.{maxRight}
 use Rattle.problem.specs.Checks.{allSpan}
 use Rattle.problem.specs.declared.Problem.{Problem}
-use Rattle.tableau.specs.RightSide.{Found, none, some, Solved, solve}
+use Rattle.tableau.specs.RightSide.{Found, none, some, Solved, rightSide, listLeft, solve}
 use Rattle.tableau.specs.Buffers.{Formable, matrixOf}
 use Rattle.rightside.specs.declared.Solution.{Solution}
 use Rattle.rightside.specs.declared.Solution.the-variants as code
@@ -46,3 +50,15 @@ startOf (some v N) s = v
 
 abbrev pub startAfter : Solved → List ℤ → List ℤ
 startAfter x s = cond (x .over) s (startOf (x .found) s)
+
+pub record Righted : Type 0 where
+  pub answer : Solution
+  pub list : List ℤ
+
+abbrev pub righted : ℕ → List (List ℤ) → List ℤ → Righted
+righted m T v =
+    let x : Solved = rightSide m T false v in
+    record { answer = solutionOf x; list = cond (x .over) (zeros (length v)) (listLeft m T v) }
+
+abbrev pub rightedOf : ℕ → ℕ → List ℤ → List ℤ → Righted
+rightedOf m k t v = righted m (chop k (length v) t) v

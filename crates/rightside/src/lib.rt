@@ -5,9 +5,9 @@ ghost use Prim.Native.Nat.{_*_, _≤_};
 ghost use lib.ListN.{length, drop};
 ghost use Rattle.lattice.specs.Rows.{neg, chop};
 ghost use Rattle.lattice.specs.Span.{All};
-ghost use Rattle.rightside.specs.Halves.{wantedOf, ownStep, Swept, Righted, Findable, foundOf};
-ghost use Rattle.rightside.specs.Solutions.{Solvable, solvedOf, solutionOf, tableauAfter, startAfter};
-ghost use Rattle.tableau.specs.Steps.{Stops, Leads};
+ghost use Rattle.rightside.specs.Halves.{wantedOf, ownStep, sweptOf, Swept, Findable, foundOf};
+ghost use Rattle.rightside.specs.Solutions.{Solvable, solvedOf, solutionOf, tableauAfter, startAfter, rightedOf};
+ghost use Rattle.tableau.specs.Steps.{Leads};
 ghost use Rattle.tableau.specs.Within.{Within};
 use lattice::all_zero;
 use lattice::copy;
@@ -42,11 +42,11 @@ fn wanted(c: usize, m: usize, half: Half) -> bool
     }
 }
 
-// Takes the row from v at its lead, if it is of that half. Stops with true at the first number beyond M.
+// Takes the row from v at its lead, if it is of that half. Where a number beyond M is left, the answer is true and v is all 0.
 fn sweep_row(v: &mut [i64], row: &[i64], m: usize, half: Half) -> bool
     requires { ⌜ (length (now row) ≡ length (now v)) × Leads (now row) ⌝ }
     requires { ⌜ Within (now row) × Within (now v) ⌝ }
-    ensures { λ r. ⌜ Stops (ownStep half m (now (row .entry)) (now (v .entry)) .over) (ownStep half m (now (row .entry)) (now (v .entry)) .row) r (now (v .exit)) ⌝ }
+    ensures { λ r. ⌜ Swept (ownStep half m (now (row .entry)) (now (v .entry))) (now (v .entry)) r (now (v .exit)) ⌝ }
 {
     let c = lead(row);
     if wanted(c, m, half) {
@@ -55,11 +55,11 @@ fn sweep_row(v: &mut [i64], row: &[i64], m: usize, half: Half) -> bool
     false
 }
 
-// Takes each row of that half from v, top first.
+// Takes each row of that half from v, top first, until a number beyond M is left.
 fn sweep(v: &mut [i64], t: &[i64], rows: usize, m: usize, half: Half) -> bool
     requires { ⌜ (length (now t) ≡ rows * length (now v)) × All Leads (chop rows (length (now v)) (now t)) ⌝ }
     requires { ⌜ Within (now t) × Within (now v) ⌝ }
-    ensures { λ r. ⌜ Swept half m (chop rows (length (now (v .entry))) (now (t .entry))) (now (v .entry)) r (now (v .exit)) ⌝ }
+    ensures { λ r. ⌜ Swept (sweptOf half m rows (now (t .entry)) (now (v .entry))) (now (v .entry)) r (now (v .exit)) ⌝ }
 {
     let w = v.len();
     let mut at = 0;
@@ -75,12 +75,13 @@ fn sweep(v: &mut [i64], t: &[i64], rows: usize, m: usize, half: Half) -> bool
     false
 }
 
-// The right side v by the rows of a form. The numbers of v from m on are then the starting list, where one is found.
-fn right_side(v: &mut [i64], t: &[i64], rows: usize, m: usize) -> Solution
+// The right side v by the rows of a form. Over: v is all 0. None: v is what the leading rows leave. Found: v's numbers from m on are the
+// starting list.
+pub fn right_side(v: &mut [i64], t: &[i64], rows: usize, m: usize) -> Solution
     requires { ⌜ (length (now t) ≡ rows * length (now v)) × All Leads (chop rows (length (now v)) (now t)) ⌝ }
     requires { ⌜ Within (now t) × Within (now v) ⌝ }
     requires { ⌜ m ≤ length (now v) ⌝ }
-    ensures { λ r. ⌜ Righted m (chop rows (length (now (v .entry))) (now (t .entry))) (now (v .entry)) r (now (v .exit)) ⌝ }
+    ensures { λ r. ⌜ record { answer = r; list = now (v .exit) } ≡ rightedOf m rows (now (t .entry)) (now (v .entry)) ⌝ }
 {
     if sweep(v, t, rows, m, Half::Leading) {
         return Solution::Over;
@@ -95,7 +96,7 @@ fn right_side(v: &mut [i64], t: &[i64], rows: usize, m: usize) -> Solution
 }
 
 // Puts −b into the first numbers of v.
-fn turn_over(v: &mut [i64], rights: &[i64])
+pub fn turn_over(v: &mut [i64], rights: &[i64])
     requires { ⌜ (length (now rights) ≤ length (now v)) × Within (now rights) ⌝ }
     ensures { λ _. ⌜ now (v .exit) ≡ neg (now (rights .entry)) ++ drop (length (now (rights .entry))) (now (v .entry)) ⌝ }
 {
@@ -110,7 +111,8 @@ fn turn_over(v: &mut [i64], rights: &[i64])
 // Solves a formed table for the right sides b, in the list v of zeros; a starting list goes to start.
 fn find(v: &mut [i64], t: &[i64], p: Problem, rights: &[i64], start: &mut [i64]) -> Solution
     requires { ⌜ Findable p (now v) (now t) (now rights) (now start) ⌝ }
-    ensures { λ r. ⌜ (r ≡ solutionOf (foundOf p (now (t .entry)) (now (rights .entry)))) × (now (start .exit) ≡ startAfter (foundOf p (now (t .entry)) (now (rights .entry))) (now (start .entry))) ⌝ }
+    ensures { λ r. ⌜ r ≡ solutionOf (foundOf p (now (t .entry)) (now (rights .entry))) ⌝ }
+    ensures { λ _. ⌜ now (start .exit) ≡ startAfter (foundOf p (now (t .entry)) (now (rights .entry))) (now (start .entry)) ⌝ }
 {
     let m = p.rows;
     turn_over(v, rights);

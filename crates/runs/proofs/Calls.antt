@@ -12,7 +12,7 @@ use Rattle.problem.specs.declared.Refusal.the-variants.{Standing}
 use Rattle.problem.specs.declared.Check.{Check}
 use Rattle.problem.specs.declared.Check.the-variants.{Passed, Failed}
 use Rattle.tableau.specs.RightSide.{Found, none, some, basis}
-use Rattle.settling.specs.Seating.{Seated, seated, far, goalWishes, seat}
+use Rattle.settling.specs.Seating.{Seated, seated, far, seat}
 use Rattle.engine.specs.Assign.{Buffers, Done, m, columns, lentOf, refused, overLimit, settleOn, onCheck, onSeated, onFound}
 use Rattle.engine.specs.Assign.{solved, assignFit, assign, stands, formed, continueFit, continue}
 use Rattle.runs.specs.Runs.{Descent, Ends}
@@ -53,7 +53,7 @@ module _ (P : Posed) where
 
     found-settles : (f : Found) → isVerdict (onFound P T B f .answer) ≡ true → Settles (foundRun P f) (onFound P T B f)
     found-settles none e = no-verdict e
-    found-settles (some start N) e = seated-settles N (seat (goalWishes (columns P)) (columns P) N start) e
+    found-settles (some start N) e = seated-settles N (seat (columns P) N start) e
 
   module _ (B : Buffers) (R : List (List ℤ)) where
     checked-settles : (c : Check) (d : Done) → (isVerdict (d .answer) ≡ true → Settles R d) → isVerdict (onCheck c B d .answer) ≡ true

@@ -31,7 +31,7 @@ use Rattle.settling.specs.declared.Move.{Move}
 use Rattle.settling.specs.declared.Part.{Part}
 use Rattle.settling.specs.declared.Part.the-variants.{Bounds, Goals}
 use Rattle.settling.specs.declared.Step.the-variants.{Take}
-use Rattle.settling.specs.Columns.{Columns}
+use Rattle.settling.specs.Columns.{Columns, listed}
 use Rattle.settling.specs.Moves.{single, singles, pairsWith, pairs, moves, moved}
 use Rattle.settling.specs.Measures.{fraction, below, measure}
 use Rattle.settling.specs.Steps.{measureAt, partOf, isRanked, passes, improves, insert, rankFrom, firstMove, firstColumn, stepAt, stepOf, nextStep}
@@ -45,33 +45,28 @@ abbrev three : {A : Type 0} → A → A → A → List A
 three x y z = x ∷ y ∷ z ∷ []
 
 abbrev pulled : Columns
-pulled = record { count = 2; lower = two (pos 1) (pos 5); upper = two (pos 10) (pos 10); goals = two (pos 0) (pos 0) }
+pulled = listed 2 (two (pos 1) (pos 5)) (two (pos 10) (pos 10)) (two (pos 0) (pos 0))
 
 abbrev wished : Columns
-wished = record { count = 2; lower = two (pos 1) (pos 1); upper = two (pos 100) (pos 100); goals = two (pos 2500) (pos 4000) }
+wished = listed 2 (two (pos 1) (pos 1)) (two (pos 100) (pos 100)) (two (pos 2500) (pos 4000))
 
 abbrev dragged : Columns
-dragged = record {
-  count = 3;
-  lower = three (pos 3) (pos 0) (pos 0);
-  upper = three (pos 9) (pos 0) (pos 0);
-  goals = three (pos 0) (pos 0) (pos 0);
-}
+dragged = listed 3 (three (pos 3) (pos 0) (pos 0)) (three (pos 9) (pos 0) (pos 0)) (three (pos 0) (pos 0) (pos 0))
 
 abbrev crossed : Columns
-crossed = record { count = 2; lower = two (pos 0) (pos 3); upper = two (pos 0) (pos 9); goals = two (pos 0) (pos 0) }
+crossed = listed 2 (two (pos 0) (pos 3)) (two (pos 0) (pos 9)) (two (pos 0) (pos 0))
 
 abbrev held : Columns
-held = record { count = 2; lower = two (pos 9) (pos 5); upper = two (pos 9) (pos 9); goals = two (pos 0) (pos 0) }
+held = listed 2 (two (pos 9) (pos 5)) (two (pos 9) (pos 9)) (two (pos 0) (pos 0))
 
 abbrev spoilt : Columns
-spoilt = record { count = 2; lower = two (pos 1) (pos 5); upper = two (pos 100) (pos 10); goals = two (pos 1000) (pos 0) }
+spoilt = listed 2 (two (pos 1) (pos 5)) (two (pos 100) (pos 10)) (two (pos 1000) (pos 0))
 
 abbrev nudged : Columns
-nudged = record { count = 2; lower = two (pos 1) (pos 1); upper = two (pos 100) (pos 100); goals = two (pos 3000) (pos 4000) }
+nudged = listed 2 (two (pos 1) (pos 1)) (two (pos 100) (pos 100)) (two (pos 3000) (pos 4000))
 
 abbrev free : Columns
-free = record { count = 2; lower = two (pos 1) (pos 0); upper = two (pos 100) (pos 9); goals = two (pos 3000) (pos 0) }
+free = listed 2 (two (pos 1) (pos 0)) (two (pos 100) (pos 9)) (two (pos 3000) (pos 0))
 
 -- ---- runs and what falls
 pub pulled-run : standing 10 pulled (two (pos 1) (pos 1) ∷ []) (two (pos 1) (pos 1))

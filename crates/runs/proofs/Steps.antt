@@ -4,22 +4,23 @@
 --   next-lower            so does the next step, in the part that the values are in
 -- Nothing is asked of the problem, the basis or the list: a ratio with a goal is never 0/0, whatever the value.
 -- Assumes nothing.
-use mathlib.Core.Path.{_≡_, refl, sym, ap, subst}
+use mathlib.Core.Path.{_≡_, refl, sym, _∙_, ap, subst}
 use mathlib.Core.Logic.{⊎-elim}
 use mathlib.Core.Bool.{Bool, true, false, cond}
 use mathlib.Core.List.{List, _∷_}
 use Prim.Native.Nat.{ℕ, zero, suc, _+_, _*_, _<_, _≤_}
 use native.Mathlib.Omega.{arith}
-use borrow.Author.Tests.{eqb-false, not-true}
+use borrow.Author.Tests.{eqb-false, ltb-true, not-true}
 use lib.IntN.{ℤ, natAbs}
 use Rattle.whole.specs.Lists.{entry}
 use Rattle.whole.specs.Tests.{isZero}
+use Rattle.settling.specs.declared.Cell.{Cell}
 use Rattle.settling.specs.declared.Measure.{Measure}
 use Rattle.settling.specs.declared.Move.{Move}
 use Rattle.settling.specs.declared.Part.{Part}
 use Rattle.settling.specs.declared.Part.the-variants.{Bounds, Goals}
 use Rattle.settling.specs.declared.Step.the-variants.{Take}
-use Rattle.settling.specs.Columns.{Columns}
+use Rattle.settling.specs.Columns.{Column, Columns, valued, cell}
 use Rattle.settling.specs.Parts.{lt-or-ge}
 use Rattle.settling.specs.Moves.{change, moved}
 use Rattle.settling.specs.Measures.{fraction, below, ratio, measure}
@@ -32,29 +33,34 @@ use Rattle.runs.specs.Runs.{measuresFrom, measures, lowerThan}
 use Rattle.runs.proofs.Lowering.{sorted-down, Falls, none, stays, sinks, first, falls-lower}
 
 -- ---- no measure is 0/0
-ratio-determinate : (low high v : ℕ) → 0 < low → 0 < high → Determinate (ratio low high v)
-ratio-determinate low high v a b = go (below (fraction (1000 * v) low) (fraction high (1000 * v)))
+-- the larger one is the second only where the high goal is not 0
+ratio-determinate : (low high v : ℕ) → 0 < low → Determinate (ratio low high v)
+ratio-determinate low high v a = go (below (fraction (1000 * v) low) (fraction high (1000 * v))) refl
   where
-    go : (t : Bool) → Determinate (cond t (fraction high (1000 * v)) (fraction (1000 * v) low))
-    go true = omega arith
-    go false = omega arith
+    some : (k n : ℕ) → n < k * low → 0 < k
+    some zero n h = absurd (omega (arith, h))
+    some (suc k) n h = omega arith
 
-measure-determinate : (p : Part) (lo hi g x : ℤ) → isCompared p g ≡ true → Determinate (measure p lo hi g x)
+    go : (t : Bool) → below (fraction (1000 * v) low) (fraction high (1000 * v)) ≡ t → Determinate (cond t (fraction high (1000 * v)) (fraction (1000 * v) low))
+    go true e = omega (arith, some high (1000 * v * (1000 * v)) (ltb-true (1000 * v * (1000 * v)) (high * low) e))
+    go false e = omega arith
+
+measure-determinate : (p : Part) (c : Cell) → isCompared p c ≡ true → Determinate (measure p c)
 unfolding measure
-measure-determinate Bounds lo hi g x e = omega arith
-measure-determinate Goals lo hi g x e = ratio-determinate (natAbs g) (natAbs g) (natAbs x) above above
+measure-determinate Bounds c e = omega arith
+measure-determinate Goals c e = ratio-determinate (natAbs (c .low)) (natAbs (c .high)) (natAbs (c .value)) above
   where
-    above : 0 < natAbs g
-    above = ⊎-elim (λ h. h) (λ h. absurd (eqb-false (natAbs g) 0 (not-true _ e) (omega arith))) (lt-or-ge 0 (natAbs g))
+    above : 0 < natAbs (c .low)
+    above = ⊎-elim (λ h. h) (λ h. absurd (eqb-false (natAbs (c .low)) 0 (not-true _ e) (omega arith))) (lt-or-ge 0 (natAbs (c .low)))
 
 pub measures-determinate : (p : Part) (C : Columns) (v : List ℤ) (k j : ℕ) → Each Determinate (measuresFrom p C v k j)
 unfolding measuresFrom
 measures-determinate p C v zero j = tt
-measures-determinate p C v (suc k) j = go (isCompared p (entry j (C .goals))) refl (measures-determinate p C v k (suc j))
+measures-determinate p C v (suc k) j = go (isCompared p (cell C v j)) refl (measures-determinate p C v k (suc j))
   where
-    go : (t : Bool) → isCompared p (entry j (C .goals)) ≡ t → Each Determinate (measuresFrom p C v k (suc j))
+    go : (t : Bool) → isCompared p (cell C v j) ≡ t → Each Determinate (measuresFrom p C v k (suc j))
         → Each Determinate (cond t (measureAt p C v j ∷ measuresFrom p C v k (suc j)) (measuresFrom p C v k (suc j)))
-    go true e a = (measure-determinate p (entry j (C .lower)) (entry j (C .upper)) (entry j (C .goals)) (entry j v) e, a)
+    go true e a = (measure-determinate p (cell C v j) e, a)
     go false e a = a
 
 -- so they are sorted in earnest: none stands before a larger one
@@ -62,10 +68,15 @@ pub measures-down : (p : Part) (C : Columns) (v : List ℤ) → Down (above belo
 measures-down p C v = sorted-down below-weak (measures p C v) (measures-determinate p C v (C .count) 0)
 
 -- ---- a step that is taken
-ranked-compared : (p : Part) (lo hi g x : ℤ) → isRanked p lo hi g x ≡ true → isCompared p g ≡ true
+ranked-compared : (p : Part) (c : Cell) → isRanked p c ≡ true → isCompared p c ≡ true
 unfolding isRanked
-ranked-compared Bounds lo hi g x e = refl
-ranked-compared Goals lo hi g x e = e
+ranked-compared Bounds c e = refl
+ranked-compared Goals c e = e
+
+-- whether a column is compared does not hang on its value
+compared-still : (p : Part) (c : Column) (x y : ℤ) → isCompared p (valued c x) ≡ isCompared p (valued c y)
+compared-still Bounds c x y = refl
+compared-still Goals c x y = refl
 
 module _ (p : Part) (C : Columns) (N : List (List ℤ)) (v : List ℤ) (i : ℕ) (o : Move) (t : Taken p C N v i o) where
   abbrev old : Measure
@@ -74,29 +85,36 @@ module _ (p : Part) (C : Columns) (N : List (List ℤ)) (v : List ℤ) (i : ℕ)
   abbrev after : List ℤ
   after = moved N o v
 
-  compared : isCompared p (entry i (C .goals)) ≡ true
-  compared = ranked-compared p (entry i (C .lower)) (entry i (C .upper)) (entry i (C .goals)) (entry i v) (t .ranked)
+  still : (j : ℕ) → isCompared p (cell C v j) ≡ isCompared p (cell C after j)
+  still j = compared-still p (C .column j) (entry j v) (entry j after)
+
+  compared : isCompared p (cell C v i) ≡ true
+  compared = ranked-compared p (cell C v i) (t .ranked)
 
   -- one column more
   more : {b : Bool} (j : ℕ) (L K : List Measure) → j < C .count → Falls below old b L K
-      → Falls below old b (cond (isCompared p (entry j (C .goals))) (measureAt p C v j ∷ L) L)
-      (cond (isCompared p (entry j (C .goals))) (measureAt p C after j ∷ K) K)
-  more {b} j L K l f = go (isCompared p (entry j (C .goals))) (isZero (change N o j)) refl refl
+      → Falls below old b (cond (isCompared p (cell C v j)) (measureAt p C v j ∷ L) L) (cond (isCompared p (cell C after j)) (measureAt p C after j ∷ K) K)
+  more {b} j L K l f =
+      subst (λ (s : Bool). Falls below old b (cond (isCompared p (cell C v j)) (measureAt p C v j ∷ L) L) (cond s (measureAt p C after j ∷ K) K)) (still j)
+      (go (isCompared p (cell C v j)) (isZero (change N o j)) refl refl)
     where
       same : isZero (change N o j) ≡ true → measureAt p C v j ≡ measureAt p C after j
-      same e = ap (λ (x : ℤ). measure p (entry j (C .lower)) (entry j (C .upper)) (entry j (C .goals)) x) (sym (moved-still N o v j e))
+      same e = ap (λ (x : ℤ). measure p (valued (C .column j) x)) (sym (moved-still N o v j e))
 
-      go : (s z : Bool) → isCompared p (entry j (C .goals)) ≡ s → isZero (change N o j) ≡ z
+      go : (s z : Bool) → isCompared p (cell C v j) ≡ s → isZero (change N o j) ≡ z
           → Falls below old b (cond s (measureAt p C v j ∷ L) L) (cond s (measureAt p C after j ∷ K) K)
       go true true c e = stays _ _ (same e) f
-      go true false c e = sinks _ _ (taken-below p C N v i o t j l c e) f
+      go true false c e = sinks _ _ (taken-below p C N v i o t j l (sym (still j) ∙ c) e) f
       go false z c e = f
 
   -- the column i
   itself : (L K : List Measure) → Falls below old false L K
-      → Falls below old true (cond (isCompared p (entry i (C .goals))) (old ∷ L) L)
-      (cond (isCompared p (entry i (C .goals))) (measureAt p C after i ∷ K) K)
-  itself L K f = rw compared (first _ _ refl (taken-below p C N v i o t i (t .inside) compared (not-true _ (taken-changes p C N v i o t))) f)
+      → Falls below old true (cond (isCompared p (cell C v i)) (old ∷ L) L) (cond (isCompared p (cell C after i)) (measureAt p C after i ∷ K) K)
+  itself L K f =
+      let e : isCompared p (cell C after i) ≡ true = sym (still i) ∙ compared in
+      subst (λ (s : Bool). Falls below old true (cond s (old ∷ L) L) (cond (isCompared p (cell C after i)) (measureAt p C after i ∷ K) K)) (sym compared)
+      (subst (λ (s : Bool). Falls below old true (old ∷ L) (cond s (measureAt p C after i ∷ K) K)) (sym e)
+      (first _ _ refl (taken-below p C N v i o t i (t .inside) e (not-true _ (taken-changes p C N v i o t))) f))
 
   others : (k j : ℕ) → j + k ≤ C .count → Falls below old false (measuresFrom p C v k j) (measuresFrom p C after k j)
   unfolding measuresFrom
@@ -117,7 +135,7 @@ module _ (p : Part) (C : Columns) (N : List (List ℤ)) (v : List ℤ) (i : ℕ)
 
   pub taken-lower : lowerThan (measures p C after) (measures p C v) ≡ true
   taken-lower =
-      falls-lower below-weak old (measures p C v) (measures p C after) (measure-determinate p _ _ _ _ compared)
+      falls-lower below-weak old (measures p C v) (measures p C after) (measure-determinate p _ compared)
       (measures-determinate p C v (C .count) 0) (measures-determinate p C after (C .count) 0)
       (falling (C .count) 0 (omega arith) (omega arith) (omega (arith, t .inside)))
 

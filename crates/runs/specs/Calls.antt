@@ -13,7 +13,7 @@ use lib.IntN.{ℤ}
 use Rattle.problem.specs.Answers.{answerCounts, isVerdict}
 use Rattle.problem.specs.Checks.{Posed}
 use Rattle.tableau.specs.RightSide.{Found, none, some, basis}
-use Rattle.settling.specs.Seating.{Seated, seated, far, goalWishes, seat}
+use Rattle.settling.specs.Seating.{Seated, seated, far, seat}
 use Rattle.engine.specs.Assign.{Buffers, Done, m, columns, solved, assign, formed, continue}
 use Rattle.runs.specs.Runs.{standing, Descent, Ends}
 
@@ -26,7 +26,7 @@ seatedRun P N (seated v) = settleRun P N v
 
 abbrev pub foundRun : Posed → Found → List (List ℤ)
 foundRun P none = []
-foundRun P (some start N) = seatedRun P N (seat (goalWishes (columns P)) (columns P) N start)
+foundRun P (some start N) = seatedRun P N (seat (columns P) N start)
 
 abbrev pub ofVerdict : Done → List (List ℤ) → List (List ℤ)
 ofVerdict d R = cond (isVerdict (d .answer)) R []

@@ -19,7 +19,6 @@ use mathlib.Core.List.{List, [], _∷_}
 use Prim.Native.Nat.{ℕ, zero, suc, _+_, _<_, _≤_}
 use lib.IntN.{ℤ}
 use lib.ListN.{length, getD}
-use Rattle.whole.specs.Lists.{entry}
 use Rattle.problem.specs.declared.Counts.{Counts}
 use Rattle.settling.specs.declared.Measure.{Measure}
 use Rattle.settling.specs.declared.Move.{Move}
@@ -27,7 +26,7 @@ use Rattle.settling.specs.declared.Part.{Part}
 use Rattle.settling.specs.declared.Part.the-variants.{Bounds, Goals}
 use Rattle.settling.specs.declared.Step.{Step}
 use Rattle.settling.specs.declared.Step.the-variants.{Rest, Take}
-use Rattle.settling.specs.Columns.{Columns}
+use Rattle.settling.specs.Columns.{Columns, cell}
 use Rattle.settling.specs.Moves.{moved}
 use Rattle.settling.specs.Measures.{below}
 use Rattle.settling.specs.Steps.{isCompared, measureAt, partOf, nextStep}
@@ -38,7 +37,7 @@ use Rattle.runs.specs.Sorted.{sorted, lower}
 unfoldable pub measuresFrom : Part → Columns → List ℤ → ℕ → ℕ → List Measure
 measuresFrom p C v zero j = []
 measuresFrom p C v (suc k) j =
-    cond (isCompared p (entry j (C .goals))) (measureAt p C v j ∷ measuresFrom p C v k (suc j)) (measuresFrom p C v k (suc j))
+    cond (isCompared p (cell C v j)) (measureAt p C v j ∷ measuresFrom p C v k (suc j)) (measuresFrom p C v k (suc j))
 
 abbrev pub measures : Part → Columns → List ℤ → List Measure
 measures p C v = measuresFrom p C v (C .count) 0

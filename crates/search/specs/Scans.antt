@@ -1,5 +1,6 @@
 -- One pass over the moves instead of one for each column: each move is looked for along the ranking only as far as the best place so far.
 --   Best                     the best place so far and its move (declared in src/); at first the place behind the ranking
+--   nowhere L                the best at first
 --   stepIn L z               the step that it stands for, along the ranking L
 --   consider imp L o z       after the move o, where `imp` says which columns of the ranking L a move improves
 --   scan imp L R z           after the moves of the list R
@@ -29,6 +30,10 @@ use Rattle.search.specs.Places.{least, least-small}
 
 abbrev pub best : ℕ → Move → Best
 best k o = record { at = k; o = o }
+
+-- at first the place behind the ranking, with any move
+abbrev pub nowhere : List ℕ → Best
+nowhere L = best (length L) (single 0 (pos 0))
 
 -- a place behind the ranking is none
 unfoldable pub stepIn : List ℕ → Best → Step
@@ -149,7 +154,8 @@ scan-from imp L [] z h = sym (ap (λ (x : Step). orElse x (stepIn L z)) (rests (
 scan-from imp L (o ∷ R) z h =
     scan-from imp L R (consider imp L o z) (low (ltb r (z .at)))
     ∙ go (ltb r (z .at)) refl
-    ∙ sym (ap (λ (x : Step). orElse x (stepIn L z)) (front (imp o) g o K ∙ ap (λ (n : ℕ). cond (ltb r n) (orElse (firstColumn g (take r K)) (Take (getD K r 0) o)) (firstColumn g K)) len))
+    ∙ sym (ap (λ (x : Step). orElse x (stepIn L z))
+    (front (imp o) g o K ∙ ap (λ (n : ℕ). cond (ltb r n) (orElse (firstColumn g (take r K)) (Take (getD K r 0) o)) (firstColumn g K)) len))
   where
     K : List ℕ
     K = take (z .at) L
@@ -173,7 +179,8 @@ scan-from imp L (o ∷ R) z h =
         ≡ orElse (cond t (orElse (firstColumn g (take r K)) (Take (getD K r 0) o)) (firstColumn g K)) (stepIn L z)
     go true e =
         ap (orElse (firstColumn g (take r L))) (step-before L r o (omega (arith, ltb-true r (z .at) e)))
-        ∙ ap₂ (λ (X : List ℕ) (i : ℕ). orElse (firstColumn g X) (Take i o)) (sym (take-take r (z .at) L (omega (arith, ltb-true r (z .at) e)))) (sym (getD-take (z .at) L r 0 (ltb-true r (z .at) e)))
+        ∙ ap₂ (λ (X : List ℕ) (i : ℕ). orElse (firstColumn g X) (Take i o))
+        (sym (take-take r (z .at) L (omega (arith, ltb-true r (z .at) e)))) (sym (getD-take (z .at) L r 0 (ltb-true r (z .at) e)))
         ∙ last (firstColumn g (take r K))
       where
         last : (x : Step) → orElse x (Take (getD K r 0) o) ≡ orElse (orElse x (Take (getD K r 0) o)) (stepIn L z)
@@ -186,11 +193,12 @@ all-of [] = refl
 all-of (i ∷ L) = ap (λ (R : List ℕ). i ∷ R) (all-of L)
 
 pub scan-first :
-    (imp : Move → ℕ → Bool) (L : List ℕ) (R : List Move) (u : Move)
-    → stepIn L (scan imp L R (best (length L) u)) ≡ firstColumn (λ i. firstMove (λ o. imp o i) i R) L
-scan-first imp L R u =
-    scan-from imp L R (best (length L) u) (omega arith)
-    ∙ ap₂ (λ (X : List ℕ) (x : Step). orElse (firstColumn (λ i. firstMove (λ o. imp o i) i R) X) x) (all-of L) (step-behind L u) ∙ end _
+    (imp : Move → ℕ → Bool) (L : List ℕ) (R : List Move)
+    → stepIn L (scan imp L R (nowhere L)) ≡ firstColumn (λ i. firstMove (λ o. imp o i) i R) L
+scan-first imp L R =
+    scan-from imp L R (nowhere L) (omega arith)
+    ∙ ap₂ (λ (X : List ℕ) (x : Step). orElse (firstColumn (λ i. firstMove (λ o. imp o i) i R) X) x)
+    (all-of L) (step-behind L (single 0 (pos 0))) ∙ end _
   where
     end : (x : Step) → orElse x Rest ≡ x
     end Rest = refl
@@ -212,7 +220,8 @@ module _ (imp : Move → ℕ → Bool) (L : List ℕ) (r : ℕ) (z : Best) where
   unfolding singles scan
   singles-end s h = let e : r - s ≡ 0 = omega arith in ap (λ (k : ℕ). scan imp L (singles k s) z) e
 
-  pub with-more : (s t : ℕ) → t < r → scan imp L (pairsWith (r - t) s t) z ≡ scan imp L (pairsWith (r - (t + 1)) s (t + 1)) (scan imp L (signPairs s t) z)
+  pub with-more : (s t : ℕ) → t < r
+      → scan imp L (pairsWith (r - t) s t) z ≡ scan imp L (pairsWith (r - (t + 1)) s (t + 1)) (scan imp L (signPairs s t) z)
   unfolding pairsWith
   with-more s t h =
       let e : r - t ≡ suc (r - (t + 1)) = omega arith in
@@ -223,7 +232,8 @@ module _ (imp : Move → ℕ → Bool) (L : List ℕ) (r : ℕ) (z : Best) where
   unfolding pairsWith scan
   with-end s t h = let e : r - t ≡ 0 = omega arith in ap (λ (k : ℕ). scan imp L (pairsWith k s t) z) e
 
-  pub pairs-more : (s : ℕ) → s < r → scan imp L (pairs (r - s) s) z ≡ scan imp L (pairs (r - (s + 1)) (s + 1)) (scan imp L (pairsWith (r - (s + 1)) s (s + 1)) z)
+  pub pairs-more : (s : ℕ) → s < r
+      → scan imp L (pairs (r - s) s) z ≡ scan imp L (pairs (r - (s + 1)) (s + 1)) (scan imp L (pairsWith (r - (s + 1)) s (s + 1)) z)
   unfolding pairs
   pairs-more s h =
       let e : r - s ≡ suc (r - (s + 1)) = omega arith in

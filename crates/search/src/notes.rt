@@ -1,52 +1,47 @@
+// A list of notes: three numbers for each vector, if there is room for them.
 ghost use mathlib.Core.Path.{_≡_};
-ghost use Prim.Native.Nat.{_+_, _*_, _<_};
+ghost use Prim.Native.Nat.{_+_, _*_, _≤_};
 ghost use lib.ListN.{length};
-ghost use Rattle.problem.specs.Limits.{maxColumns};
+ghost use Rattle.search.specs.Notes.{noteWidth, notesLong};
 ghost use Rattle.search.specs.Notes as Notes;
 use crate::Note;
 use problem::Problem;
 
+// How many numbers a note has, and where they stand in it.
+pub(crate) const NOTE_WIDTH: usize = 3;
+
+const TOP: usize = 0;
+
+const PLUS: usize = 1;
+
+const MINUS: usize = 2;
+
 // The note of vector s.
 pub(crate) fn note_at(notes: &[usize], s: usize) -> Note
-    requires { ⌜ 3 * s + 2 < length (now notes) ⌝ }
+    requires { ⌜ noteWidth * s + noteWidth ≤ length (now notes) ⌝ }
     ensures { λ r. ⌜ r ≡ Notes.noteAt (now (notes .entry)) s ⌝ }
 {
-    let at = 3 * s;
+    let at = NOTE_WIDTH * s;
     Note {
-        top: notes[at],
-        plus: notes[at + 1],
-        minus: notes[at + 2],
+        top: notes[at + TOP],
+        plus: notes[at + PLUS],
+        minus: notes[at + MINUS],
     }
-}
-
-// What stands where vector s is noted, whatever it is; 0s where there is no room for it.
-pub(crate) fn old_note(notes: &[usize], s: usize) -> Note
-    requires { ⌜ length (now notes) ≡ 3 * maxColumns ⌝ }
-    ensures { λ r. ⌜ r ≡ Notes.oldNote (now (notes .entry)) s ⌝ }
-{
-    if Problem::MAX_COLUMNS <= s {
-        return Note {
-            top: 0,
-            plus: 0,
-            minus: 0,
-        };
-    }
-    note_at(notes, s)
 }
 
 // Writes the note of vector s, if there is room for it.
 pub(crate) fn put_note(notes: &mut [usize], s: usize, x: Note)
-    requires { ⌜ length (now notes) ≡ 3 * maxColumns ⌝ }
+    requires { ⌜ length (now notes) ≡ notesLong ⌝ }
     ensures { λ _. ⌜ now (notes .exit) ≡ Notes.putNote s x (now (notes .entry)) ⌝ }
 {
     if Problem::MAX_COLUMNS <= s {
         return;
     }
-    let at = 3 * s;
+    let at = NOTE_WIDTH * s;
     let top = x.top;
     let plus = x.plus;
     let minus = x.minus;
-    notes[at] = top;
-    notes[at + 1] = plus;
-    notes[at + 2] = minus;
+    notes[at + TOP] = top;
+    notes[at + PLUS] = plus;
+    notes[at + MINUS] = minus;
 }

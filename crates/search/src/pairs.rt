@@ -1,22 +1,21 @@
+// The moves of two vectors.
 ghost use mathlib.Core.Path.{_≡_};
-ghost use mathlib.Core.Bool.{_&&_};
-ghost use Prim.Native.Nat.{_+_, _-_, _*_, _<_, _≤_};
+ghost use Prim.Native.Nat.{_<_, _≤_};
 ghost use lib.ListN.{length};
-ghost use Rattle.settling.specs.Moves.{signPairs};
-ghost use Rattle.settling.specs.Moves as Moves;
-ghost use Rattle.settling.specs.Steps.{firstColumn, stepAt};
-ghost use Rattle.settling.specs.Views.{vectors, Viewed};
-ghost use Rattle.search.specs.Notes.{AllNoted};
-ghost use Rattle.problem.specs.Limits.{maxColumns};
-ghost use Rattle.search.specs.Hints.{Tryable, Hinted, HintsIn, shutBy, untold as untold·of, hintsOf, trialOf};
+ghost use Rattle.settling.specs.Views.{Viewed};
+ghost use Rattle.search.specs.Notes.{notesLong, AllNoted};
+ghost use Rattle.search.specs.Hints.{Tryable, Hinted, Told, HintsIn, shutBy, allShut};
+ghost use Rattle.search.specs.Hints.{untold as untold·of, hintsOf, hintsAt, trialOf, paired};
 ghost use Rattle.search.specs.Scans as Scans;
-ghost use Rattle.search.specs.Searches.{columnsIn, valuesIn, better, Setup};
+ghost use Rattle.search.specs.Searches.{considered, scanned, withFrom, pairsFrom, stepAlong, Setup};
 use crate::Best;
 use crate::Hints;
 use crate::Note;
 use crate::Pair;
+use crate::Progress;
 use crate::Search;
 use crate::Trial;
+use crate::notes::NOTE_WIDTH;
 use crate::notes::note_at;
 use crate::scan::consider;
 use crate::scan::singles;
@@ -27,10 +26,11 @@ use settling::Step;
 use settling::moves::changes;
 
 // Nothing is told of a pair, but that it changes none of the n columns before a place.
-fn untold(n: usize, from: usize) -> Hints
-    ensures { λ r. ⌜ r ≡ untold·of n from ⌝ }
+fn untold(n: usize, p: Pair, from: usize) -> Hints
+    ensures { λ r. ⌜ r ≡ untold·of n p from ⌝ }
 {
     Hints {
+        pair: p,
         from: from,
         vector: 0,
         pp: n,
@@ -47,6 +47,7 @@ fn hints_of(n: usize, p: Pair, x: Note, y: Note) -> Hints
 {
     if x.top < y.top {
         return Hints {
+            pair: p,
             from: x.top,
             vector: p.t,
             pp: x.plus,
@@ -57,6 +58,7 @@ fn hints_of(n: usize, p: Pair, x: Note, y: Note) -> Hints
     }
     if y.top < x.top {
         return Hints {
+            pair: p,
             from: y.top,
             vector: p.s,
             pp: y.plus,
@@ -65,14 +67,26 @@ fn hints_of(n: usize, p: Pair, x: Note, y: Note) -> Hints
             mm: y.minus,
         };
     }
-    untold(n, x.top)
+    untold(n, p, x.top)
+}
+
+// What the notes tell of a pair; nothing, where there is no room for the second note.
+fn hints_at(notes: &[usize], n: usize, p: Pair) -> Hints
+    requires { ⌜ (length (now notes) ≡ notesLong) × (p .s < p .t) ⌝ }
+    ensures { λ r. ⌜ r ≡ hintsAt (now (notes .entry)) n p ⌝ }
+{
+    if Problem::MAX_COLUMNS <= p.t {
+        return untold(n, p, 0);
+    }
+    hints_of(n, p, note_at(notes, p.s), note_at(notes, p.t))
 }
 
 impl Hints {
     // The trial of a Ns + b Nt.
-    fn trial(self, p: Pair, a: i64, b: i64, column: usize) -> Trial
-        ensures { λ r. ⌜ r ≡ trialOf self p a b column ⌝ }
+    fn trial(self, a: i64, b: i64, column: usize, best: Best) -> Trial
+        ensures { λ r. ⌜ r ≡ trialOf self a b column best ⌝ }
     {
+        let p = self.pair;
         Trial {
             o: Move {
                 s: p.s,
@@ -83,6 +97,7 @@ impl Hints {
             from: self.from,
             vector: self.vector,
             column: column,
+            best: best,
         }
     }
 }
@@ -107,25 +122,26 @@ fn is_shut(basis: &[i64], view: Basis, vector: usize, column: usize) -> bool
 // The best so far, after one more pair.
 fn try_pair(
     search: Search,
-    cells: &[i64],
+    columns: &[i64],
+    values: &[i64],
     basis: &[i64],
     order: &[usize],
     t: Trial,
-    z: Best,
 ) -> Best
-    requires { ⌜ Setup search (now cells) (now basis) (now order) × Tryable search (now cells) (now basis) (now order) t × (z .at ≤ length (now order)) ⌝ }
-    ensures { λ r. ⌜ r ≡ Scans.consider (better search (now (cells .entry)) (now (basis .entry))) (now (order .entry)) (t .o) z ⌝ }
+    requires { ⌜ Setup search (now columns) (now values) (now basis) (now order)
+        × Tryable search (now columns) (now values) (now basis) (now order) t × (t .best .at ≤ length (now order)) ⌝ }
+    ensures { λ r. ⌜ r ≡ considered search (now (columns .entry)) (now (values .entry)) (now (basis .entry)) (now (order .entry)) t ⌝ }
 {
     if is_shut(basis, search.view, t.vector, t.column) {
-        return z;
+        return t.best;
     }
-    consider(search, cells, basis, order, t, z)
+    consider(search, columns, values, basis, order, t)
 }
 
 // Whether all four moves of a pair are shut out.
 fn all_shut(basis: &[i64], view: Basis, h: Hints) -> bool
     requires { ⌜ Viewed view (now basis) × HintsIn view h ⌝ }
-    ensures { λ r. ⌜ r ≡ shutBy view (now (basis .entry)) (h .vector) (h .pp) && (shutBy view (now (basis .entry)) (h .vector) (h .pm) && (shutBy view (now (basis .entry)) (h .vector) (h .mp) && shutBy view (now (basis .entry)) (h .vector) (h .mm))) ⌝ }
+    ensures { λ r. ⌜ r ≡ allShut view (now (basis .entry)) h ⌝ }
 {
     if !is_shut(basis, view, h.vector, h.pp) {
         return false;
@@ -141,99 +157,128 @@ fn all_shut(basis: &[i64], view: Basis, h: Hints) -> bool
 
 // After the pairs of two vectors: ++, +−, −+, −−.
 fn four_signs(
-    search: Search,
-    cells: &[i64],
+    progress: Progress,
+    columns: &[i64],
+    values: &[i64],
     basis: &[i64],
     order: &[usize],
-    p: Pair,
     h: Hints,
-    z: Best,
 ) -> Best
-    requires { ⌜ Setup search (now cells) (now basis) (now order) × Hinted search (now cells) (now basis) (now order) p h × (z .at ≤ length (now order)) ⌝ }
-    ensures { λ r. ⌜ r ≡ Scans.scan (better search (now (cells .entry)) (now (basis .entry))) (now (order .entry)) (signPairs (p .s) (p .t)) z ⌝ }
+    requires { ⌜ Setup (progress .search) (now columns) (now values) (now basis) (now order)
+        × Hinted (progress .search) (now columns) (now values) (now basis) (now order) h × (progress .best .at ≤ length (now order)) ⌝ }
+    ensures { λ r. ⌜ r
+        ≡ paired (progress .search) (now (columns .entry)) (now (values .entry)) (now (basis .entry)) (now (order .entry)) h (progress .best) ⌝ }
 {
-    let y = try_pair(search, cells, basis, order, h.trial(p, 1, 1, h.pp), z);
-    let x = try_pair(search, cells, basis, order, h.trial(p, 1, -1, h.pm), y);
-    let w = try_pair(search, cells, basis, order, h.trial(p, -1, 1, h.mp), x);
-    try_pair(search, cells, basis, order, h.trial(p, -1, -1, h.mm), w)
+    let search = progress.search;
+    let z = progress.best;
+    let pp = h.trial(1, 1, h.pp, z);
+    let y = try_pair(search, columns, values, basis, order, pp);
+    let pm = h.trial(1, -1, h.pm, y);
+    let x = try_pair(search, columns, values, basis, order, pm);
+    let mp = h.trial(-1, 1, h.mp, x);
+    let w = try_pair(search, columns, values, basis, order, mp);
+    let mm = h.trial(-1, -1, h.mm, w);
+    try_pair(search, columns, values, basis, order, mm)
 }
 
-// The same, by the notes of both vectors. A pair that changes no column before the best place is not better, nor one that is shut out.
-fn noted_signs(
-    search: Search,
-    cells: &[i64],
+// The same. A pair that changes no column before the best place is not better, nor one that is shut out.
+fn told_signs(
+    progress: Progress,
+    columns: &[i64],
+    values: &[i64],
     basis: &[i64],
     order: &[usize],
-    notes: &[usize],
-    p: Pair,
-    z: Best,
+    h: Hints,
 ) -> Best
-    requires { ⌜ Setup search (now cells) (now basis) (now order) × AllNoted search (now cells) (now basis) (now order) (z .at) (search .view .vectors) (now notes) × (p .s < p .t) × (p .t < search .view .vectors) × (z .at ≤ length (now order)) × (0 < z .at) ⌝ }
-    ensures { λ r. ⌜ r ≡ Scans.scan (better search (now (cells .entry)) (now (basis .entry))) (now (order .entry)) (signPairs (p .s) (p .t)) z ⌝ }
+    requires { ⌜ Setup (progress .search) (now columns) (now values) (now basis) (now order)
+        × Told (progress .search) (now columns) (now values) (now basis) (now order) (progress .best .at) h
+        × (progress .best .at ≤ length (now order)) ⌝ }
+    ensures { λ r. ⌜ r
+        ≡ paired (progress .search) (now (columns .entry)) (now (values .entry)) (now (basis .entry)) (now (order .entry)) h (progress .best) ⌝ }
 {
-    let n = search.view.columns;
-    if Problem::MAX_COLUMNS <= p.t {
-        return four_signs(search, cells, basis, order, p, untold(n, 0), z);
-    }
-    let h = hints_of(n, p, note_at(notes, p.s), note_at(notes, p.t));
+    let z = progress.best;
     if z.at <= h.from {
         return z;
     }
-    if all_shut(basis, search.view, h) {
+    if all_shut(basis, progress.search.view, h) {
         return z;
     }
-    four_signs(search, cells, basis, order, p, h, z)
+    four_signs(progress, columns, values, basis, order, h)
 }
 
 // After the pairs of Ns with the vectors behind it.
 fn pairs_with(
-    search: Search,
-    cells: &[i64],
+    progress: Progress,
+    columns: &[i64],
+    values: &[i64],
     basis: &[i64],
     order: &[usize],
     notes: &[usize],
-    s: usize,
-    z: Best,
 ) -> Best
-    requires { ⌜ Setup search (now cells) (now basis) (now order) × AllNoted search (now cells) (now basis) (now order) (z .at) (search .view .vectors) (now notes) × (s < search .view .vectors) × (z .at ≤ length (now order)) ⌝ }
-    ensures { λ r. ⌜ r ≡ Scans.scan (better search (now (cells .entry)) (now (basis .entry))) (now (order .entry)) (Moves.pairsWith (search .view .vectors - (s + 1)) s (s + 1)) z ⌝ }
+    requires { ⌜ Setup (progress .search) (now columns) (now values) (now basis) (now order)
+        × AllNoted (progress .search) (now columns) (now values) (now basis) (now order)
+        (progress .best .at) (progress .search .view .vectors) (now notes)
+        × (progress .s < progress .search .view .vectors) × (progress .best .at ≤ length (now order)) ⌝ }
+    ensures { λ r. ⌜ r
+        ≡ scanned (progress .search) (now (columns .entry)) (now (values .entry)) (now (basis .entry)) (now (order .entry))
+        (withFrom progress) (progress .best) ⌝ }
 {
+    let search = progress.search;
+    let s = progress.s;
     let r = search.view.vectors;
-    let mut y = z;
+    let n = search.view.columns;
+    let mut best = progress.best;
     let mut t = s + 1;
     while t < r {
-        if y.at == 0 {
-            return y;
+        if best.at == 0 {
+            return best;
         }
-        y = noted_signs(search, cells, basis, order, notes, Pair { s: s, t: t }, y);
+        let h = hints_at(notes, n, Pair { s: s, t: t });
+        let so_far = Progress {
+            search: search,
+            s: s,
+            best: best,
+        };
+        best = told_signs(so_far, columns, values, basis, order, h);
         t += 1;
     }
-    y
+    best
 }
 
-// After all pairs.
+// After the pairs of the vectors from Ns on.
 fn pairs(
-    search: Search,
-    cells: &[i64],
+    progress: Progress,
+    columns: &[i64],
+    values: &[i64],
     basis: &[i64],
     order: &[usize],
     notes: &[usize],
-    z: Best,
 ) -> Best
-    requires { ⌜ Setup search (now cells) (now basis) (now order) × AllNoted search (now cells) (now basis) (now order) (z .at) (search .view .vectors) (now notes) × (z .at ≤ length (now order)) ⌝ }
-    ensures { λ r. ⌜ r ≡ Scans.scan (better search (now (cells .entry)) (now (basis .entry))) (now (order .entry)) (Moves.pairs (search .view .vectors) 0) z ⌝ }
+    requires { ⌜ Setup (progress .search) (now columns) (now values) (now basis) (now order)
+        × AllNoted (progress .search) (now columns) (now values) (now basis) (now order)
+        (progress .best .at) (progress .search .view .vectors) (now notes)
+        × (progress .best .at ≤ length (now order)) ⌝ }
+    ensures { λ r. ⌜ r
+        ≡ scanned (progress .search) (now (columns .entry)) (now (values .entry)) (now (basis .entry)) (now (order .entry))
+        (pairsFrom progress) (progress .best) ⌝ }
 {
+    let search = progress.search;
     let r = search.view.vectors;
-    let mut y = z;
-    let mut s = 0;
+    let mut best = progress.best;
+    let mut s = progress.s;
     while s < r {
-        if y.at == 0 {
-            return y;
+        if best.at == 0 {
+            return best;
         }
-        y = pairs_with(search, cells, basis, order, notes, s, y);
+        let so_far = Progress {
+            search: search,
+            s: s,
+            best: best,
+        };
+        best = pairs_with(so_far, columns, values, basis, order, notes);
         s += 1;
     }
-    y
+    best
 }
 
 // The step that a best place stands for.
@@ -249,28 +294,24 @@ fn step_in(order: &[usize], z: Best) -> Step
     Step::Take(i, o)
 }
 
-// The first improving move of the first column of the order that has one. The notes are room.
+// The first improving move of the first column of the order that has one.
 pub(crate) fn first_step(
     search: Search,
-    cells: &[i64],
+    columns: &[i64],
+    values: &[i64],
     basis: &[i64],
     order: &[usize],
-    notes: &mut [usize],
 ) -> Step
-    requires { ⌜ Setup search (now cells) (now basis) (now order) × (length (now notes) ≡ 3 * maxColumns) ⌝ }
-    ensures { λ r. ⌜ r ≡ firstColumn (stepAt (search .part) (columnsIn search (now (cells .entry))) (vectors (search .view) (now (basis .entry))) (valuesIn search (now (cells .entry)))) (now (order .entry)) ⌝ }
+    requires { ⌜ Setup search (now columns) (now values) (now basis) (now order) ⌝ }
+    ensures { λ r. ⌜ r ≡ stepAlong search (now (columns .entry)) (now (values .entry)) (now (basis .entry)) (now (order .entry)) ⌝ }
 {
-    let none = Move {
+    let mut notes = [0usize; NOTE_WIDTH * Problem::MAX_COLUMNS];
+    let alone = singles(search, columns, values, basis, order, &mut notes);
+    let progress = Progress {
+        search: search,
         s: 0,
-        a: 0,
-        t: 0,
-        b: 0,
+        best: alone,
     };
-    let z = Best {
-        at: order.len(),
-        o: none,
-    };
-    let y = singles(search, cells, basis, order, notes, z);
-    let x = pairs(search, cells, basis, order, notes, y);
-    step_in(order, x)
+    let best = pairs(progress, columns, values, basis, order, &notes);
+    step_in(order, best)
 }

@@ -8,24 +8,25 @@ use mathlib.Core.Path.{_≡_}
 use mathlib.Core.Bool.{true, false}
 use lib.IntN.{ℤ}
 use Rattle.whole.specs.Tests.{isZero}
+use Rattle.settling.specs.declared.Cell.{Cell}
 use Rattle.settling.specs.declared.Measure.{Measure}
 use Rattle.settling.specs.declared.Part.{Part}
 use Rattle.settling.specs.Measures.{below, measure}
 use Rattle.settling.specs.Steps.{isCompared, isAllowed, passes}
 
-module _ (p : Part) (lo hi g y e : ℤ) (q : Measure) where
-  pub passes-far : isAllowed p lo hi y ≡ false → passes p lo hi g y e q ≡ false
+module _ (p : Part) (c : Cell) (e : ℤ) (q : Measure) where
+  pub passes-far : isAllowed p c ≡ false → passes p c e q ≡ false
   unfolding passes
   passes-far a = rw a
 
-  pub passes-still : isAllowed p lo hi y ≡ true → isZero e ≡ true → passes p lo hi g y e q ≡ true
+  pub passes-still : isAllowed p c ≡ true → isZero e ≡ true → passes p c e q ≡ true
   unfolding passes
   passes-still a b = rw (a, b)
 
-  pub passes-free : isAllowed p lo hi y ≡ true → isZero e ≡ false → isCompared p g ≡ false → passes p lo hi g y e q ≡ true
+  pub passes-free : isAllowed p c ≡ true → isZero e ≡ false → isCompared p c ≡ false → passes p c e q ≡ true
   unfolding passes
   passes-free a b d = rw (a, b, d)
 
-  pub passes-measured : isAllowed p lo hi y ≡ true → isZero e ≡ false → isCompared p g ≡ true → passes p lo hi g y e q ≡ below (measure p lo hi g y) q
+  pub passes-measured : isAllowed p c ≡ true → isZero e ≡ false → isCompared p c ≡ true → passes p c e q ≡ below (measure p c) q
   unfolding passes
   passes-measured a b d = rw (a, b, d)

@@ -24,7 +24,7 @@ use Rattle.settling.specs.declared.Move.{Move}
 use Rattle.settling.specs.declared.Part.{Part}
 use Rattle.settling.specs.declared.Step.{Step}
 use Rattle.settling.specs.declared.Step.the-variants.{Rest, Take}
-use Rattle.settling.specs.Columns.{Columns}
+use Rattle.settling.specs.Columns.{Columns, cell}
 use Rattle.settling.specs.Parts.{lt-or-ge}
 use Rattle.settling.specs.Moves.{moves, change, changes, moved}
 use Rattle.settling.specs.Measures.{below}
@@ -102,15 +102,14 @@ module _ (p : Part) (C : Columns) (N : List (List ℤ)) (v : List ℤ) (i : ℕ)
   all-pass : (j : ℕ) → j < C .count → passesAt p C N v o (measureAt p C v i) j ≡ true
   all-pass j l = every-at (C .count) (passesAt p C N v o (measureAt p C v i)) j (both .1) l
 
-  pub taken-allowed : (j : ℕ) → j < C .count → isAllowed p (entry j (C .lower)) (entry j (C .upper)) (entry j (moved N o v)) ≡ true
+  pub taken-allowed : (j : ℕ) → j < C .count → isAllowed p (cell C (moved N o v) j) ≡ true
   unfolding passes
   taken-allowed j l = both-true _ _ (all-pass j l) .0
 
-  pub taken-below : (j : ℕ) → j < C .count → isCompared p (entry j (C .goals)) ≡ true → isZero (change N o j) ≡ false
+  pub taken-below : (j : ℕ) → j < C .count → isCompared p (cell C (moved N o v) j) ≡ true → isZero (change N o j) ≡ false
       → below (measureAt p C (moved N o v) j) (measureAt p C v i) ≡ true
   taken-below j l c e =
-      sym (passes-measured p (entry j (C .lower)) (entry j (C .upper)) (entry j (C .goals)) (entry j (moved N o v)) (change N o j)
-      (measureAt p C v i) (taken-allowed j l) e c) ∙ all-pass j l
+      sym (passes-measured p (cell C (moved N o v) j) (change N o j) (measureAt p C v i) (taken-allowed j l) e c) ∙ all-pass j l
 
 -- past the end of a list both values are 0
 pub moved-still : (N : List (List ℤ)) (o : Move) (v : List ℤ) (j : ℕ) → isZero (change N o j) ≡ true → entry j (moved N o v) ≡ entry j v

@@ -6,7 +6,7 @@
 --   ideal lo hi w x     the wish brought into the bounds; "Without a goal it is the present value brought into the bounds"
 -- Seating takes wishes and not goals, so that a wish may come from elsewhere too.
 -- Assumes nothing.
-use mathlib.Core.Bool.{Bool, true, false, cond}
+use mathlib.Core.Bool.{cond}
 use Prim.Native.Nat.{ℕ, zero, suc, _+_, _*_, _/_}
 use lib.Dec.{ltb}
 use lib.IntN.{ℤ, pos, natAbs}

@@ -1,17 +1,19 @@
 -- Document 01, "Moves and settling": how far a column is from what is wanted of it.
 --   Measure              a fraction of natural numbers (declared in src/)
 --   below p q            p is the smaller one, "compared exactly by cross products"
---   distance lo hi x     "how far it lies outside its bounds"
+--   Cell                 a column's bounds and goals, and its value (declared in src/)
+--   distance c           "how far it lies outside its bounds"
 --   ratio low high v     "for goal g and value v of 1 or more, is the larger of 1000v/g and g/1000v"; here the first is over a low goal and the second
 --                        of a high one, which are both g
 --   Part                 the bounds part and the goals part (declared in src/)
---   measure part ..      the distance in the bounds part, the ratio in the goals part, for the bounds lo and hi, the goal g and the value x
+--   measure part c       the distance in the bounds part, the ratio in the goals part
 -- Assumes nothing.
-use mathlib.Core.Bool.{Bool, true, false, cond}
+use mathlib.Core.Bool.{Bool, cond}
 use Prim.Native.Nat.{ℕ, _*_}
 use lib.Dec.{ltb}
-use lib.IntN.{ℤ, natAbs, _-ℤ_}
+use lib.IntN.{natAbs, _-ℤ_}
 use lib.Signed.{ltZ}
+use Rattle.settling.specs.declared.Cell.{Cell}
 use Rattle.settling.specs.declared.Measure.{Measure}
 use Rattle.settling.specs.declared.Part.{Part}
 use Rattle.settling.specs.declared.Part.the-variants.{Bounds, Goals}
@@ -25,12 +27,13 @@ below p q = ltb (p .top * q .bottom) (q .top * p .bottom)
 abbrev pub larger : Measure → Measure → Measure
 larger p q = cond (below p q) q p
 
-abbrev pub distance : ℤ → ℤ → ℤ → ℕ
-distance lo hi x = cond (ltZ x lo) (natAbs (lo -ℤ x)) (cond (ltZ hi x) (natAbs (x -ℤ hi)) 0)
+abbrev pub distance : Cell → ℕ
+distance c =
+    cond (ltZ (c .value) (c .lower)) (natAbs (c .lower -ℤ c .value)) (cond (ltZ (c .upper) (c .value)) (natAbs (c .value -ℤ c .upper)) 0)
 
 abbrev pub ratio : ℕ → ℕ → ℕ → Measure
 ratio low high v = larger (fraction (1000 * v) low) (fraction high (1000 * v))
 
-unfoldable pub measure : Part → ℤ → ℤ → ℤ → ℤ → Measure
-measure Bounds lo hi g x = fraction (distance lo hi x) 1
-measure Goals lo hi g x = ratio (natAbs g) (natAbs g) (natAbs x)
+unfoldable pub measure : Part → Cell → Measure
+measure Bounds c = fraction (distance c) 1
+measure Goals c = ratio (natAbs (c .low)) (natAbs (c .high)) (natAbs (c .value))

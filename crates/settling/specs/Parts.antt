@@ -1,5 +1,5 @@
 -- The first w numbers of a buffer t, lent and put back; and a case on two numbers.
---   part-length, -room   how many there are
+--   part-length          how many there are
 --   part-back, -fits     they come back as u, and are read again
 --   lt-or-ge             x lies below k, or does not
 -- Assumes nothing.
@@ -17,9 +17,6 @@ use lib.Seq.{take-at}
 
 pub part-length : (w : ℕ) (t : List ℤ) → w ≤ length t → w ≡ length (take w t)
 part-length w t h = sym (length-take w t ∙ omega arith)
-
-pub part-room : (k w : ℕ) (t : List ℤ) → k ≤ w → w ≤ length t → k ≤ length (take w t)
-part-room k w t h g = omega (arith, part-length w t g)
 
 pub part-back : (w : ℕ) (u t : List ℤ) → length u ≡ w → take w (u ++ drop w t) ≡ u
 part-back w u t h = take-at u (drop w t) w h

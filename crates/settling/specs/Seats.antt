@@ -1,9 +1,5 @@
 -- Seating, a vector at a time.
---   listed lo hi gs         the columns of three lists
---   gapAt C v c             "the ideal of c less the present value there", by the goals
---   seatByGoals, seatWhole  the addition for one row, and seating over a view, by the goals
---   Placeable, Addable      lists of equal length, with numbers small enough for a gap and for an addition
---   isSeated, valuesAfter   whether the list is seated, and the values then: the seated list, or where a value came to lie beyond ±M the list as it was
+--   Placeable, Addable      lists of fitting length, with numbers small enough for a gap and for an addition
 --   Led r                   the row has a lead above 0, and so a column for it
 --   Seatable B v ..         what seating needs: lists that are ready, and a basis of such rows
 --   ideal-small             an ideal lies in bounds
@@ -22,7 +18,7 @@ use native.Mathlib.Omega.{arith}
 use native.Mathlib.Numerals.{add-one}
 use borrow.Author.Tests.{ltb-false, ltb-true}
 use lib.Dec.{ltb}
-use lib.IntN.{ℤ, pos, negsuc, natAbs, _+ℤ_, _-ℤ_, _*ℤ_}
+use lib.IntN.{ℤ, pos, negsuc, natAbs, _+ℤ_, _*ℤ_}
 use lib.ListN.{length, take, drop, length-take, length-drop, drop-of-length-le, List·getD-eq-default}
 use lib.Seq.{drop-cons}
 use lib.Signed.{ltZ, _<ℤ_}
@@ -31,46 +27,22 @@ use Rattle.whole.specs.Integers.{_⊖_, ⊖-pos, ⊖-negsuc, rep, diff-rel}
 use Rattle.whole.specs.Quotient.{floorQuotient, nearestQuotient}
 use Rattle.whole.proofs.Signed.{abs-add, abs-mul}
 use Rattle.lattice.specs.Rows.{lead}
-use Rattle.problem.specs.Limits.{M, maxBound, maxGoal, beyond, anyBeyond}
+use Rattle.problem.specs.Limits.{M, maxBound, beyond, anyBeyond}
 use Rattle.settling.specs.declared.Basis.{Basis}
 use Rattle.settling.specs.declared.Wish.{Wish}
-use Rattle.settling.specs.Columns.{Columns}
+use Rattle.settling.specs.Columns.{Columns, width, columnAt}
 use Rattle.settling.specs.Ideals.{into, wished, ideal}
 use Rattle.settling.specs.Moves.{vector}
-use Rattle.settling.specs.Seating.{goalWishes, idealAt, seatOne, Seated, seated, far, seat}
+use Rattle.settling.specs.Seating.{idealAt, gapAt, seatOne, seated, far, seat}
 use Rattle.settling.specs.Parts.{lt-or-ge}
 use Rattle.settling.specs.Sizes.{between, abs-less}
 use Rattle.settling.specs.Views.{vectors, rows-length, vectors-is, vectors-drop, vectors-at}
-use Rattle.settling.specs.Ready.{cols, Ready}
+use Rattle.settling.specs.Ready.{FitColumn, Ready}
 
-abbrev pub listed : List ℤ → List ℤ → List ℤ → Columns
-listed lo hi gs = record { count = length lo; lower = lo; upper = hi; goals = gs }
-
-abbrev pub gapAt : Columns → List ℤ → ℕ → ℤ
-gapAt C v c = idealAt (goalWishes C) C v c -ℤ entry c v
-
-abbrev pub seatByGoals : Columns → List ℤ → List ℤ → List ℤ
-seatByGoals C r v = seatOne (goalWishes C) C r v
-
-abbrev pub seatWhole : Basis → List ℤ → List ℤ → List ℤ → List ℤ → List ℤ → Seated
-seatWhole B lo hi gs l v = seat (goalWishes (cols B lo hi gs)) (cols B lo hi gs) (vectors B l) v
-
-abbrev pub isSeated : Seated → Bool
-isSeated (seated v) = true
-isSeated far = false
-
-abbrev pub valuesAfter : Seated → List ℤ → List ℤ
-valuesAfter (seated v) u = v
-valuesAfter far u = u
-
-pub record Placeable (v lo hi gs : List ℤ) : Type 0 where
-  pub lower-long : length lo ≡ length v
-  pub upper-long : length hi ≡ length v
-  pub goals-long : length gs ≡ length v
+pub record Placeable (v t : List ℤ) : Type 0 where
+  pub table-long : length t ≡ width * length v
   pub values-small : (j : ℕ) → natAbs (entry j v) ≤ M
-  pub lower-small : (j : ℕ) → natAbs (entry j lo) ≤ maxBound
-  pub upper-small : (j : ℕ) → natAbs (entry j hi) ≤ maxBound
-  pub goals-small : (j : ℕ) → natAbs (entry j gs) ≤ maxGoal
+  pub columns : (j : ℕ) → FitColumn (columnAt t j)
 
 pub record Addable (v r : List ℤ) : Type 0 where
   pub long : length r ≡ length v
@@ -81,8 +53,8 @@ pub record Led (r : List ℤ) : Type 0 where
   pub inside : lead r < length r
   pub above : pos 0 <ℤ entry (lead r) r
 
-pub record Seatable (B : Basis) (v lo hi gs l : List ℤ) : Type 0 where
-  pub ready : Ready B v lo hi gs l
+pub record Seatable (B : Basis) (v t l : List ℤ) : Type 0 where
+  pub ready : Ready B v t l
   pub led : (s : ℕ) → s < B .vectors → Led (vector (vectors B l) s)
 
 -- ---- sizes
@@ -139,10 +111,9 @@ quotient-small d (pos (suc p)) h = go (pos 2 *ℤ d +ℤ pos (suc p)) refl
 pub twice-above : (p : ℤ) → pos 0 <ℤ p → pos 0 <ℤ (pos 2 *ℤ p)
 twice-above p = rw (rep p) (simp diff-rel (omega arith))
 
-pub gap-small : (C : Columns) (v : List ℤ) (c : ℕ) → natAbs (entry c (C .lower)) ≤ maxBound → natAbs (entry c (C .upper)) ≤ maxBound → natAbs (entry c v) ≤ M
-    → natAbs (gapAt C v c) ≤ M + maxBound
-gap-small C v c a b h =
-    omega (arith, abs-less (idealAt (goalWishes C) C v c) (entry c v), ideal-small (entry c (C .lower)) (entry c (C .upper)) (goalWishes C c) (entry c v) a b)
+pub gap-small : (C : Columns) (v : List ℤ) (c : ℕ) → FitColumn (C .column c) → natAbs (entry c v) ≤ M → natAbs (gapAt C v c) ≤ M + maxBound
+gap-small C v c f h =
+    omega (arith, abs-less (idealAt C v c) (entry c v), ideal-small (C .column c .lower) (C .column c .upper) (C .column c .wish) (entry c v) (f .lower) (f .upper))
 
 pub product-small : (x q y : ℤ) → natAbs x ≤ M → natAbs q ≤ M + maxBound + 1 → natAbs y ≤ M
     → (natAbs (q *ℤ y) < 9223372036854775808) × (natAbs (x +ℤ q *ℤ y) < 9223372036854775808)
@@ -151,25 +122,25 @@ product-small x q y a b d =
     (omega arith, omega (arith, abs-add x (q *ℤ y)))
 
 -- ---- seating from vector s on
-module _ (w : ℕ → Wish) (C : Columns) (B : Basis) (l v : List ℤ) (s : ℕ) where
-  pub seat-end : B .vectors ≤ s → seat w C (drop s (vectors B l)) v ≡ seated v
+module _ (C : Columns) (B : Basis) (l v : List ℤ) (s : ℕ) where
+  pub seat-end : B .vectors ≤ s → seat C (drop s (vectors B l)) v ≡ seated v
   unfolding seat
-  seat-end h = ap (λ (N : List (List ℤ)). seat w C N v) (drop-of-length-le (vectors B l) {i = s} (omega (arith, rows-length (B .vectors) (B .columns) (B .stride) l)))
+  seat-end h = ap (λ (N : List (List ℤ)). seat C N v) (drop-of-length-le (vectors B l) {i = s} (omega (arith, rows-length (B .vectors) (B .columns) (B .stride) l)))
 
-  step : s < B .vectors → seat w C (drop s (vectors B l)) v ≡ seat w C (vector (vectors B l) s ∷ drop (suc s) (vectors B l)) v
-  step h = ap (λ (N : List (List ℤ)). seat w C N v) (vectors-drop B l s h)
+  step : s < B .vectors → seat C (drop s (vectors B l)) v ≡ seat C (vector (vectors B l) s ∷ drop (suc s) (vectors B l)) v
+  step h = ap (λ (N : List (List ℤ)). seat C N v) (vectors-drop B l s h)
 
-  pub seat-far : s < B .vectors → anyBeyond (seatOne w C (vector (vectors B l) s) v) ≡ true → seat w C (drop s (vectors B l)) v ≡ far
+  pub seat-far : s < B .vectors → anyBeyond (seatOne C (vector (vectors B l) s) v) ≡ true → seat C (drop s (vectors B l)) v ≡ far
   unfolding seat
-  seat-far h e = step h ∙ ap (λ (t : Bool). cond t far (seat w C (drop (suc s) (vectors B l)) (seatOne w C (vector (vectors B l) s) v))) e
+  seat-far h e = step h ∙ ap (λ (t : Bool). cond t far (seat C (drop (suc s) (vectors B l)) (seatOne C (vector (vectors B l) s) v))) e
 
   pub seat-on :
-      s < B .vectors → anyBeyond (seatOne w C (vector (vectors B l) s) v) ≡ false
-      → seat w C (drop s (vectors B l)) v ≡ seat w C (drop (s + 1) (vectors B l)) (seatOne w C (vector (vectors B l) s) v)
+      s < B .vectors → anyBeyond (seatOne C (vector (vectors B l) s) v) ≡ false
+      → seat C (drop s (vectors B l)) v ≡ seat C (drop (s + 1) (vectors B l)) (seatOne C (vector (vectors B l) s) v)
   unfolding seat
   seat-on h e =
-      step h ∙ ap (λ (t : Bool). cond t far (seat w C (drop (suc s) (vectors B l)) (seatOne w C (vector (vectors B l) s) v))) e
-      ∙ ap (λ (k : ℕ). seat w C (drop k (vectors B l)) (seatOne w C (vector (vectors B l) s) v)) (sym (add-one s))
+      step h ∙ ap (λ (t : Bool). cond t far (seat C (drop (suc s) (vectors B l)) (seatOne C (vector (vectors B l) s) v))) e
+      ∙ ap (λ (k : ℕ). seat C (drop k (vectors B l)) (seatOne C (vector (vectors B l) s) v)) (sym (add-one s))
 
 -- ---- a walk over a list
 module _ (r : List ℤ) (i : ℕ) where
@@ -199,22 +170,14 @@ none-beyond (x ∷ r) e j = go (beyond x) refl e j (none-beyond r)
     go false f g (suc j) ih = ih g j
 
 -- ---- the rows of a basis that can be seated
-module _ (B : Basis) (v lo hi gs l : List ℤ) (q : Seatable B v lo hi gs l) where
-  pub placeable : Placeable v lo hi gs
+module _ (B : Basis) (v t l : List ℤ) (q : Seatable B v t l) where
+  pub placeable : Placeable v t
   placeable =
       let r = q .ready in
-      record {
-        lower-long = r .lower-long ∙ sym (r .values-long);
-        upper-long = r .upper-long ∙ sym (r .values-long);
-        goals-long = r .goals-long ∙ sym (r .values-long);
-        values-small = r .values-small;
-        lower-small = r .lower-small;
-        upper-small = r .upper-small;
-        goals-small = r .goals-small;
-      }
+      record { table-long = r .table-long ∙ ap (λ (k : ℕ). width * k) (sym (r .values-long)); values-small = r .values-small; columns = r .columns }
 
   -- after an addition that left no value beyond ±M
-  pub still-seatable : (u : List ℤ) → length u ≡ length v → anyBeyond u ≡ false → Seatable B u lo hi gs l
+  pub still-seatable : (u : List ℤ) → length u ≡ length v → anyBeyond u ≡ false → Seatable B u t l
   still-seatable u h e =
       let r = q .ready in
       record {
@@ -222,14 +185,9 @@ module _ (B : Basis) (v lo hi gs l : List ℤ) (q : Seatable B v lo hi gs l) whe
           few = r .few;
           basis = r .basis;
           values-long = h ∙ r .values-long;
-          lower-long = r .lower-long;
-          upper-long = r .upper-long;
-          goals-long = r .goals-long;
           values-small = none-beyond u e;
-          lower-small = r .lower-small;
-          upper-small = r .upper-small;
-          goals-small = r .goals-small;
-          goal-above = r .goal-above;
+          table-long = r .table-long;
+          columns = r .columns;
         };
         led = q .led;
       }

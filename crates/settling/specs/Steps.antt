@@ -5,6 +5,8 @@
 --   ranking part C v   the columns in the order in which they are tried
 --   Step               the column and its move, or that no move improves (declared in src/)
 --   nextStep C N v     "A step takes the first column with an improving move, and its first such move, once."
+--   Turn               a step with the part that it belongs to (declared in src/)
+--   turnOf C N v       the next one
 -- Assumes nothing.
 use mathlib.Core.Bool.{Bool, true, false, not, cond, _&&_, _||_}
 use mathlib.Core.List.{List, [], _∷_}
@@ -12,21 +14,22 @@ use Prim.Native.Nat.{ℕ, zero, suc}
 use lib.Dec.{ltb, eqb}
 use lib.IntN.{ℤ}
 use lib.ListN.{length}
-use Rattle.whole.specs.Lists.{entry}
 use Rattle.whole.specs.Tests.{isZero, every}
 use Rattle.problem.specs.Limits.{beyond}
+use Rattle.settling.specs.declared.Cell.{Cell}
 use Rattle.settling.specs.declared.Move.{Move}
 use Rattle.settling.specs.declared.Measure.{Measure}
 use Rattle.settling.specs.declared.Part.{Part}
 use Rattle.settling.specs.declared.Part.the-variants.{Bounds, Goals}
 use Rattle.settling.specs.declared.Step.{Step}
 use Rattle.settling.specs.declared.Step.the-variants.{Rest, Take}
-use Rattle.settling.specs.Columns.{Columns}
+use Rattle.settling.specs.declared.Turn.{Turn}
+use Rattle.settling.specs.Columns.{Columns, cell}
 use Rattle.settling.specs.Moves.{moves, change, changes, moved}
 use Rattle.settling.specs.Measures.{below, distance, measure}
 
 abbrev pub inBounds : Columns → List ℤ → Bool
-inBounds C v = every (C .count) (λ j. eqb (distance (entry j (C .lower)) (entry j (C .upper)) (entry j v)) 0)
+inBounds C v = every (C .count) (λ j. eqb (distance (cell C v j)) 0)
 
 abbrev pub partIf : Bool → Part
 partIf true = Goals
@@ -35,36 +38,36 @@ partIf false = Bounds
 abbrev pub partOf : Columns → List ℤ → Part
 partOf C v = partIf (inBounds C v)
 
--- ---- one column with the bounds lo and hi, the goal g and the value x
+-- ---- one column
 
 -- which columns are tried: "Columns with a distance above 0", "Columns with a goal"
-unfoldable pub isRanked : Part → ℤ → ℤ → ℤ → ℤ → Bool
-isRanked Bounds lo hi g x = ltb 0 (distance lo hi x)
-isRanked Goals lo hi g x = not (isZero g)
+unfoldable pub isRanked : Part → Cell → Bool
+isRanked Bounds c = ltb 0 (distance c)
+isRanked Goals c = not (isZero (c .low))
 
 -- which changed columns a move has to bring below the old measure: "every column it changes", "every changed column with a goal"
-abbrev pub isCompared : Part → ℤ → Bool
-isCompared Bounds g = true
-isCompared Goals g = not (isZero g)
+abbrev pub isCompared : Part → Cell → Bool
+isCompared Bounds c = true
+isCompared Goals c = not (isZero (c .low))
 
 -- which values a move may leave in any column: "every value lies within ±M", "all values are then in bounds"
-abbrev pub isAllowed : Part → ℤ → ℤ → ℤ → Bool
-isAllowed Bounds lo hi y = not (beyond y)
-isAllowed Goals lo hi y = eqb (distance lo hi y) 0
+abbrev pub isAllowed : Part → Cell → Bool
+isAllowed Bounds c = not (beyond (c .value))
+isAllowed Goals c = eqb (distance c) 0
 
--- a move adds e to a column, which is then y, where it has to come below q
-unfoldable pub passes : Part → ℤ → ℤ → ℤ → ℤ → ℤ → Measure → Bool
-passes p lo hi g y e q = isAllowed p lo hi y && (not (not (isZero e) && isCompared p g) || below (measure p lo hi g y) q)
+-- a move adds e to a column, which is then c, where it has to come below q
+unfoldable pub passes : Part → Cell → ℤ → Measure → Bool
+passes p c e q = isAllowed p c && (not (not (isZero e) && isCompared p c) || below (measure p c) q)
 
 -- ---- the column j of a problem
 abbrev pub measureAt : Part → Columns → List ℤ → ℕ → Measure
-measureAt p C v j = measure p (entry j (C .lower)) (entry j (C .upper)) (entry j (C .goals)) (entry j v)
+measureAt p C v j = measure p (cell C v j)
 
 abbrev pub rankedAt : Part → Columns → List ℤ → ℕ → Bool
-rankedAt p C v j = isRanked p (entry j (C .lower)) (entry j (C .upper)) (entry j (C .goals)) (entry j v)
+rankedAt p C v j = isRanked p (cell C v j)
 
 abbrev pub passesAt : Part → Columns → List (List ℤ) → List ℤ → Move → Measure → ℕ → Bool
-passesAt p C N v o q j = passes p (entry j (C .lower)) (entry j (C .upper)) (entry j (C .goals)) (entry j (moved N o v)) (change N o j) q
+passesAt p C N v o q j = passes p (cell C (moved N o v) j) (change N o j) q
 
 -- "A move improves column i if it changes i", and every column passes against i's old measure
 unfoldable pub improves : Part → Columns → List (List ℤ) → List ℤ → Move → ℕ → Bool
@@ -110,3 +113,7 @@ stepOf p C N v = firstColumn (stepAt p C N v) (ranking p C v)
 
 unfoldable pub nextStep : Columns → List (List ℤ) → List ℤ → Step
 nextStep C N v = stepOf (partOf C v) C N v
+
+-- the part that is reached, and its step
+abbrev pub turnOf : Columns → List (List ℤ) → List ℤ → Turn
+turnOf C N v = record { part = partOf C v; step = nextStep C N v }

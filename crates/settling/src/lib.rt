@@ -6,6 +6,7 @@ ghost use Rattle.settling.specs.Ideals.{goalIdeal, goalWish, into};
 ghost use Rattle.settling.specs.Ideals as Ideals;
 use whole::magnitude;
 
+pub mod columns;
 pub mod measures;
 pub mod moves;
 pub mod seating;
@@ -38,11 +39,12 @@ pub struct Basis {
     pub stride: usize,
 }
 
-// What settling knows of one column.
+// What settling knows of one column: its bounds, its goals and its value.
 pub struct Cell {
     pub lower: i64,
     pub upper: i64,
-    pub goal: i64,
+    pub low: i64,
+    pub high: i64,
     pub value: i64,
 }
 
@@ -56,6 +58,12 @@ pub struct Measure {
 pub enum Step {
     Rest,
     Take(usize, Move),
+}
+
+// A step, and the part that it belongs to.
+pub struct Turn {
+    pub part: Part,
+    pub step: Step,
 }
 
 // The ideal count of intervals for a goal in thousandths of one. The limit on goals keeps both products below 2^60.

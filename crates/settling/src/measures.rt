@@ -5,8 +5,9 @@ ghost use Rattle.whole.specs.Tests.{isZero};
 ghost use Rattle.problem.specs.Limits.{maxBound, maxGoal};
 ghost use Rattle.settling.specs.declared.Part.the-variants.{Bounds};
 ghost use Rattle.settling.specs.Measures as Measures;
-ghost use Rattle.settling.specs.Steps.{isCompared};
-ghost use Rattle.settling.specs.Sizes.{Near, Sized, Room, distanceOf, measureOf, isRankedOf, isAllowedOf, passesOf};
+ghost use Rattle.settling.specs.Steps.{isRanked, isAllowed, isCompared};
+ghost use Rattle.settling.specs.Steps as Steps;
+ghost use Rattle.settling.specs.Sizes.{Near, Sized, Room};
 use crate::Cell;
 use crate::Measure;
 use crate::Part;
@@ -32,7 +33,7 @@ fn gap(a: i64, b: i64) -> u64
 // How far a column lies outside its bounds.
 pub fn distance(c: Cell) -> u64
     requires { ⌜ Sized Bounds c ⌝ }
-    ensures { λ r. ⌜ r ≡ distanceOf c ⌝ }
+    ensures { λ r. ⌜ r ≡ Measures.distance c ⌝ }
 {
     if less(c.value, c.lower) {
         return gap(c.lower, c.value);
@@ -70,32 +71,32 @@ fn ratio(low: u64, high: u64, v: u64) -> Measure
 // A column's distance, over 1, or its ratio.
 pub fn measure(part: Part, c: Cell) -> Measure
     requires { ⌜ Sized part c ⌝ }
-    ensures { λ r. ⌜ r ≡ measureOf part c ⌝ }
+    ensures { λ r. ⌜ r ≡ Measures.measure part c ⌝ }
 {
     match part {
         Part::Bounds => Measure {
             top: distance(c),
             bottom: 1,
         },
-        Part::Goals => ratio(magnitude(c.goal), magnitude(c.goal), magnitude(c.value)),
+        Part::Goals => ratio(magnitude(c.low), magnitude(c.high), magnitude(c.value)),
     }
 }
 
 // Whether a column is tried.
 pub fn is_ranked(part: Part, c: Cell) -> bool
     requires { ⌜ Sized Bounds c ⌝ }
-    ensures { λ r. ⌜ r ≡ isRankedOf part c ⌝ }
+    ensures { λ r. ⌜ r ≡ isRanked part c ⌝ }
 {
     match part {
         Part::Bounds => 0 < distance(c),
-        Part::Goals => !is_zero(c.goal),
+        Part::Goals => !is_zero(c.low),
     }
 }
 
 // Whether a move may leave the column's value.
 fn is_allowed(part: Part, c: Cell) -> bool
     requires { ⌜ Sized Bounds c ⌝ }
-    ensures { λ r. ⌜ r ≡ isAllowedOf part c ⌝ }
+    ensures { λ r. ⌜ r ≡ isAllowed part c ⌝ }
 {
     match part {
         Part::Bounds => magnitude(c.value) <= Problem::MAX_NUMBER,
@@ -104,19 +105,20 @@ fn is_allowed(part: Part, c: Cell) -> bool
 }
 
 // Whether a move has to bring the column below the old measure, if it changes it.
-fn is_compared(part: Part, goal: i64) -> bool
-    ensures { λ r. ⌜ r ≡ isCompared part goal ⌝ }
+fn is_compared(part: Part, c: Cell) -> bool
+    requires { ⌜ Sized Bounds c ⌝ }
+    ensures { λ r. ⌜ r ≡ isCompared part c ⌝ }
 {
     match part {
         Part::Bounds => true,
-        Part::Goals => !is_zero(goal),
+        Part::Goals => !is_zero(c.low),
     }
 }
 
 // Whether a column passes under a move that adds `change` to it, after which it is c, where it has to come below q.
 pub fn passes(part: Part, c: Cell, change: i64, q: Measure) -> bool
     requires { ⌜ Sized Bounds c × Room q ⌝ }
-    ensures { λ r. ⌜ r ≡ passesOf part c change q ⌝ }
+    ensures { λ r. ⌜ r ≡ Steps.passes part c change q ⌝ }
 {
     if !is_allowed(part, c) {
         return false;
@@ -124,7 +126,7 @@ pub fn passes(part: Part, c: Cell, change: i64, q: Measure) -> bool
     if is_zero(change) {
         return true;
     }
-    if !is_compared(part, c.goal) {
+    if !is_compared(part, c) {
         return true;
     }
     below(measure(part, c), q)

@@ -7,13 +7,14 @@ ghost use lib.Signed.{_<ℤ_};
 ghost use Rattle.whole.specs.Quotient.{nearestQuotient};
 ghost use Rattle.lattice.specs.Rows.{plus};
 ghost use Rattle.problem.specs.Limits.{M, maxBound, anyBeyond};
-ghost use Rattle.settling.specs.Ready.{cols};
-ghost use Rattle.settling.specs.Seating.{seated, far, goalWishes};
+ghost use Rattle.settling.specs.Columns.{columnsIn};
+ghost use Rattle.settling.specs.Seating.{gapAt, seatOne, seated, far, seatDone, leaves};
 ghost use Rattle.settling.specs.Seating as Seating;
-ghost use Rattle.settling.specs.Seats.{listed, gapAt, seatByGoals, seatWhole, isSeated, valuesAfter, Addable, Placeable, Led, Seatable};
+ghost use Rattle.settling.specs.Seats.{Addable, Placeable, Led, Seatable};
 ghost use Rattle.settling.specs.Views.{vectors};
 use crate::Basis;
-use crate::goal_wish;
+use crate::columns::cell_at;
+use crate::columns::wish_at;
 use crate::ideal;
 use lattice::copy;
 use lattice::lead;
@@ -65,36 +66,31 @@ fn any_beyond(values: &[i64]) -> bool
 }
 
 // The ideal of column c less the present value there.
-fn gap_at(values: &[i64], lower: &[i64], upper: &[i64], goals: &[i64], c: usize) -> i64
-    requires { ⌜ Placeable (now values) (now lower) (now upper) (now goals) × (c < length (now values)) ⌝ }
-    ensures { λ r. ⌜ r ≡ gapAt (listed (now (lower .entry)) (now (upper .entry)) (now (goals .entry))) (now (values .entry)) c ⌝ }
+fn gap_at(values: &[i64], columns: &[i64], c: usize) -> i64
+    requires { ⌜ Placeable (now values) (now columns) × (c < length (now values)) ⌝ }
+    ensures { λ r. ⌜ r ≡ gapAt (columnsIn (length (now (values .entry))) (now (columns .entry))) (now (values .entry)) c ⌝ }
 {
-    let x = values[c];
-    ideal(lower[c], upper[c], goal_wish(goals[c]), x) - x
+    let cell = cell_at(columns, values, c);
+    let x = cell.value;
+    ideal(cell.lower, cell.upper, wish_at(columns, c), x) - x
 }
 
 // Adds a row so often that its lead column comes nearest to its ideal.
-fn seat_one(values: &mut [i64], lower: &[i64], upper: &[i64], goals: &[i64], row: &[i64])
-    requires { ⌜ Placeable (now values) (now lower) (now upper) (now goals) × Addable (now values) (now row) × Led (now row) ⌝ }
-    ensures { λ _. ⌜ now (values .exit) ≡ seatByGoals (listed (now (lower .entry)) (now (upper .entry)) (now (goals .entry))) (now (row .entry)) (now (values .entry)) ⌝ }
+fn seat_one(values: &mut [i64], columns: &[i64], row: &[i64])
+    requires { ⌜ Placeable (now values) (now columns) × Addable (now values) (now row) × Led (now row) ⌝ }
+    ensures { λ _. ⌜ now (values .exit) ≡ seatOne (columnsIn (length (now (values .entry))) (now (columns .entry))) (now (row .entry)) (now (values .entry)) ⌝ }
 {
     let c = lead(row);
-    let d = gap_at(values, lower, upper, goals, c);
+    let d = gap_at(values, columns, c);
     let q = nearest_quotient(d, row[c]);
     add_row(values, row, q);
 }
 
 // Seats the values, vector by vector; false as soon as one lies beyond ±M.
-fn seat_all(
-    values: &mut [i64],
-    lower: &[i64],
-    upper: &[i64],
-    goals: &[i64],
-    basis: &[i64],
-    view: Basis,
-) -> bool
-    requires { ⌜ Seatable view (now values) (now lower) (now upper) (now goals) (now basis) ⌝ }
-    ensures { λ r. ⌜ cond r (seated (now (values .exit))) far ≡ seatWhole view (now (lower .entry)) (now (upper .entry)) (now (goals .entry)) (now (basis .entry)) (now (values .entry)) ⌝ }
+fn seat_all(values: &mut [i64], columns: &[i64], basis: &[i64], view: Basis) -> bool
+    requires { ⌜ Seatable view (now values) (now columns) (now basis) ⌝ }
+    ensures { λ r. ⌜ cond r (seated (now (values .exit))) far
+        ≡ Seating.seat (columnsIn (view .columns) (now (columns .entry))) (vectors view (now (basis .entry))) (now (values .entry)) ⌝ }
 {
     let r = view.vectors;
     let n = view.columns;
@@ -103,7 +99,7 @@ fn seat_all(
     while s < r {
         let at = s * w;
         let end = at + n;
-        seat_one(values, lower, upper, goals, &basis[at..end]);
+        seat_one(values, columns, &basis[at..end]);
         if any_beyond(values) {
             return false;
         }
@@ -113,22 +109,15 @@ fn seat_all(
 }
 
 // Seats the values; false, and the values as they were, where one comes to lie beyond ±M. They are seated in a copy.
-pub fn seat(
-    values: &mut [i64],
-    lower: &[i64],
-    upper: &[i64],
-    goals: &[i64],
-    basis: &[i64],
-    view: Basis,
-) -> bool
-    requires { ⌜ Seatable view (now values) (now lower) (now upper) (now goals) (now basis) ⌝ }
-    ensures { λ r. ⌜ r ≡ isSeated (Seating.seat (goalWishes (cols view (now (lower .entry)) (now (upper .entry)) (now (goals .entry)))) (cols view (now (lower .entry)) (now (upper .entry)) (now (goals .entry))) (vectors view (now (basis .entry))) (now (values .entry))) ⌝ }
-    ensures { λ _. ⌜ now (values .exit) ≡ valuesAfter (Seating.seat (goalWishes (cols view (now (lower .entry)) (now (upper .entry)) (now (goals .entry)))) (cols view (now (lower .entry)) (now (upper .entry)) (now (goals .entry))) (vectors view (now (basis .entry))) (now (values .entry))) (now (values .entry)) ⌝ }
+pub fn seat(values: &mut [i64], columns: &[i64], basis: &[i64], view: Basis) -> bool
+    requires { ⌜ Seatable view (now values) (now columns) (now basis) ⌝ }
+    ensures { λ r. ⌜ seatDone r (now (values .exit))
+        ≡ leaves (Seating.seat (columnsIn (view .columns) (now (columns .entry))) (vectors view (now (basis .entry))) (now (values .entry))) (now (values .entry)) ⌝ }
 {
     let mut held = [0i64; Problem::MAX_COLUMNS];
     let n = view.columns;
     copy(&mut held[..n], values);
-    if !seat_all(&mut held[..n], lower, upper, goals, basis, view) {
+    if !seat_all(&mut held[..n], columns, basis, view) {
         return false;
     }
     copy(values, &held[..n]);

@@ -1,14 +1,19 @@
 -- Laws of the listing program: the parts of buffers of the largest size, and what a text comes to by what the reader returns.
+--   clear n          n numbers that are 0, and clearStrides for strides; shut, since a long list of them is written out wherever it is open
 --   few-cells, few-tableau   a problem within the limits has its coefficients and its tableau within the largest buffers
---   listed-into      an assignment's lists are of one length, so that its listing is put into the buffer
+--   put-back, part-back      a part that was lent is again the part of its buffer
+--   listed-into      the parts of clear buffers are blank, and an assignment's lists are of one length, so that its listing is put into the buffer
+--   refused-headline         a refusal lists no column
+--   largest, largest-fit     the buffers that the reader is lent, which have the lengths that it asks for
 --   refused-into     a text that is turned back
 --   Taken, taken     a text that is accepted, with what the reader's buffers hold
 --   few-columns, few-rows    it is within the limits: its bounds and its right sides fit into buffers of that length
---   accepted-into    the parts that n and m need are the problem, in blank buffers
+--   problemPart n m ..       the parts of the largest buffers that a problem of n columns and m rows needs
+--   accepted-into    these parts are the text's problem
 -- Assumes nothing.
 use mathlib.Core.Path.{_≡_, refl, sym, ap, _∙_}
 use mathlib.Core.Bool.{true}
-use mathlib.Core.List.{List, _∷_, map}
+use mathlib.Core.List.{List, [], _∷_, _++_, map}
 use Prim.Native.Nat.{ℕ, zero, suc, _+_, _-_, _*_, _≤_}
 use native.Mathlib.Nat.{mul-le-mul}
 use native.Mathlib.Omega.{arith}
@@ -17,23 +22,31 @@ use lib.IntN.{ℤ, pos}
 use lib.ListN.{length, take, replicate, length-append, length-map}
 use lib.Seq.{take-at}
 use Rattle.whole.specs.Lists.{zeros}
-use Rattle.text.specs.declared.Token.{Token}
 use Rattle.problem.specs.Checks.{Posed}
 use Rattle.problem.specs.declared.Refusal.{Refusal}
 use Rattle.problem.specs.declared.Refusal.the-variants.{Size}
 use Rattle.problem.specs.declared.Answer.{Answer}
 use Rattle.problem.specs.declared.Answer.the-variants.{Refused}
-use Rattle.deck.specs.Rules.{Outcome, ok, no}
-use Rattle.deck.specs.Sections.{deckColumns, deckRows, Deck, readDeck}
-use Rattle.deck.specs.Columns.{columnsOf, coefficientRows, lowerOf, upperOf, goalOf, rightOf, posed}
-use Rattle.deck.specs.Reader.{DeckBuffers, ReadDone, deckBuffers, lengthsFit, padded, onDeck, read}
+use Rattle.sections.specs.Rules.{Outcome, ok, no}
+use Rattle.sections.specs.Sections.{deckColumns, deckRows}
+use Rattle.sections.specs.Columns.{coefficientRows, lowerOf, upperOf, goalOf, rightOf, padded}
+use Rattle.deck.specs.Posing.{Deck, readDeck, columnsOf, posed}
+use Rattle.deck.specs.Reader.{DeckBuffers, ReadDone, deckBuffers, readDone, lengthsFit, onDeck, read}
 use Rattle.deck.specs.declared.Reading.{Reading}
 use Rattle.deck.specs.declared.Reading.the-variants.{Read, Refused as TurnedBack}
-use Rattle.deck.proofs.Storage.{length-rows}
-use Rattle.engine.specs.Assign.{Buffers, buffers, assign, posed as call}
+use Rattle.sections.proofs.Storage.{length-rows}
+use Rattle.engine.specs.Assign.{Buffers, Done, buffers, done, n, m, assign, posed as call}
 use Rattle.report.specs.Listing.{listing, linesOf, placedIn, writeListing}
-use Rattle.solve.specs.Program.{programLimit, blank, printed, printInto, listInto}
-use Rattle.solve.specs.Room.{tableauSize, clear, clearStrides, Largest, Clear, problemOf}
+use Rattle.solve.specs.Program.{programLimit, blank, listed, printed, printInto, listInto}
+
+abbrev tableauSize : ℕ
+tableauSize = deckColumns * (deckRows + deckColumns)
+
+unfoldable pub clear : ℕ → List ℤ
+clear n = zeros n
+
+unfoldable pub clearStrides : ℕ → List ℕ
+clearStrides n = replicate n 0
 
 -- ---- lengths
 pub few-cells : (n m : ℕ) → n ≤ deckColumns → m ≤ deckRows → m * n ≤ deckRows * deckColumns
@@ -41,10 +54,6 @@ few-cells n m h k = mul-le-mul k h
 
 pub few-tableau : (n m : ℕ) → n ≤ deckColumns → m ≤ deckRows → n * (m + n) ≤ tableauSize
 few-tableau n m h k = let s : m + n ≤ deckRows + deckColumns = omega arith in mul-le-mul h s
-
-pub fits : {c b l u g t v : List ℤ} {d : List ℕ} → Largest c b l u g t v d → lengthsFit (deckBuffers c b l u g) ≡ true
-fits {c} {b} {l} {u} {g} {t} {v} {d} z =
-    rw (eq-eqb (length c) (deckRows * deckColumns) (z .coefficients), eq-eqb (length b) deckRows (z .rights), eq-eqb (length l) deckColumns (z .lower), eq-eqb (length u) deckColumns (z .upper), eq-eqb (length g) deckColumns (z .goals))
 
 -- ---- parts
 take-replicate : {A : Type 0} (k n : ℕ) (a : A) → k ≤ n → take k (replicate n a) ≡ replicate k a
@@ -66,17 +75,47 @@ part-is size k u l e h = ap (take k) e ∙ take-at u (zeros (size - length u)) k
 within : (size k : ℕ) (u l : List ℤ) → l ≡ padded size u → k ≡ length u → length l ≡ size → k ≤ size
 within size k u l e h q = let a = ap length e ∙ length-append u (zeros (size - length u)) in omega arith
 
+pub put-back : {A : Type 0} (n : ℕ) (u r : List A) → length u ≡ n → n ≤ length (u ++ r)
+put-back n u r e = let a = length-append u r in omega arith
+
+pub part-back : {A : Type 0} (n : ℕ) (u r : List A) → length u ≡ n → take n (u ++ r) ≡ u
+part-back n u r e = take-at u r n e
+
 -- ---- an assignment's listing
 pub write-even : (o : List ℕ) (a : Answer) (v : List ℤ) (d : List ℕ) → length v ≡ length d → writeListing o a v d ≡ placedIn o (listing a v d)
 unfolding writeListing
 write-even o a v d h = rw (eq-eqb (linesOf a (length d)) (linesOf a (length v)) (ap (linesOf a) (sym h)))
 
-pub listed-into : (o : List ℕ) (P : Posed) (B : Buffers) (a : Answer) (v : List ℤ) (d : List ℕ) → a ≡ assign P B .answer → v ≡ assign P B .values
-    → d ≡ assign P B .strides → length v ≡ length d → writeListing o a v d ≡ listInto o P B
+-- the parts of clear buffers that a problem needs
+abbrev pub cleared : Posed → Buffers
+cleared P = buffers (take (n P * (m P + n P)) (clear tableauSize)) (take (n P) (clear deckColumns)) (take (n P) (clearStrides deckColumns))
+
+cleared-blank : (P : Posed) → n P ≤ deckColumns → m P ≤ deckRows → cleared P ≡ blank P
+cleared-blank P h k =
+    let pt = take-clear (n P * (m P + n P)) tableauSize _ refl (few-tableau (n P) (m P) h k) in
+    let pv = take-clear (n P) deckColumns _ refl h in
+    let pd = take-strides (n P) deckColumns _ refl h in
+    λ i. buffers (pt i) (pv i) (pd i)
+
+pub listed-into : (o : List ℕ) (P : Posed) (a : Answer) (t v : List ℤ) (d : List ℕ) → n P ≤ deckColumns → m P ≤ deckRows → done a t v d ≡ assign P (cleared P)
+    → length v ≡ length d → writeListing o a v d ≡ listInto o P
 unfolding listInto
-listed-into o P B a v d p q r h = write-even o a v d h ∙ (λ i. placedIn o (listing (p i) (q i) (r i)))
+listed-into o P a t v d h k e l = write-even o a v d l ∙ ap (λ (x : Done). placedIn o (listed x)) (e ∙ ap (assign P) (cleared-blank P h k))
+
+pub refused-headline : (o : List ℕ) (why : Refusal) (v : List ℤ) (d : List ℕ) → length v ≡ length d
+    → writeListing o (Refused why) v d ≡ placedIn o (listing (Refused why) [] [])
+unfolding listing
+refused-headline o why v d l = write-even o (Refused why) v d l
 
 -- ---- a text, by what the reader returns
+-- the buffers that it is lent
+abbrev pub largest : DeckBuffers
+largest = deckBuffers (clear (deckRows * deckColumns)) (clear deckRows) (clear deckColumns) (clear deckColumns) (clear deckColumns)
+
+pub largest-fit : lengthsFit largest ≡ true
+unfolding clear
+largest-fit = refl
+
 read-fit : (s : List ℕ) (B : DeckBuffers) → lengthsFit B ≡ true → read s B ≡ onDeck (readDeck s) B
 unfolding read
 read-fit s B f = rw f
@@ -100,20 +139,20 @@ rowsRead (TurnedBack why) = 0
 never : {A : Type 0} → _≡_ {A = ℕ} 0 1 → A
 never e = absurd (omega arith)
 
-pub refused-into : (o s : List ℕ) (B : DeckBuffers) (why : Refusal) (v : List ℤ) (d : List ℕ) → length v ≡ length d → lengthsFit B ≡ true
-    → TurnedBack why ≡ read s B .reading → writeListing o (Refused why) v d ≡ printInto o s
-unfolding printInto printed listing
-refused-into o s B why v d k f e = by (readDeck s) refl
+pub refused-into : (o s : List ℕ) (B D : DeckBuffers) (why : Refusal) → lengthsFit B ≡ true → readDone (TurnedBack why) D ≡ read s B
+    → placedIn o (listing (Refused why) [] []) ≡ printInto o s
+unfolding printInto printed
+refused-into o s B D why f e = by (readDeck s) refl
   where
-    by : (x : Outcome Deck) → readDeck s ≡ x → writeListing o (Refused why) v d ≡ printInto o s
-    by (ok d ts) h = never (ap isRead (e ∙ ap (λ (D : ReadDone). D .reading) (read-fit s B f) ∙ ap (λ (x : Outcome Deck). onDeck x B .reading) h))
+    by : (x : Outcome Deck) → readDeck s ≡ x → placedIn o (listing (Refused why) [] []) ≡ printInto o s
+    by (ok d ts) h = never (ap (λ (x : ReadDone). isRead (x .reading)) (e ∙ read-fit s B f ∙ ap (λ (x : Outcome Deck). onDeck x B) h))
     by (no w) h =
-        let q : why ≡ w = ap reason (e ∙ ap (λ (D : ReadDone). D .reading) (read-fit s B f) ∙ ap (λ (x : Outcome Deck). onDeck x B .reading) h) in
-        rw (h, ← q) (write-even o (Refused why) v d k)
+        let q : why ≡ w = ap (λ (x : ReadDone). reason (x .reading)) (e ∙ read-fit s B f ∙ ap (λ (x : Outcome Deck). onDeck x B) h) in
+        rw (h, ← q) refl
 
 pub record Taken (s : List ℕ) (n m : ℕ) (c b l u g : List ℤ) : Type 0 where
   pub deck : Deck
-  pub rest : List Token
+  pub rest : ℕ
   pub is : readDeck s ≡ ok deck rest
   pub columns : n ≡ length (columnsOf deck)
   pub rows : m ≡ length (deck .lines)
@@ -123,29 +162,31 @@ pub record Taken (s : List ℕ) (n m : ℕ) (c b l u g : List ℤ) : Type 0 wher
   pub upper : u ≡ padded deckColumns (map upperOf (columnsOf deck))
   pub goals : g ≡ padded deckColumns (map goalOf (columnsOf deck))
 
-pub taken : (s : List ℕ) (B : DeckBuffers) (n m : ℕ) (c b l u g : List ℤ) → lengthsFit B ≡ true → Read n m ≡ read s B .reading
-    → c ≡ read s B .buffers .coefficients → b ≡ read s B .buffers .rights → l ≡ read s B .buffers .lower → u ≡ read s B .buffers .upper
-    → g ≡ read s B .buffers .goals → Taken s n m c b l u g
+pub taken : (s : List ℕ) (B : DeckBuffers) (n m : ℕ) (c b l u g : List ℤ) → lengthsFit B ≡ true → readDone (Read n m) (deckBuffers c b l u g) ≡ read s B
+    → Taken s n m c b l u g
 unfolding posed
-taken s B n m c b l u g f e ec eb el eu eg = by (readDeck s) refl
+taken s B n m c b l u g f e = by (readDeck s) refl
   where
     by : (x : Outcome Deck) → readDeck s ≡ x → Taken s n m c b l u g
     by (ok d ts) h =
-        let D : read s B ≡ onDeck (ok d ts) B = read-fit s B f ∙ ap (λ (x : Outcome Deck). onDeck x B) h in
-        let r = e ∙ ap (λ (x : ReadDone). x .reading) D in
+        let D : readDone (Read n m) (deckBuffers c b l u g) ≡ onDeck (ok d ts) B = e ∙ read-fit s B f ∙ ap (λ (x : Outcome Deck). onDeck x B) h in
         record {
           deck = d;
           rest = ts;
           is = h;
-          columns = ap columnsRead r;
-          rows = ap rowsRead r;
-          coefficients = ec ∙ ap (λ (x : ReadDone). x .buffers .coefficients) D;
-          rights = eb ∙ ap (λ (x : ReadDone). x .buffers .rights) D;
-          lower = el ∙ ap (λ (x : ReadDone). x .buffers .lower) D;
-          upper = eu ∙ ap (λ (x : ReadDone). x .buffers .upper) D;
-          goals = eg ∙ ap (λ (x : ReadDone). x .buffers .goals) D;
+          columns = ap (λ (x : ReadDone). columnsRead (x .reading)) D;
+          rows = ap (λ (x : ReadDone). rowsRead (x .reading)) D;
+          coefficients = ap (λ (x : ReadDone). x .buffers .coefficients) D;
+          rights = ap (λ (x : ReadDone). x .buffers .rights) D;
+          lower = ap (λ (x : ReadDone). x .buffers .lower) D;
+          upper = ap (λ (x : ReadDone). x .buffers .upper) D;
+          goals = ap (λ (x : ReadDone). x .buffers .goals) D;
         }
-    by (no w) h = never (sym (ap isRead (e ∙ ap (λ (D : ReadDone). D .reading) (read-fit s B f) ∙ ap (λ (x : Outcome Deck). onDeck x B .reading) h)))
+    by (no w) h = never (sym (ap (λ (x : ReadDone). isRead (x .reading)) (e ∙ read-fit s B f ∙ ap (λ (x : Outcome Deck). onDeck x B) h)))
+
+abbrev pub problemPart : ℕ → ℕ → List ℤ → List ℤ → List ℤ → List ℤ → List ℤ → Posed
+problemPart n m c b l u g =
+    call (record { columns = n; rows = m; limit = programLimit }) (take (m * n) c) (take m b) (take n l) (take n u) (take n g)
 
 module _ {s : List ℕ} {n m : ℕ} {c b l u g : List ℤ} (T : Taken s n m c b l u g) where
   pub few-columns : length l ≡ deckColumns → n ≤ deckColumns
@@ -157,7 +198,7 @@ module _ {s : List ℕ} {n m : ℕ} {c b l u g : List ℤ} (T : Taken s n m c b 
   cells : m * n ≡ length (coefficientRows (length (columnsOf (T .deck))) (length (T .deck .intervals)) (T .deck .lines))
   cells = (λ i. T .rows i * T .columns i) ∙ sym (length-rows (length (columnsOf (T .deck))) (length (T .deck .intervals)) (T .deck .lines))
 
-  posed-is : call (problemOf n m) (take (m * n) c) (take m b) (take n l) (take n u) (take n g) ≡ posed programLimit (T .deck)
+  posed-is : problemPart n m c b l u g ≡ posed programLimit (T .deck)
   unfolding posed
   posed-is =
       let pc = part-is (deckRows * deckColumns) (m * n) _ c (T .coefficients) cells in
@@ -165,22 +206,10 @@ module _ {s : List ℕ} {n m : ℕ} {c b l u g : List ℤ} (T : Taken s n m c b 
       let pl = part-is deckColumns n _ l (T .lower) (T .columns ∙ sym (length-map (columnsOf (T .deck)) lowerOf)) in
       let pu = part-is deckColumns n _ u (T .upper) (T .columns ∙ sym (length-map (columnsOf (T .deck)) upperOf)) in
       let pg = part-is deckColumns n _ g (T .goals) (T .columns ∙ sym (length-map (columnsOf (T .deck)) goalOf)) in
-      λ i. call (problemOf (T .columns i) (T .rows i)) (pc i) (pb i) (pl i) (pu i) (pg i)
+      λ i. call (record { columns = T .columns i; rows = T .rows i; limit = programLimit }) (pc i) (pb i) (pl i) (pu i) (pg i)
 
-  blank-is : {t v : List ℤ} {d : List ℕ} → Clear t v d → n ≤ deckColumns → m ≤ deckRows
-      → buffers (take (n * (m + n)) t) (take n v) (take n d) ≡ blank (posed programLimit (T .deck))
-  unfolding posed
-  blank-is {t} {v} {d} z h k =
-      let pt = take-clear (n * (m + n)) tableauSize t (z .tableau) (few-tableau n m h k) ∙ (λ i. zeros (T .columns i * (T .rows i + T .columns i))) in
-      let pv = take-clear n deckColumns v (z .values) h ∙ (λ i. zeros (T .columns i)) in
-      let pd = take-strides n deckColumns d (z .strides) h ∙ (λ i. replicate (T .columns i) 0) in
-      λ i. buffers (pt i) (pv i) (pd i)
-
-  pub accepted-into : (o : List ℕ) {t v : List ℤ} {d : List ℕ} → Clear t v d → n ≤ deckColumns → m ≤ deckRows
-      → listInto o (call (problemOf n m) (take (m * n) c) (take m b) (take n l) (take n u) (take n g)) (buffers (take (n * (m + n)) t) (take n v) (take n d))
-      ≡ printInto o s
+  pub accepted-into : (o : List ℕ) → listInto o (problemPart n m c b l u g) ≡ printInto o s
   unfolding listInto printInto printed
-  accepted-into o z h k =
+  accepted-into o =
       let p = posed-is in
-      let q = blank-is z h k in
-      rw (T .is) (λ i. listInto o (p i) (q i))
+      rw (T .is) (λ i. listInto o (p i))

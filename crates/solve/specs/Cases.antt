@@ -13,10 +13,10 @@ use Rattle.whole.specs.Tests.{every}
 use Rattle.whole.specs.Divisor.{divisorBy, divisor}
 use Rattle.lattice.specs.Rows.{plus, neg, allZero, lead}
 use Rattle.lattice.specs.Sums.{dot, sums}
-use Rattle.text.specs.Tokens.{runs, allDigits, value}
+use Rattle.text.specs.Tokens.{allDigits, value}
+use Rattle.text.specs.Positions.{gap, run}
 use Rattle.text.specs.Decimals.{decimal}
 use Rattle.problem.specs.Limits.{anyBeyond}
-use Rattle.problem.specs.Answers.{noSteps}
 use Rattle.problem.specs.Checks.{Posed, firstCause}
 use Rattle.problem.specs.declared.Counts.{Counts}
 use Rattle.problem.specs.declared.Refusal.the-variants.{NoWholeNumbers}
@@ -24,17 +24,18 @@ use Rattle.problem.specs.declared.Answer.{Answer}
 use Rattle.problem.specs.declared.Answer.the-variants.{Fitted, Outside, Spent, Refused}
 use Rattle.tableau.specs.Table.{tableauFrom, tableau}
 use Rattle.tableau.specs.Elimination.{lowered, reduced, each, choose, exchange, clear, round, gather, passColumn, passColumns, eliminate}
-use Rattle.tableau.specs.RightSide.{Found, some, Solved, sweep, leading, remaining, rightSide, form, solve}
+use Rattle.tableau.specs.RightSide.{some, sweep, leading, remaining, rightSide, form, solve}
 use Rattle.settling.specs.Ideals.{goalIdeal, ideal}
-use Rattle.settling.specs.Seating.{Seated, seated, goalWishes, seatOne, seat}
+use Rattle.settling.specs.Seating.{Seated, seated, seatOne, seat}
 use Rattle.settling.specs.Moves.{singles, pairsWith, pairs, moves, moved}
 use Rattle.settling.specs.Measures.{measure}
 use Rattle.settling.specs.Steps.{isRanked, passes, improves, insert, rankFrom, firstMove, firstColumn, stepAt, stepOf, nextStep}
 use Rattle.settling.specs.Settle.{settleFrom, settle}
 use Rattle.settling.specs.Strides.{stride, stridesFrom}
 use Rattle.engine.specs.Assign.{Buffers, Done, n, m, columns, settleOn, assign}
-use Rattle.deck.specs.Sections.{intervals, terms, lines, readDeck}
-use Rattle.deck.specs.Columns.{slackColumns, placed, coefficientRows, posed}
+use Rattle.sections.specs.Sections.{intervals, terms, lines}
+use Rattle.sections.specs.Columns.{slackColumns, placed, coefficientRows}
+use Rattle.deck.specs.Posing.{readDeck, posed}
 use Rattle.report.specs.Listing.{linesFrom, listing}
 use Rattle.solve.specs.Program.{printed}
 
@@ -70,7 +71,7 @@ steps bounds goals = record { bounds = bounds; goals = goals }
 
 -- the seated list of a problem whose starting list is v and whose basis is N
 abbrev seatedFrom : Posed → List ℤ → List (List ℤ) → Seated
-seatedFrom P v N = seat (goalWishes (columns P)) (columns P) N v
+seatedFrom P v N = seat (columns P) N v
 
 -- 3v1 = 2v2, bounds 1..100, goals 2500 and 4000
 abbrev threeTwo : Posed
@@ -121,7 +122,7 @@ pub record DeckCases : Type 0 where
   pub paving : printed pavingText ≡ pavingListing
 
 pub deck-cases : DeckCases
-unfolding every divisorBy divisor plus neg allZero lead dot sums runs allDigits value decimal anyBeyond firstCause tableauFrom tableau lowered reduced each choose exchange clear round gather passColumn passColumns eliminate sweep leading remaining rightSide form solve goalIdeal ideal seatOne seat singles pairsWith pairs moves moved measure isRanked passes improves insert rankFrom firstMove firstColumn stepAt stepOf nextStep settleFrom settle stride stridesFrom settleOn assign intervals terms lines readDeck slackColumns placed coefficientRows posed linesFrom listing printed
+unfolding every divisorBy divisor plus neg allZero lead dot sums gap run allDigits value decimal anyBeyond firstCause tableauFrom tableau lowered reduced each choose exchange clear round gather passColumn passColumns eliminate sweep leading remaining rightSide form solve goalIdeal ideal seatOne seat singles pairsWith pairs moves moved measure isRanked passes improves insert rankFrom firstMove firstColumn stepAt stepOf nextStep settleFrom settle stride stridesFrom settleOn assign intervals terms lines readDeck slackColumns placed coefficientRows posed linesFrom listing printed
 deck-cases = record {
   half = refl;
   whole = refl;

@@ -1,11 +1,12 @@
 -- Laws of the form of a problem, as it lies in the lent buffer.
 --   span-within    numbers within a limit no larger than M
---   form-stops     what elimination of the filled table answers and leaves is the form
+--   form-outcome   what elimination of the filled table answers and leaves is the form's
 --   Formed         what stands in the tableau's buffer then: the form's rows, each with a lead above 0, within ±M
 --   formed         so it is, where no number beyond ±M was met
 --   form-over, form-kept   what the buffer holds, by the mark
+--   outcome-by     the outcome of steps, from an answer and what it says of the buffer
 -- Assumes nothing.
-use mathlib.Core.Path.{_≡_, refl, sym, _∙_, ap, subst}
+use mathlib.Core.Path.{_≡_, refl, sym, _∙_, ap, ap₂, subst}
 use mathlib.Core.Bool.{Bool, true, false, cond, _&&_, false≢true}
 use mathlib.Core.List.{List, [], _∷_}
 use mathlib.Core.Logic.{⊎-elim}
@@ -32,8 +33,8 @@ use Rattle.tableau.specs.RightSide.{form}
 use Rattle.tableau.specs.TableLaws.{tableau-length, tableau-independent}
 use Rattle.tableau.specs.FormLaws.{Eliminated, eliminated}
 use Rattle.tableau.specs.Within.{Within}
-use Rattle.tableau.specs.Steps.{StopsRun, Leads}
-use Rattle.tableau.specs.Buffers.{Formable, matrixOf, formOf, formAfter}
+use Rattle.tableau.specs.Steps.{Leads}
+use Rattle.tableau.specs.Buffers.{Formable, matrixOf, formOf, formAfter, Outcome, outcome, eliminatedOf}
 use Rattle.tableau.proofs.Staying.{flat-all, all-flat, eliminate-all, eliminate-count}
 use Rattle.tableau.proofs.Tableaus.{tableau-within}
 
@@ -96,6 +97,12 @@ hermite-wide (skip H) h = skip-wide (width H) (rows H) (hermite-wide H h)
 hermite-wide (step p r H) h = (ap suc (h .1), skip-wide (width H) (rows H) (hermite-wide H (h .3)))
 
 -- ---- the form
+abbrev by-length : Run → ℕ → Outcome
+by-length x i = record { over = x .over; left = cond (x .over) (zeros i) (flat (x .table)) }
+
+abbrev told : Bool → List ℤ → Outcome
+told r u = record { over = r; left = u }
+
 pub record Formed (p : Problem) (F : Run) (t : List ℤ) : Type 0 where
   pub rows : chop (p .columns) (p .rows + p .columns) t ≡ F .table
   pub leads : All Leads (chop (p .columns) (p .rows + p .columns) t)
@@ -131,8 +138,8 @@ module _ {p : Problem} {t a : List ℤ} (h : Formable p t a) where
   unfolding form
   form-is = ap (λ (i : ℕ). eliminate (i + n) (tableau n A)) (sym count)
 
-  pub form-stops : {u v : List ℤ} {r : Bool} → u ≡ flat (tableau n A) → StopsRun (eliminate w (chop n w u)) r v → StopsRun (formOf p a) r v
-  form-stops {u} {v} {r} e s = subst (λ (x : Run). StopsRun x r v) (ap (λ (l : List ℤ). eliminate w (chop n w l)) e ∙ ap (eliminate w) table-rows ∙ form-is) s
+  pub form-outcome : {u : List ℤ} → u ≡ flat (tableau n A) → length u ≡ length t → outcome (eliminatedOf n w u) u ≡ outcome (formOf p a) t
+  form-outcome {u} e l = ap₂ by-length (ap (eliminatedOf n w) e ∙ ap (eliminate w) table-rows ∙ form-is) l
 
   hermite : Eliminated w (tableau n A)
   hermite = eliminated w (tableau n A) table-wide (subst (λ (i : ℕ). Independent (i + n) (tableau n A)) count (tableau-independent n A))
@@ -161,6 +168,9 @@ module _ {p : Problem} {t a : List ℤ} (h : Formable p t a) where
       }
 
 -- ---- the buffer
+pub outcome-by : (x : Run) (t : List ℤ) {r : Bool} {u : List ℤ} → r ≡ x .over → u ≡ cond r (zeros (length t)) (flat (x .table)) → told r u ≡ outcome x t
+outcome-by x t e f = ap₂ told e (f ∙ ap (λ (o : Bool). cond o (zeros (length t)) (flat (x .table))) e)
+
 pub form-over : (p : Problem) (a t : List ℤ) → formOf p a .over ≡ true → formAfter (formOf p a) t ≡ zeros (length t)
 form-over p a t e = ap (λ (o : Bool). cond o (zeros (length t)) (flat (formOf p a .table))) e
 

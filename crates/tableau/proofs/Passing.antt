@@ -22,7 +22,7 @@ use Rattle.lattice.specs.Rows.{ZeroTo, flat, chop}
 use Rattle.lattice.specs.RowLaws.{ZeroTo-next, ZeroTo-plus, ZeroTo-neg}
 use Rattle.lattice.specs.Span.{All, Len, all-both, all-append, steps-length, steps-all}
 use Rattle.lattice.specs.FlatLaws.{flat-append, flat-chop, chop-next, chop-rows, chop-take, chop-split, length-chop, front-rows, front-rest}
-use Rattle.problem.specs.Limits.{maxRows, maxColumns}
+use Rattle.tableau.specs.Table.{maxWidth}
 use Rattle.tableau.specs.Elimination.{Run, each, reduced, Choice, none, at, choose, Gathered, Passed, passColumn, passColumns, eliminate}
 use Rattle.tableau.specs.GatherLaws.{Stands, choose-stands, Alone, gather-steps, gather-alone, gathering-first}
 use Rattle.tableau.specs.Within.{Within, neither, within-append, within-take, within-drop}
@@ -239,7 +239,7 @@ skipped-on {n} {w} {c} {k} {t} h e =
     }
 
 -- ---- all columns
-pub starts : {n w : ℕ} {t : List ℤ} → length t ≡ n * w → w ≤ maxRows + maxColumns → Within t → Standing n w 0 0 t
+pub starts : {n w : ℕ} {t : List ℤ} → length t ≡ n * w → w ≤ maxWidth → Within t → Standing n w 0 0 t
 starts {n} {w} {t} l m s = record { wide = l; narrow = m; most = omega arith; small = s; front = none-yet (belowOf n w 0 t) }
   where
     none-yet : (T : List (List ℤ)) → All (ZeroTo 0) T

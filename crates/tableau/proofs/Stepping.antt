@@ -4,9 +4,10 @@
 --   step-none         a row with a 0 there stays
 --   step-idle         so does a row whose quotient is 0
 --   step-parts        else the subtraction changes only the numbers from the pivot's column on
+--   left-by           what the row's buffer holds then, by the mark
 -- Assumes nothing.
 use mathlib.Core.Path.{_≡_, refl, sym, _∙_, ap, ap₂}
-use mathlib.Core.Bool.{Bool, true, false, _||_}
+use mathlib.Core.Bool.{Bool, true, false, cond, _||_}
 use mathlib.Core.List.{List, [], _∷_, _++_}
 use Prim.Native.Nat.{ℕ, zero, suc, _+_, _*_, _<_, _≤_}
 use native.Mathlib.Nat.{mul-le-mul-right, zero-div}
@@ -16,7 +17,7 @@ use lib.Dec.{ltb}
 use lib.IntN.{ℤ, pos, negsuc, negℤ, natAbs, _+ℤ_, _*ℤ_}
 use lib.Signed.{_<ℤ_, _≤ℤ_}
 use lib.ListN.{length, take, drop, take-append-drop, List·getD-eq-default}
-use Rattle.whole.specs.Lists.{entry}
+use Rattle.whole.specs.Lists.{entry, zeros}
 use Rattle.whole.specs.Quotient.{floorQuotient, gatheringQuotient}
 use Rattle.whole.specs.Integers.{rep, diff-rel, Positive, positive, positive-nonzero, gatheringQuotient-left, floorQuotient-low, floorQuotient-high, add-none}
 use Rattle.whole.proofs.Signed.{abs-add, abs-mul, abs-neg}
@@ -25,7 +26,7 @@ use Rattle.lattice.specs.RowLaws.{plus-none}
 use Rattle.problem.specs.Limits.{anyBeyond}
 use Rattle.tableau.specs.Elimination.{Left, subtract, kept, lowered, reduced}
 use Rattle.tableau.specs.Within.{Within, within-take, beyond-append}
-use Rattle.tableau.specs.Steps.{Stops, quotientOf, stepOf, Pivot}
+use Rattle.tableau.specs.Steps.{Stops, quotientOf, stepOf, Pivot, leftAfter}
 use Rattle.tableau.specs.declared.rows.Way.{Way}
 use Rattle.tableau.specs.declared.rows.Way.the-variants.{Below, Above}
 
@@ -121,3 +122,6 @@ step-parts way c r s u b q z h e k o =
           ∙ ap (λ (t : Bool). t || anyBeyond (plus (negℤ q) (drop c r) (drop c s))) (within-take c s h));
       left = λ t. ap (λ (l : List ℤ). take c s ++ l) (o .left t) ∙ sym f ∙ sym (ap (λ (x : Left). x .row) d);
     }
+
+pub left-by : (x : Left) (s : List ℤ) {b : Bool} → x .over ≡ b → leftAfter x s ≡ cond b (zeros (length s)) (x .row)
+left-by x s e = ap (λ (o : Bool). cond o (zeros (length s)) (x .row)) e

@@ -5,6 +5,8 @@
 --   basis m T       "The remaining table rows, without their m zeros, are the basis"
 --   Found           "no whole numbers satisfy the rows", or the starting list and the basis
 --   Solved          what is found, the form, and whether the problem is past the elimination limit (refusal 7)
+--   rightSide m T o v   the right side v of a form T, with what is found
+--   listLeft m T v  the list that v has become then: after the leading rows where no whole numbers satisfy the rows, else after the others too
 --   solve n A b     the tableau and the right side of n columns, the matrix A and the right sides b
 -- "starting list" is document 01's term: the reduced representative of the coset of solutions. The basis is the kernel basis in Hermite form.
 -- Assumes nothing.
@@ -59,6 +61,16 @@ afterLeading m T over w =
 -- the right side v of a form T, which is past the elimination limit already where `over` says so
 unfoldable pub rightSide : ℕ → List (List ℤ) → Bool → List ℤ → Solved
 rightSide m T over v = afterLeading m T over (sweep (leading m T) v)
+
+-- by what is found: the list u after the leading rows, or the list w after the remaining rows too, whose "last n numbers are the starting list"
+abbrev pub leftOf : Found → List ℤ → List ℤ → List ℤ
+leftOf none u w = u
+leftOf (some s N) u w = w
+
+unfoldable pub listLeft : ℕ → List (List ℤ) → List ℤ → List ℤ
+listLeft m T v =
+    let u : List ℤ = sweep (leading m T) v .row in
+    leftOf (rightSide m T false v .found) u (sweep (remaining m T) u .row)
 
 -- the form of the tableau of n columns and the matrix A
 unfoldable pub form : ℕ → List (List ℤ) → Run

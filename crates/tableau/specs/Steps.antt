@@ -1,6 +1,7 @@
 -- What the functions on rows ask and what they leave.
 --   Stops over l r t   what a function that stops at the first number beyond ±M answers, r, and leaves, t: whether there is one, and where
 --                      there is none, the list l
+--   StopsRow, StopsRun   that of a row after a subtraction, and of a table after steps
 --   quotientOf way     the quotient by which a pivot is taken from the rows below it, or from those above
 --   stepOf way c r     a row's step by the row r at column c: gathering's in the lower rows, or that in the rows above
 --   eachOf way c r k   that of each of k rows in one list
@@ -26,6 +27,10 @@ use Rattle.tableau.specs.declared.rows.Way.the-variants.{Below, Above}
 pub record Stops (over : Bool) (l : List ℤ) (r : Bool) (t : List ℤ) : Type 0 where
   pub answer : r ≡ over
   pub left : r ≡ false → t ≡ l
+
+-- the same of a row after a subtraction
+abbrev pub StopsRow : Left → Bool → List ℤ → Type 0
+StopsRow x r t = Stops (x .over) (x .row) r t
 
 -- the same of a table, in one list
 abbrev pub StopsRun : Run → Bool → List ℤ → Type 0

@@ -16,14 +16,14 @@ use lib.ListN.{length, take, drop}
 use Rattle.whole.specs.Lists.{entry}
 use Rattle.lattice.specs.Rows.{ZeroTo, flat, chop}
 use Rattle.lattice.specs.Span.{All}
-use Rattle.problem.specs.Limits.{maxRows, maxColumns}
+use Rattle.tableau.specs.Table.{maxWidth}
 use Rattle.tableau.specs.Elimination.{Gathered, signed, round}
 use Rattle.tableau.specs.GatherLaws.{Chosen, gathering}
 use Rattle.tableau.specs.Within.{Within}
 
 pub record Tail (k w c : ℕ) (t : List ℤ) : Type 0 where
   pub wide : length t ≡ k * w
-  pub narrow : w ≤ maxRows + maxColumns
+  pub narrow : w ≤ maxWidth
   pub column : c < w
   pub small : Within t
   pub front : All (ZeroTo c) (chop k w t)

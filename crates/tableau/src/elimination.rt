@@ -1,14 +1,12 @@
 ghost use mathlib.Core.Path.{_≡_};
-ghost use Prim.Native.Nat.{_+_, _*_, _-_, _<_, _≤_};
+ghost use Prim.Native.Nat.{_*_, _-_, _<_, _≤_};
 ghost use lib.ListN.{length, drop};
-ghost use Rattle.lattice.specs.Rows.{chop};
-ghost use Rattle.problem.specs.Limits.{maxRows, maxColumns};
-ghost use Rattle.tableau.specs.Elimination as Elimination;
+ghost use Rattle.tableau.specs.Table.{maxWidth};
+ghost use Rattle.tableau.specs.Buffers.{eliminatedOf};
 ghost use Rattle.tableau.specs.Columns.{Standing, passedOf, tableOf};
 ghost use Rattle.tableau.specs.Steps.{StopsRun};
 ghost use Rattle.tableau.specs.Tails.{Picked};
 ghost use Rattle.tableau.specs.Within.{Within};
-use crate::MAX_WIDTH;
 use crate::gathering::Choice;
 use crate::gathering::choose;
 use crate::gathering::gather;
@@ -29,11 +27,11 @@ fn pass(t: &mut [i64], rows: usize, pivot: &mut [i64], c: usize, k: usize, j: us
     each(&mut t[..at], k, pivot, c, Way::Above)
 }
 
-// All columns, from left to right, while a row is left.
-fn pass_all(t: &mut [i64], rows: usize, pivot: &mut [i64]) -> bool
+// All columns, from left to right, while a row is left. Stops with true at the first number beyond M.
+pub(crate) fn pass_all(t: &mut [i64], rows: usize, pivot: &mut [i64]) -> bool
     requires { ⌜ length (now t) ≡ rows * length (now pivot) ⌝ }
-    requires { ⌜ (length (now pivot) ≤ maxRows + maxColumns) × Within (now t) ⌝ }
-    ensures { λ r. ⌜ StopsRun (Elimination.eliminate (length (now (pivot .entry))) (chop rows (length (now (pivot .entry))) (now (t .entry)))) r (now (t .exit)) ⌝ }
+    requires { ⌜ (length (now pivot) ≤ maxWidth) × Within (now t) ⌝ }
+    ensures { λ r. ⌜ StopsRun (eliminatedOf rows (length (now (pivot .entry))) (now (t .entry))) r (now (t .exit)) ⌝ }
 {
     let w = pivot.len();
     let mut k = 0;
@@ -55,14 +53,4 @@ fn pass_all(t: &mut [i64], rows: usize, pivot: &mut [i64]) -> bool
         }
     }
     false
-}
-
-// The Hermite form of a table of rows of w numbers. Stops with true at the first number beyond M.
-pub(crate) fn eliminate(t: &mut [i64], rows: usize, w: usize) -> bool
-    requires { ⌜ length (now t) ≡ rows * w ⌝ }
-    requires { ⌜ (w ≤ maxRows + maxColumns) × Within (now t) ⌝ }
-    ensures { λ r. ⌜ StopsRun (Elimination.eliminate w (chop rows w (now (t .entry)))) r (now (t .exit)) ⌝ }
-{
-    let mut pivot = [0i64; MAX_WIDTH];
-    pass_all(t, rows, &mut pivot[..w])
 }

@@ -3,8 +3,8 @@ ghost use Prim.Native.Nat.{_+_, _*_, _-_, _<_, _≤_};
 ghost use lib.ListN.{length};
 ghost use Rattle.whole.specs.Lists.{entry};
 ghost use Rattle.lattice.specs.Rows.{chop};
+ghost use Rattle.tableau.specs.Table.{maxWidth};
 ghost use Rattle.tableau.specs.Elimination as Elimination;
-ghost use Rattle.problem.specs.Limits.{maxRows, maxColumns};
 ghost use Rattle.tableau.specs.Choices.{choiceOf, Fewer};
 ghost use Rattle.tableau.specs.Tails.{Tail, Picked, lowerFirst, Lifted, Gathers, roundOf, gatheringOf};
 ghost use Rattle.tableau.specs.Within.{Within};
@@ -62,7 +62,7 @@ pub(crate) fn choose(t: &[i64], rows: usize, w: usize, c: usize) -> Choice
 
 // Copies the first row of w numbers into the place of row j.
 fn lower_first(t: &mut [i64], w: usize, j: usize)
-    requires { ⌜ (w ≤ maxRows + maxColumns) × (j * w + w ≤ length (now t)) ⌝ }
+    requires { ⌜ (w ≤ maxWidth) × (j * w + w ≤ length (now t)) ⌝ }
     ensures { λ _. ⌜ now (t .exit) ≡ lowerFirst w j (now (t .entry)) ⌝ }
 {
     let mut first = [0i64; MAX_WIDTH];
@@ -84,7 +84,7 @@ fn raise(row: &mut [i64], c: usize)
 
 // Takes row j out into the pivot, its sign turned if its entry at c is negative, and to the top; the first row takes its place.
 fn lift(t: &mut [i64], pivot: &mut [i64], c: usize, j: usize)
-    requires { ⌜ (length (now pivot) ≤ maxRows + maxColumns) × (j * length (now pivot) + length (now pivot) ≤ length (now t)) ⌝ }
+    requires { ⌜ (length (now pivot) ≤ maxWidth) × (j * length (now pivot) + length (now pivot) ≤ length (now t)) ⌝ }
     requires { ⌜ (c < length (now pivot)) × Within (now t) ⌝ }
     ensures { λ _. ⌜ Lifted c j (length (now (pivot .entry))) (now (t .entry)) (now (pivot .exit)) (now (t .exit)) ⌝ }
 {

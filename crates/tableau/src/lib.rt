@@ -1,10 +1,12 @@
 // The tableau: a problem's table and its elimination. The definitions are in specs/.
 ghost use mathlib.Core.Path.{_≡_};
+ghost use Prim.Native.Nat.{_*_, _≤_};
 ghost use lib.ListN.{length};
+ghost use Rattle.tableau.specs.Table.{maxWidth};
 ghost use Rattle.tableau.specs.Elimination.{reduced};
 ghost use Rattle.tableau.specs.Steps.{Pivot, leftAfter};
 ghost use Rattle.tableau.specs.Within.{Within};
-ghost use Rattle.tableau.specs.Buffers.{Formable, formOf, formAfter};
+ghost use Rattle.tableau.specs.Buffers.{Formable, formOf, formAfter, outcome, eliminatedOf};
 
 mod elimination;
 mod filling;
@@ -12,15 +14,16 @@ mod gathering;
 mod rows;
 mod tables;
 
-use elimination::eliminate;
+use elimination::pass_all;
 use filling::fill;
 use lattice::wipe;
 use problem::Problem;
+use problem::groups::Group;
 use rows::Way;
 use rows::step;
 
 // The most numbers that a row of a table can have.
-pub const MAX_WIDTH: usize = Problem::MAX_ROWS + Problem::MAX_COLUMNS;
+pub const MAX_WIDTH: usize = Group::MAX_ROWS + Group::MAX_COLUMNS;
 
 // Takes the pivot, whose first number other than 0 is at c, from a row, so that its number there is reduced. Where a number beyond M is
 // left, the answer is true and the row is all 0.
@@ -37,6 +40,20 @@ pub fn reduce(row: &mut [i64], pivot: &[i64], c: usize) -> bool
     false
 }
 
+// The Hermite form of a table of rows of w numbers. Where a number beyond M is left, the answer is true and the table is all 0.
+pub fn eliminate(t: &mut [i64], rows: usize, w: usize) -> bool
+    requires { ⌜ (length (now t) ≡ rows * w) × (w ≤ maxWidth) ⌝ }
+    requires { ⌜ Within (now t) ⌝ }
+    ensures { λ r. ⌜ record { over = r; left = now (t .exit) } ≡ outcome (eliminatedOf rows w (now (t .entry))) (now (t .entry)) ⌝ }
+{
+    let mut pivot = [0i64; MAX_WIDTH];
+    if pass_all(t, rows, &mut pivot[..w]) {
+        wipe(t);
+        return true;
+    }
+    false
+}
+
 // The form of a problem's tableau in t. Where it is past the elimination limit, the answer is true and t is all 0.
 pub fn form(t: &mut [i64], p: Problem, coefficients: &[i64]) -> bool
     requires { ⌜ Formable p (now t) (now coefficients) ⌝ }
@@ -46,9 +63,5 @@ pub fn form(t: &mut [i64], p: Problem, coefficients: &[i64]) -> bool
     fill(t, p, coefficients);
     let n = p.columns;
     let w = p.rows + n;
-    if eliminate(t, n, w) {
-        wipe(t);
-        return true;
-    }
-    false
+    eliminate(t, n, w)
 }

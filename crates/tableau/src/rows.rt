@@ -1,11 +1,12 @@
 ghost use mathlib.Core.Path.{_≡_};
-ghost use lib.IntN.{pos, natAbs, negℤ};
+ghost use lib.IntN.{pos, natAbs};
 ghost use lib.Signed.{_<ℤ_};
 ghost use Prim.Native.Nat.{_≤_};
 ghost use lib.ListN.{length};
-ghost use Rattle.lattice.specs.Rows.{plus, neg};
-ghost use Rattle.problem.specs.Limits.{M, anyBeyond};
-ghost use Rattle.tableau.specs.Steps.{Stops, quotientOf, stepOf, Pivot};
+ghost use Rattle.lattice.specs.Rows.{neg};
+ghost use Rattle.problem.specs.Limits.{M};
+ghost use Rattle.tableau.specs.Elimination as Elimination;
+ghost use Rattle.tableau.specs.Steps.{StopsRow, quotientOf, stepOf, Pivot};
 ghost use Rattle.tableau.specs.Within.{Within};
 use problem::Problem;
 use whole::less_product;
@@ -35,7 +36,7 @@ fn subtract(row: &mut [i64], pivot: &[i64], q: i64) -> bool
     requires { ⌜ length (now row) ≡ length (now pivot) ⌝ }
     requires { ⌜ Within (now row) × Within (now pivot) ⌝ }
     requires { ⌜ natAbs q ≤ M ⌝ }
-    ensures { λ r. ⌜ Stops (anyBeyond (plus (negℤ q) (now (pivot .entry)) (now (row .entry)))) (plus (negℤ q) (now (pivot .entry)) (now (row .entry))) r (now (row .exit)) ⌝ }
+    ensures { λ r. ⌜ StopsRow (Elimination.subtract q (now (pivot .entry)) (now (row .entry))) r (now (row .exit)) ⌝ }
 {
     let mut i = 0;
     while i < row.len() {
@@ -64,7 +65,7 @@ fn quotient(e: i64, p: i64, way: Way) -> i64
 pub(crate) fn step(row: &mut [i64], pivot: &[i64], c: usize, way: Way) -> bool
     requires { ⌜ Pivot (length (now row)) c (now pivot) ⌝ }
     requires { ⌜ Within (now row) ⌝ }
-    ensures { λ r. ⌜ Stops (stepOf way c (now (pivot .entry)) (now (row .entry)) .over) (stepOf way c (now (pivot .entry)) (now (row .entry)) .row) r (now (row .exit)) ⌝ }
+    ensures { λ r. ⌜ StopsRow (stepOf way c (now (pivot .entry)) (now (row .entry))) r (now (row .exit)) ⌝ }
 {
     let e = row[c];
     if magnitude(e) == 0 {

@@ -1,22 +1,13 @@
--- `deck::scan` meets its contract: the sections' buffers are the deck's, and the y's upper bounds are set once all rows are read. Assumes nothing.
+-- `deck::scan` meets its contract: the sections' tables are the deck's, and nothing may be left behind them. Assumes nothing.
 use mathlib.Core.Path.{_≡_, sym, ap, _∙_}
-use mathlib.Core.List.{[]}
-use Prim.Native.Nat.{_*_}
-use native.Mathlib.Omega.{arith}
-use borrow.Author.Needs.{sfits-of, needs}
-use lib.IntN.{pos}
-use lib.ListN.{length, drop}
-use mir.Syntax.{w64}
-use mir.Val.{toZ, ofZ}
-use mir.Facts.{toZ-ofZ}
-use Rattle.text.specs.Tokens.{tokens}
-use Rattle.problem.specs.Limits.{maxBound}
-use Rattle.deck.specs.Rules.{no}
-use Rattle.deck.specs.Sections.{deckColumns, deckRows}
-use Rattle.deck.specs.Steps.{intervalSection, rowSection, IntervalsStored, LinesStored}
-use Rattle.deck.proofs.Parts.{deck-intervals, deck-rows}
-use Rattle.deck.proofs.Storage.{length-blank}
-use Rattle.deck.proofs.Whole.{left-over, stored}
+use lib.ListN.{length}
+use Rattle.sections.specs.Rules.{no}
+use Rattle.sections.specs.Sections.{deckRows, intervalSection, rowSection}
+use Rattle.sections.specs.Columns.{columnCells}
+use Rattle.sections.specs.Steps.{intervalsDone, rowsDone}
+use Rattle.sections.proofs.Storage.{length-blank}
+use Rattle.deck.proofs.Whole.{IntervalsFound, intervals-found, intervals-refused, few-intervals, rows-found, rows-refused, deck-intervals, deck-rows, left-over, stored}
+use borrow.Author.Needs.{needs}
 use Rattle.deck.proofs.scan.Statement.{statement}
 use Rattle.deck.proofs.scan.Tie as tie
 
@@ -28,36 +19,18 @@ enum-known-a c = search needs
 
 read-rows-requires : tie.Need-read-rows-requires
 read-rows-requires c κs =
-    let x = c .before .before .before .before .before .before .before .before .before .before .before .before .before .before .args in
-    let s = x .s .now in
-    let v = c .before .before .before .before .before .before .before .before .before .read-intervals in
-    let i : IntervalsStored s (intervalSection (tokens s)) (c .before .before .before .before .a .given .0 .0) (v .last .1 .1 .0) (v .last .1 .1 .1 .0) (v .last .1 .1 .1 .1 .0) = rw (c .before .before .before .before .a .given .1) at (v .ensures) in (
-      (i .few, i .columns, i .rows),
-      record {
-        lowers = v .kept .1 .1 .0 ∙ (ap length (c .before .before .before .before .before .before .before .before .before .before .before .before .before .before .pre .0) ∙ length-blank deckColumns);
-        rights = ap length (c .before .before .before .before .before .before .before .before .before .before .before .before .before .before .pre .1 .1 .1 .0) ∙ length-blank deckRows;
-        table = ap length (c .before .before .before .before .before .before .before .before .before .before .before .before .before .before .pre .1 .1 .1 .1) ∙ length-blank (deckRows * deckColumns);
-      },
-    )
+    let x = c .before .before .before .before .before .before .before .before .before .before .args in
+    let v = c .before .before .before .before .before .before .before .read-intervals in
+    let k = v .last .1 .1 .0 in
+    let h = v .kept .1 .1 .0 ∙ (ap length (c .before .before .before .before .before .before .before .before .before .before .pre .0) ∙ length-blank columnCells) in
+    let i : IntervalsFound (intervalSection (x .s .now) 0) (c .before .before .before .before .a .given .0 .0) k = intervals-found _ _ _ (ap (λ (r : _). intervalsDone r k) (sym (c .before .before .before .before .a .given .1)) ∙ v .ensures) in
+    ((few-intervals i h, i .columns, i .rows), (h, c .before .before .before .before .before .before .before .before .before .before .pre .1, c .before .before .before .before .before .before .before .before .before .before .pre .2))
 
 enum-known-b : tie.Need-enum-known-b
 enum-known-b c = search needs
 
 is-closed-requires : tie.Need-is-closed-requires
 is-closed-requires c κs = search needs
-
-positive-requires : tie.Need-positive-requires
-positive-requires c κs = search needs
-
-fill-requires : tie.Need-fill-requires
-fill-requires c κs =
-    let x = c .before .before .before .before .before .before .before .before .before .before .before .before .before .before .before .before .before .before .before .before .before .before .before .before .before .args in
-    let s = x .s .now in
-    let v = c .before .before .before .before .before .before .before .before .before .before .before .before .before .before .before .before .before .before .before .before .read-intervals in
-    let r = c .before .before .before .before .before .before .before .before .before .before .read-rows in
-    let i : IntervalsStored s (intervalSection (tokens s)) (c .before .before .before .before .before .before .before .before .before .before .before .before .before .before .before .a .given .0 .0) (v .last .1 .1 .0) (v .last .1 .1 .1 .0) (v .last .1 .1 .1 .1 .0) = rw (c .before .before .before .before .before .before .before .before .before .before .before .before .before .before .before .a .given .1) at (v .ensures) in
-    let w : LinesStored s (rowSection (c .before .before .before .before .before .before .before .before .before .before .before .before .before .before .before .a .given .0 .0 .intervals) (tokens (drop (c .before .before .before .before .before .before .before .before .before .before .before .before .before .before .before .a .given .0 .0 .at) s))) (c .before .before .before .before .before .before .before .before .before .before .before .before .before .before .before .a .given .0 .0 .intervals) (c .before .before .before .before .before .b .given .0 .0) (v .last .1 .1 .0) (x .rights .now) (x .table .now) (r .last .1 .1 .0) (r .last .1 .1 .1 .0) (r .last .1 .1 .1 .1 .0) = rw (c .before .before .before .before .before .b .given .1) at (r .ensures) in
-    (omega (arith, w .columns, w .intervals), omega (arith, w .few, v .kept .1 .1 .1 .0, ap length (c .before .before .before .before .before .before .before .before .before .before .before .before .before .before .before .before .before .before .before .before .before .before .before .before .before .pre .1 .0), length-blank deckColumns))
 
 enum-known-b-2 : tie.Need-enum-known-b-2
 enum-known-b-2 c = search needs
@@ -74,25 +47,41 @@ same-length-2 c = search needs
 same-length-3 : tie.Need-same-length-3
 same-length-3 c = search needs
 
+returns : tie.Need-returns
+returns c =
+    let x = c .before .before .before .before .before .before .before .before .before .before .before .before .before .before .before .before .before .before .before .args in
+    let v = c .before .before .before .before .before .before .before .before .before .before .before .before .before .before .before .before .read-intervals in
+    let w = c .before .before .before .before .before .before .before .before .read-rows in
+    let k = v .last .1 .1 .0 in
+    let k' = w .last .1 .1 .0 in
+    let b' = w .last .1 .1 .1 .0 in
+    let t' = w .last .1 .1 .1 .1 .0 in
+    let h = v .kept .1 .1 .0 ∙ (ap length (c .before .before .before .before .before .before .before .before .before .before .before .before .before .before .before .before .before .before .before .pre .0) ∙ length-blank columnCells) in
+    let i : IntervalsFound (intervalSection (x .s .now) 0) (c .before .before .before .before .before .before .before .before .before .before .before .before .before .a .given .0 .0) k = intervals-found _ _ _ (ap (λ (r : _). intervalsDone r k) (sym (c .before .before .before .before .before .before .before .before .before .before .before .before .before .a .given .1)) ∙ v .ensures) in
+    let r = rows-found (c .before .before .before .before .before .before .before .before .before .before .before .before .before .a .given .0 .0 .intervals) k k' b' t' (rowSection (x .s .now) (c .before .before .before .before .before .before .before .before .before .before .before .before .before .a .given .0 .0 .intervals) (c .before .before .before .before .before .before .before .before .before .before .before .before .before .a .given .0 .0 .at)) (c .before .before .before .b .given .0 .0) (ap (λ (r : _). rowsDone r k' b' t') (sym (c .before .before .before .b .given .1)) ∙ w .ensures) in
+    stored (x .s .now) (c .before .before .before .before .before .before .before .before .before .before .before .before .before .a .given .0 .0) (c .before .before .before .b .given .0 .0) k k' b' t' i r h (w .kept .1 .1 .0 ∙ h) (w .kept .1 .1 .1 .0 ∙ (ap length (c .before .before .before .before .before .before .before .before .before .before .before .before .before .before .before .before .before .before .before .pre .1) ∙ length-blank deckRows)) (sym (c .before .is-closed .ensures) ∙ c .if1 .taken)
+
 same-length-4 : tie.Need-same-length-4
 same-length-4 c = search needs
 
 same-length-5 : tie.Need-same-length-5
 same-length-5 c = search needs
 
-returns : tie.Need-returns
-returns c =
-    let x = c .before .before .before .before .before .before .before .before .before .before .before .before .before .before .before .before .before .before .before .before .before .before .before .before .before .before .before .args in
-    let s = x .s .now in
-    let v = c .before .before .before .before .before .before .before .before .before .before .before .before .before .before .before .before .before .before .before .before .before .before .read-intervals in
-    let r = c .before .before .before .before .before .before .before .before .before .before .before .before .read-rows in
-    let i : IntervalsStored s (intervalSection (tokens s)) (c .before .before .before .before .before .before .before .before .before .before .before .before .before .before .before .before .before .a .given .0 .0) (v .last .1 .1 .0) (v .last .1 .1 .1 .0) (v .last .1 .1 .1 .1 .0) = rw (c .before .before .before .before .before .before .before .before .before .before .before .before .before .before .before .before .before .a .given .1) at (v .ensures) in
-    let w : LinesStored s (rowSection (c .before .before .before .before .before .before .before .before .before .before .before .before .before .before .before .before .before .a .given .0 .0 .intervals) (tokens (drop (c .before .before .before .before .before .before .before .before .before .before .before .before .before .before .before .before .before .a .given .0 .0 .at) s))) (c .before .before .before .before .before .before .before .before .before .before .before .before .before .before .before .before .before .a .given .0 .0 .intervals) (c .before .before .before .before .before .before .before .b .given .0 .0) (v .last .1 .1 .0) (x .rights .now) (x .table .now) (r .last .1 .1 .0) (r .last .1 .1 .1 .0) (r .last .1 .1 .1 .1 .0) = rw (c .before .before .before .before .before .before .before .b .given .1) at (r .ensures) in
-    let m : toZ w64 (ofZ w64 (c .before .before .positive .result)) ≡ pos maxBound = toZ-ofZ (sfits-of (c .before .before .positive .ok)) ∙ c .before .before .positive .ensures in
-    stored s (c .before .before .before .before .before .before .before .before .before .before .before .before .before .before .before .before .before .a .given .0 .0) (c .before .before .before .before .before .before .before .b .given .0 .0) (v .last .1 .1 .0) (v .last .1 .1 .1 .0) (v .last .1 .1 .1 .1 .0) (r .last .1 .1 .0) (c .before .fill .last .0) (x .rights .now) (x .table .now) (r .last .1 .1 .1 .0) (r .last .1 .1 .1 .1 .0) i w (c .before .before .before .before .before .before .before .before .before .before .before .before .before .before .before .before .before .before .before .before .before .before .before .before .before .before .before .pre .1 .1 .1 .0) (c .before .before .before .before .before .before .before .before .before .before .before .before .before .before .before .before .before .before .before .before .before .before .before .before .before .before .before .pre .1 .1 .1 .1) (sym (c .before .before .before .before .before .is-closed .ensures) ∙ c .before .before .before .before .if1 .taken) (rw m at (c .before .fill .ensures))
-
 same-length-6 : tie.Need-same-length-6
 same-length-6 c = search needs
+
+returns-2 : tie.Need-returns-2
+returns-2 c =
+    let x = c .before .before .before .before .before .before .before .before .before .before .before .before .before .before .before .before .before .before .before .args in
+    let v = c .before .before .before .before .before .before .before .before .before .before .before .before .before .before .before .before .read-intervals in
+    let w = c .before .before .before .before .before .before .before .before .read-rows in
+    let k = v .last .1 .1 .0 in
+    let k' = w .last .1 .1 .0 in
+    let b' = w .last .1 .1 .1 .0 in
+    let t' = w .last .1 .1 .1 .1 .0 in
+    let i : IntervalsFound (intervalSection (x .s .now) 0) (c .before .before .before .before .before .before .before .before .before .before .before .before .before .a .given .0 .0) k = intervals-found _ _ _ (ap (λ (r : _). intervalsDone r k) (sym (c .before .before .before .before .before .before .before .before .before .before .before .before .before .a .given .1)) ∙ v .ensures) in
+    let r = rows-found (c .before .before .before .before .before .before .before .before .before .before .before .before .before .a .given .0 .0 .intervals) k k' b' t' (rowSection (x .s .now) (c .before .before .before .before .before .before .before .before .before .before .before .before .before .a .given .0 .0 .intervals) (c .before .before .before .before .before .before .before .before .before .before .before .before .before .a .given .0 .0 .at)) (c .before .before .before .b .given .0 .0) (ap (λ (r : _). rowsDone r k' b' t') (sym (c .before .before .before .b .given .1)) ∙ w .ensures) in
+    left-over (x .s .now) (c .before .before .before .before .before .before .before .before .before .before .before .before .before .a .given .0 .0) (c .before .before .before .b .given .0 .0) k k' b' t' i r (sym (c .before .is-closed .ensures) ∙ c .if1 .left)
 
 same-length-7 : tie.Need-same-length-7
 same-length-7 c = search needs
@@ -103,57 +92,28 @@ same-length-8 c = search needs
 same-length-9 : tie.Need-same-length-9
 same-length-9 c = search needs
 
+returns-3 : tie.Need-returns-3
+returns-3 c =
+    let x = c .before .before .before .before .before .before .before .before .before .before .before .before .before .before .before .before .before .args in
+    let v = c .before .before .before .before .before .before .before .before .before .before .before .before .before .before .read-intervals in
+    let w = c .before .before .before .before .before .before .read-rows in
+    let k = v .last .1 .1 .0 in
+    let k' = w .last .1 .1 .0 in
+    let b' = w .last .1 .1 .1 .0 in
+    let t' = w .last .1 .1 .1 .1 .0 in
+    let i : IntervalsFound (intervalSection (x .s .now) 0) (c .before .before .before .before .before .before .before .before .before .before .before .a .given .0 .0) k = intervals-found _ _ _ (ap (λ (r : _). intervalsDone r k) (sym (c .before .before .before .before .before .before .before .before .before .before .before .a .given .1)) ∙ v .ensures) in
+    let r : rowSection (x .s .now) (c .before .before .before .before .before .before .before .before .before .before .before .a .given .0 .0 .intervals) (c .before .before .before .before .before .before .before .before .before .before .before .a .given .0 .0 .at) ≡ no (c .before .b2 .given .0 .0) = rows-refused (c .before .before .before .before .before .before .before .before .before .before .before .a .given .0 .0 .intervals) k k' b' t' _ _ (ap (λ (r : _). rowsDone r k' b' t') (sym (c .before .b2 .given .1)) ∙ w .ensures) in
+    deck-rows (x .s .now) (i .is) _ _ (i .read) (rw (i .intervals) at r)
+
 same-length-10 : tie.Need-same-length-10
 same-length-10 c = search needs
 
-returns-2 : tie.Need-returns-2
-returns-2 c =
-    let x = c .before .before .before .before .before .before .before .before .before .before .before .before .before .before .before .before .before .before .before .before .before .before .before .args in
-    let s = x .s .now in
-    let v = c .before .before .before .before .before .before .before .before .before .before .before .before .before .before .before .before .before .before .read-intervals in
-    let r = c .before .before .before .before .before .before .before .before .read-rows in
-    let i : IntervalsStored s (intervalSection (tokens s)) (c .before .before .before .before .before .before .before .before .before .before .before .before .before .a .given .0 .0) (v .last .1 .1 .0) (v .last .1 .1 .1 .0) (v .last .1 .1 .1 .1 .0) = rw (c .before .before .before .before .before .before .before .before .before .before .before .before .before .a .given .1) at (v .ensures) in
-    let w : LinesStored s (rowSection (c .before .before .before .before .before .before .before .before .before .before .before .before .before .a .given .0 .0 .intervals) (tokens (drop (c .before .before .before .before .before .before .before .before .before .before .before .before .before .a .given .0 .0 .at) s))) (c .before .before .before .before .before .before .before .before .before .before .before .before .before .a .given .0 .0 .intervals) (c .before .before .before .b .given .0 .0) (v .last .1 .1 .0) (x .rights .now) (x .table .now) (r .last .1 .1 .0) (r .last .1 .1 .1 .0) (r .last .1 .1 .1 .1 .0) = rw (c .before .before .before .b .given .1) at (r .ensures) in
-    left-over s (c .before .before .before .before .before .before .before .before .before .before .before .before .before .a .given .0 .0) (c .before .before .before .b .given .0 .0) (v .last .1 .1 .0) (v .last .1 .1 .1 .0) (v .last .1 .1 .1 .1 .0) (r .last .1 .1 .0) (x .upper .now) (x .rights .now) (x .table .now) (r .last .1 .1 .1 .0) (r .last .1 .1 .1 .1 .0) i w (sym (c .before .is-closed .ensures) ∙ c .if1 .left)
-
-same-length-11 : tie.Need-same-length-11
-same-length-11 c = search needs
-
-same-length-12 : tie.Need-same-length-12
-same-length-12 c = search needs
-
-same-length-13 : tie.Need-same-length-13
-same-length-13 c = search needs
-
-same-length-14 : tie.Need-same-length-14
-same-length-14 c = search needs
-
-same-length-15 : tie.Need-same-length-15
-same-length-15 c = search needs
-
-returns-3 : tie.Need-returns-3
-returns-3 c =
-    let x = c .before .before .before .before .before .before .before .before .before .before .before .before .before .before .before .before .before .before .before .before .before .args in
-    let s = x .s .now in
-    let v = c .before .before .before .before .before .before .before .before .before .before .before .before .before .before .before .before .read-intervals in
-    let i : IntervalsStored s (intervalSection (tokens s)) (c .before .before .before .before .before .before .before .before .before .before .before .a .given .0 .0) (v .last .1 .1 .0) (v .last .1 .1 .1 .0) (v .last .1 .1 .1 .1 .0) = rw (c .before .before .before .before .before .before .before .before .before .before .before .a .given .1) at (v .ensures) in
-    let w : rowSection (c .before .before .before .before .before .before .before .before .before .before .before .a .given .0 .0 .intervals) (tokens (drop (c .before .before .before .before .before .before .before .before .before .before .before .a .given .0 .0 .at) s)) ≡ no (c .before .b2 .given .0 .0) = rw (c .before .b2 .given .1) at (c .before .before .before .before .before .before .read-rows .ensures) in
-    deck-rows (tokens s) _ [] (i .is) [] _ (i .read) (rw (i .count) at w)
-
-same-length-16 : tie.Need-same-length-16
-same-length-16 c = search needs
-
-same-length-17 : tie.Need-same-length-17
-same-length-17 c = search needs
-
-same-length-18 : tie.Need-same-length-18
-same-length-18 c = search needs
-
 returns-4 : tie.Need-returns-4
 returns-4 c =
-    let s = c .before .before .before .before .before .before .before .before .before .before .before .args .s .now in
-    let i : intervalSection (tokens s) ≡ no (c .before .a2 .given .0 .0) = rw (c .before .a2 .given .1) at (c .before .before .before .before .before .before .read-intervals .ensures) in
-    deck-intervals (tokens s) [] [] [] [] _ i
+    let x = c .before .before .before .before .before .before .before .args in
+    let v = c .before .before .before .before .read-intervals in
+    let k = v .last .1 .1 .0 in
+    deck-intervals (x .s .now) _ (intervals-refused _ _ k (ap (λ (r : _). intervalsDone r k) (sym (c .before .a2 .given .1)) ∙ v .ensures))
 
 pub scan-spec : {M : Type 1} → statement M
 scan-spec =
@@ -164,29 +124,19 @@ scan-spec =
     read-rows-requires
     enum-known-b
     is-closed-requires
-    positive-requires
-    fill-requires
     enum-known-b-2
     enum-known-a-2
     same-length
     same-length-2
     same-length-3
+    returns
     same-length-4
     same-length-5
-    returns
     same-length-6
+    returns-2
     same-length-7
     same-length-8
     same-length-9
-    same-length-10
-    returns-2
-    same-length-11
-    same-length-12
-    same-length-13
-    same-length-14
-    same-length-15
     returns-3
-    same-length-16
-    same-length-17
-    same-length-18
+    same-length-10
     returns-4)

@@ -1,9 +1,30 @@
--- `engine::assign` meets its contract: what the checks find decides, and the rest is a problem that they have passed. Assumes nothing.
-use mathlib.Core.Path.{_≡_, refl, sym, _∙_, ap}
-use Rattle.problem.specs.Checks.{Posed}
-use Rattle.engine.specs.Assign.{Buffers, Done, posed, buffers}
-use Rattle.engine.proofs.Assigning.{assign-failed, assign-passed}
+-- `engine::assign` meets its contract: what the checks find decides, and then each answer of the tableau is a case of the definition. Assumes nothing.
+use mathlib.Core.Path.{_≡_, refl, sym, _∙_, ap, subst}
+use mathlib.Core.Bool.{Bool, false, cond}
+use mathlib.Core.List.{List, _++_}
+use Prim.Native.Nat.{ℕ, _*_}
+use native.Mathlib.Omega.{arith}
 use borrow.Author.Needs.{needs}
+use lib.Seq.{length-take-le}
+use lib.IntN.{ℤ}
+use lib.ListN.{length, take, drop}
+use Rattle.whole.specs.Lists.{zeros}
+use Rattle.lattice.specs.Rows.{flat}
+use Rattle.problem.specs.Checks.{Posed, firstCause}
+use Rattle.problem.specs.CheckLaws.{Passes, passes, Fits, fits}
+use Rattle.problem.specs.declared.Check.the-variants.{Passed}
+use Rattle.problem.specs.declared.Refusal.the-variants.{Elimination, NoWholeNumbers}
+use Rattle.rightside.specs.Solutions.{solutionOf}
+use Rattle.rightside.specs.declared.Solution.the-variants.{Over, None, Found}
+use Rattle.rightside.proofs.Answers.{solution-over, solution-none, solution-found, start-found}
+use Rattle.settling.specs.Columns.{Columns, width, listed, columnsIn, packed}
+use Rattle.settling.specs.Parts.{part-length, part-back, part-fits}
+use Rattle.settling.proofs.Packing.{packed-length}
+use Rattle.engine.specs.Assign.{Buffers, posed, buffers, columns, lentOf, refused, solved, assign}
+use Rattle.engine.specs.Finish.{finished, Finishable}
+use Rattle.engine.proofs.Readiness.{table, table-columns}
+use Rattle.engine.proofs.Forming.{solvable, Laid}
+use Rattle.engine.proofs.Assigning.{doneWith, Some, some-is, solved-form, solved-kept, assign-over, assign-none, assign-found, finishable, assign-failed, assign-passed}
 use Rattle.engine.proofs.assign.Statement.{statement}
 use Rattle.engine.proofs.assign.Tie as tie
 
@@ -14,52 +35,208 @@ module _ (a : tie.Start) where
   abbrev B : Buffers
   B = buffers (a .args .tableau .now) (a .args .values .now) (a .args .strides .now)
 
+-- a problem that the checks have passed
+module _ (w : tie.After-enum-told) where
+  abbrev at : tie.Start
+  at = w .before .before .before .before
+
+  passed : firstCause (P at) (lentOf (B at)) ≡ Passed
+  passed = sym (w .before .before .first-cause .ensures) ∙ w .enum-told .given .1
+
+  abbrev q : Passes (P at) (lentOf (B at))
+  q = passes (P at) (lentOf (B at)) passed
+
+  abbrev f : Fits (P at) (lentOf (B at))
+  f = fits (P at) (lentOf (B at)) q
+
+-- its columns, packed
+module _ (k : tie.After-pack) where
+  abbrev by : tie.Start
+  by = at (k .before .before)
+
+  is : k .pack .last .0 ≡ table (P by)
+  is = k .pack .ensures ∙ ap (λ (n : ℕ). packed (listed n (by .args .lower .now) (by .args .upper .now) (by .args .goals .now))) (f (k .before .before) .lower-long)
+
+  wide : length (k .pack .last .0) ≡ width * by .args .p .columns
+  wide = ap length is ∙ packed-length (columns (P by) .column) (by .args .p .columns) 0
+
+  -- lent again
+  lent : (t : List ℤ) → take (width * by .args .p .columns) (k .pack .last .0 ++ drop (width * by .args .p .columns) t) ≡ table (P by)
+  lent t = part-back (width * by .args .p .columns) (k .pack .last .0) t wide ∙ is
+
+-- what is left in the tableau, that it is the form where the problem is not past the limit, and the starting list
+module _ (v : tie.After-solve) where
+  abbrev from : tie.Start
+  from = at (v .before .before .before .before .before .before)
+
+  holds : {o : Bool} → solved (P from) .over ≡ o → v .solve .last .0 ≡ cond o (zeros (length (from .args .tableau .now))) (flat (solved (P from) .form))
+  holds e = v .solve .ensures .1 .0 ∙ ap (λ (o : Bool). cond o (zeros (length (from .args .tableau .now))) (flat (solved (P from) .form))) e
+
+  laid : solved (P from) .over ≡ false → Laid (P from) (lentOf (B from)) (q (v .before .before .before .before .before .before)) (v .solve .last .0)
+  laid e = record { is = holds e ∙ ap flat (solved-form (P from)); kept = solved-kept (P from) e }
+
+  long : length (v .solve .last .1 .1 .1 .1 .0) ≡ from .args .p .columns
+  long = v .solve .kept .1 .1 .1 .1 .0 ∙ length-take-le _ _ (f (v .before .before .before .before .before .before) .few-columns)
+
+  begins : Found ≡ solutionOf (solved (P from)) → (x : Some (solved (P from))) (t : List ℤ)
+      → take (from .args .p .columns) (v .solve .last .1 .1 .1 .1 .0 ++ drop (from .args .p .columns) t) ≡ x .start
+  begins r x t =
+      part-back (from .args .p .columns) (v .solve .last .1 .1 .1 .1 .0) t long ∙ v .solve .ensures .1 .1
+      ∙ start-found (solved (P from)) _ (x .start) (x .vectors) r (x .is)
+
+  -- from a starting list on, over the table of columns
+  module _ (r : Found ≡ solutionOf (solved (P from))) (x : Some (solved (P from))) (s l : List ℤ) (e : s ≡ x .start) (g : l ≡ table (P from)) where
+    finishing : Finishable (from .args .p) (v .solve .last .0) s l (from .args .values .now) (from .args .strides .now)
+    finishing =
+        subst (λ (y : List ℤ). Finishable (from .args .p) (v .solve .last .0) s y (from .args .values .now) (from .args .strides .now)) (sym g)
+        (finishable (P from) (B from) (record { passed = passed (v .before .before .before .before .before .before) }) (laid (solution-found (solved (P from)) r)) x s e (solution-found (solved (P from)) r))
+
+    ending : doneWith (v .solve .last .0) (finished (from .args .p) (columnsIn (from .args .p .columns) l) (v .solve .last .0) s (from .args .values .now) (from .args .strides .now))
+        ≡ assign (P from) (B from)
+    ending =
+        ap (λ (C : Columns). doneWith (v .solve .last .0) (finished (from .args .p) C (v .solve .last .0) s (from .args .values .now) (from .args .strides .now)))
+        (ap (columnsIn (from .args .p .columns)) g ∙ table-columns (P from) (lentOf (B from)) (f (v .before .before .before .before .before .before)))
+        ∙ sym (assign-found (P from) (B from) (record { passed = passed (v .before .before .before .before .before .before) }) (laid (solution-found (solved (P from)) r)) x s e (solution-found (solved (P from)) r))
+        ∙ sym (assign-passed (P from) (B from) (passed (v .before .before .before .before .before .before)))
+
 first-cause-requires : tie.Need-first-cause-requires
 first-cause-requires c κs = search needs
 
-enum-known-check : tie.Need-enum-known-check
-enum-known-check c = search needs
-
-enum-told : tie.Need-enum-told
-enum-told c = search needs
-
-assign-fit-requires : tie.Need-assign-fit-requires
-assign-fit-requires c κs = sym (c .before .before .before .before .before .first-cause .ensures) ∙ c .before .before .before .enum-told .given .1
+enum-known-why : tie.Need-enum-known-why
+enum-known-why c = search needs
 
 returns : tie.Need-returns
 returns c =
     let a = c .before .before .before .before .before in
-    let f = c .before .before .before .first-cause in
-    let e = sym (assign-failed (P a) (B a) (sym (f .ensures) ∙ c .before .check .given .1)) in
-    (ap (λ (d : Done). d .answer) e, (ap (λ (d : Done). d .tableau) e, (ap (λ (d : Done). d .values) e, ap (λ (d : Done). d .strides) e)))
+    sym (assign-failed (P a) (B a) (sym (c .before .before .before .first-cause .ensures) ∙ c .before .why .given .1))
+
+enum-told : tie.Need-enum-told
+enum-told c = search needs
+
+mul-used : tie.Need-mul-used
+mul-used c = omega (arith, f c .few-columns)
+
+array-borrow-prefix-columns : tie.Need-array-borrow-prefix-columns
+array-borrow-prefix-columns c = omega (arith, f c .few-columns)
+
+slice-aggregate-pack : tie.Need-slice-aggregate-pack
+slice-aggregate-pack c = part-length (width * at (c .before) .args .p .columns) _ (omega (arith, f (c .before) .few-columns))
+
+pack-requires : tie.Need-pack-requires
+pack-requires c κs =
+    let s = at (c .before) in
+    let g = f (c .before) in
+    record {
+      room = sym (part-length (width * s .args .p .columns) _ (omega (arith, g .few-columns))) ∙ ap (λ (n : ℕ). width * n) (sym (g .lower-long));
+      upper-long = g .upper-long ∙ sym (g .lower-long);
+      goals-long = g .goals-long ∙ sym (g .lower-long);
+      goals-small = g .goals-small;
+    }
+
+array-borrow-prefix-start : tie.Need-array-borrow-prefix-start
+array-borrow-prefix-start c = f (c .before .before .before .before) .few-columns
+
+slice-aggregate-solve : tie.Need-slice-aggregate-solve
+slice-aggregate-solve c = sym (length-take-le _ _ (f (c .before .before .before .before .before) .few-columns))
+
+solve-requires : tie.Need-solve-requires
+solve-requires c κs =
+    let w = c .before .before .before .before .before in
+    let s = at w in
+    solvable (P s) (lentOf (B s)) (q w) (s .args .tableau .now) _ refl (length-take-le _ _ (f w .few-columns))
+
+enum-told-2 : tie.Need-enum-told-2
+enum-told-2 c = search needs
+
+enum-told-3 : tie.Need-enum-told-3
+enum-told-3 c = search needs
+
+enum-told-4 : tie.Need-enum-told-4
+enum-told-4 c = search needs
+
+array-share-prefix-columns : tie.Need-array-share-prefix-columns
+array-share-prefix-columns c = let k = c .before .before .before .before .before .before .before .before in part-fits (width * by k .args .p .columns) (k .pack .last .0) _ (wide k)
+
+slice-aggregate-finish : tie.Need-slice-aggregate-finish
+slice-aggregate-finish c = let k = c .before .before .before .before .before .before .before .before .before in sym (ap length (part-back (width * by k .args .p .columns) (k .pack .last .0) _ (wide k)) ∙ wide k)
+
+array-borrow-prefix-start-2 : tie.Need-array-borrow-prefix-start-2
+array-borrow-prefix-start-2 c = let v = c .before .before .before .before .before .before in part-fits (from v .args .p .columns) (v .solve .last .1 .1 .1 .1 .0) _ (long v)
+
+slice-aggregate-finish-2 : tie.Need-slice-aggregate-finish-2
+slice-aggregate-finish-2 c = let v = c .before .before .before .before .before .before .before in sym (ap length (part-back (from v .args .p .columns) (v .solve .last .1 .1 .1 .1 .0) _ (long v)) ∙ long v)
+
+finish-requires : tie.Need-finish-requires
+finish-requires c κs =
+    let v = c .before .before .before .before .before .before .before .before .before in
+    let r : Found ≡ solutionOf (solved (P (from v))) = sym (c .before .before .before .before .before .enum-told4 .given .1) ∙ v .solve .ensures .0 in
+    let x = some-is (solved (P (from v))) r in
+    finishing v r x _ _ (begins v r x _) (lent (c .before .before .before .before .before .before .before .before .before .before .before .before .before) _)
 
 same-length : tie.Need-same-length
 same-length c = search needs
 
+returns-2 : tie.Need-returns-2
+returns-2 c =
+    let v = c .before .before .before .before in
+    let s = from v in
+    let r : Over ≡ solutionOf (solved (P s)) = sym (c .enum-told2 .given .1) ∙ v .solve .ensures .0 in
+    ap (λ (t : List ℤ). refused Elimination t (B s)) (holds v (solution-over (solved (P s)) r)) ∙ sym (assign-over (P s) (B s) r) ∙ sym (assign-passed (P s) (B s) (passed (v .before .before .before .before .before .before)))
+
 same-length-2 : tie.Need-same-length-2
 same-length-2 c = search needs
+
+returns-3 : tie.Need-returns-3
+returns-3 c =
+    let v = c .before .before .before .before in
+    let s = from v in
+    let r : None ≡ solutionOf (solved (P s)) = sym (c .enum-told3 .given .1) ∙ v .solve .ensures .0 in
+    ap (λ (t : List ℤ). refused NoWholeNumbers t (B s)) (holds v (solution-none (solved (P s)) r)) ∙ sym (assign-none (P s) (B s) r) ∙ sym (assign-passed (P s) (B s) (passed (v .before .before .before .before .before .before)))
 
 same-length-3 : tie.Need-same-length-3
 same-length-3 c = search needs
 
-returns-2 : tie.Need-returns-2
-returns-2 c =
-    let g = c .before .before .before .before in
-    let f = g .before .before .before .before .before .before in
-    let a = f .before .before in
-    let e = sym (assign-passed (P a) (B a) (sym (f .first-cause .ensures) ∙ g .before .before .before .before .enum-told .given .1)) in
-    (g .assign-fit .ensures .0 ∙ ap (λ (d : Done). d .answer) e, (g .assign-fit .ensures .1 .0 ∙ ap (λ (d : Done). d .tableau) e, (g .assign-fit .ensures .1 .1 .0 ∙ ap (λ (d : Done). d .values) e, g .assign-fit .ensures .1 .1 .1 ∙ ap (λ (d : Done). d .strides) e)))
+same-length-4 : tie.Need-same-length-4
+same-length-4 c = search needs
+
+same-length-5 : tie.Need-same-length-5
+same-length-5 c = search needs
+
+returns-4 : tie.Need-returns-4
+returns-4 c =
+    let v = c .before .before .before .before .before .before .before .before .before .before .before .before .before .before in
+    let r : Found ≡ solutionOf (solved (P (from v))) = sym (c .before .before .before .before .before .before .before .before .before .before .enum-told4 .given .1) ∙ v .solve .ensures .0 in
+    let x = some-is (solved (P (from v))) r in
+    ap (doneWith (v .solve .last .0)) (c .before .before .before .before .finish .ensures) ∙ ending v r x _ _ (begins v r x _) (lent (c .before .before .before .before .before .before .before .before .before .before .before .before .before .before .before .before .before .before) _)
 
 pub assign-spec : {M : Type 1} → statement M
 assign-spec =
     tie.close
     (tie.spec
     first-cause-requires
-    enum-known-check
-    enum-told
-    assign-fit-requires
+    enum-known-why
     returns
+    enum-told
+    mul-used
+    array-borrow-prefix-columns
+    slice-aggregate-pack
+    pack-requires
+    array-borrow-prefix-start
+    slice-aggregate-solve
+    solve-requires
+    enum-told-2
+    enum-told-3
+    enum-told-4
+    array-share-prefix-columns
+    slice-aggregate-finish
+    array-borrow-prefix-start-2
+    slice-aggregate-finish-2
+    finish-requires
     same-length
+    returns-2
     same-length-2
+    returns-3
     same-length-3
-    returns-2)
+    same-length-4
+    same-length-5
+    returns-4)

@@ -1,9 +1,31 @@
--- `engine::continue_from` meets its contract: what the checks find decides, and the rest is a problem that they have passed. Assumes nothing.
-use mathlib.Core.Path.{_≡_, refl, sym, _∙_, ap}
-use Rattle.problem.specs.Checks.{Posed}
-use Rattle.engine.specs.Assign.{Buffers, Done, posed, buffers}
-use Rattle.engine.proofs.Assigning.{continue-failed, continue-passed}
+-- `engine::continue_from` meets its contract: what the checks find decides, and then 10, 7 and settling are the definition's cases. Assumes nothing.
+use mathlib.Core.Path.{_≡_, refl, sym, _∙_, ap, subst}
+use mathlib.Core.Bool.{Bool, true, false, not, cond}
+use mathlib.Core.List.{List, _++_}
+use Prim.Native.Nat.{ℕ, _*_}
+use native.Mathlib.Omega.{arith}
 use borrow.Author.Needs.{needs}
+use borrow.Author.Tests.{not-true, not-false}
+use lib.IntN.{ℤ}
+use lib.ListN.{length, take, drop}
+use Rattle.whole.specs.Lists.{zeros}
+use Rattle.lattice.specs.Rows.{flat}
+use Rattle.problem.specs.Limits.{anyBeyond}
+use Rattle.problem.specs.Checks.{Posed, firstCause}
+use Rattle.problem.specs.CheckLaws.{Passes, passes, Fits, fits, both-true}
+use Rattle.problem.specs.declared.Check.the-variants.{Passed}
+use Rattle.problem.specs.declared.Refusal.the-variants.{Elimination}
+use Rattle.tableau.specs.Within.{within-entry}
+use Rattle.settling.specs.Columns.{Columns, width, listed, columnsIn, packed}
+use Rattle.settling.specs.Parts.{part-length, part-back, part-fits}
+use Rattle.settling.proofs.Packing.{packed-length}
+use Rattle.engine.specs.Assign.{Buffers, posed, buffers, columns, lentOf, refused, stands, formed}
+use Rattle.engine.specs.Finish.{settledOver}
+use Rattle.engine.specs.Placed.{Placed}
+use Rattle.engine.proofs.Readiness.{table, table-columns}
+use Rattle.engine.proofs.Forming.{formable, Laid, laid-placed}
+use Rattle.engine.proofs.Keeping.{stands-in, standable}
+use Rattle.engine.proofs.Assigning.{doneWith, continue-failed, continue-passed, continue-off, continue-over, continue-settled}
 use Rattle.engine.proofs.continue_from.Statement.{statement}
 use Rattle.engine.proofs.continue_from.Tie as tie
 
@@ -14,27 +36,108 @@ module _ (a : tie.Start) where
   abbrev B : Buffers
   B = buffers (a .args .tableau .now) (a .args .values .now) (a .args .strides .now)
 
+-- a problem that the checks have passed
+module _ (w : tie.After-enum-told) where
+  abbrev at : tie.Start
+  at = w .before .before .before .before
+
+  passed : firstCause (P at) (lentOf (B at)) ≡ Passed
+  passed = sym (w .before .before .first-cause .ensures) ∙ w .enum-told .given .1
+
+  abbrev q : Passes (P at) (lentOf (B at))
+  q = passes (P at) (lentOf (B at)) passed
+
+  abbrev f : Fits (P at) (lentOf (B at))
+  f = fits (P at) (lentOf (B at)) q
+
+-- its columns, packed
+module _ (k : tie.After-pack) where
+  abbrev by : tie.Start
+  by = at (k .before .before)
+
+  is : k .pack .last .0 ≡ table (P by)
+  is = k .pack .ensures ∙ ap (λ (n : ℕ). packed (listed n (by .args .lower .now) (by .args .upper .now) (by .args .goals .now))) (f (k .before .before) .lower-long)
+
+  wide : length (k .pack .last .0) ≡ width * by .args .p .columns
+  wide = ap length is ∙ packed-length (columns (P by) .column) (by .args .p .columns) 0
+
+  -- lent again
+  lent : (t : List ℤ) → take (width * by .args .p .columns) (k .pack .last .0 ++ drop (width * by .args .p .columns) t) ≡ table (P by)
+  lent t = part-back (width * by .args .p .columns) (k .pack .last .0) t wide ∙ is
+
+-- what the test of the list says
+module _ (w : tie.After-stands) where
+  abbrev from : tie.Start
+  from = at (w .before .before .before .before .before)
+
+  standing : {t : Bool} → w .stands .result ≡ t → stands (P from) (from .args .values .now) ≡ t
+  standing e = sym (stands-in (P from) (from .args .values .now)) ∙ sym (w .stands .ensures) ∙ e
+
+-- what is left in the tableau, and that it is the form where the problem is not past the limit
+module _ (g : tie.After-form) where
+  abbrev behind : tie.Start
+  behind = from (g .before .before .before)
+
+  left : {o : Bool} → formed (P behind) .over ≡ o → g .form .last .0 ≡ cond o (zeros (length (behind .args .tableau .now))) (flat (formed (P behind) .table))
+  left e = g .form .ensures .1 ∙ ap (λ (t : Bool). cond t (zeros (length (behind .args .tableau .now))) (flat (formed (P behind) .table))) e
+
+  laid : formed (P behind) .over ≡ false → Laid (P behind) (lentOf (B behind)) (q (g .before .before .before .before .before .before .before .before)) (g .form .last .0)
+  laid e = record { is = left e; kept = e }
+
 first-cause-requires : tie.Need-first-cause-requires
 first-cause-requires c κs = search needs
 
-enum-known-check : tie.Need-enum-known-check
-enum-known-check c = search needs
-
-enum-told : tie.Need-enum-told
-enum-told c = search needs
-
-continue-fit-requires : tie.Need-continue-fit-requires
-continue-fit-requires c κs = sym (c .before .before .before .before .before .first-cause .ensures) ∙ c .before .before .before .enum-told .given .1
+enum-known-why : tie.Need-enum-known-why
+enum-known-why c = search needs
 
 returns : tie.Need-returns
 returns c =
     let a = c .before .before .before .before .before in
-    let f = c .before .before .before .first-cause in
-    let e = sym (continue-failed (P a) (B a) (sym (f .ensures) ∙ c .before .check .given .1)) in
-    (ap (λ (d : Done). d .answer) e, (ap (λ (d : Done). d .tableau) e, (ap (λ (d : Done). d .values) e, ap (λ (d : Done). d .strides) e)))
+    sym (continue-failed (P a) (B a) (sym (c .before .before .before .first-cause .ensures) ∙ c .before .why .given .1))
+
+enum-told : tie.Need-enum-told
+enum-told c = search needs
+
+mul-used : tie.Need-mul-used
+mul-used c = omega (arith, f c .few-columns)
+
+array-borrow-prefix-columns : tie.Need-array-borrow-prefix-columns
+array-borrow-prefix-columns c = omega (arith, f c .few-columns)
+
+slice-aggregate-pack : tie.Need-slice-aggregate-pack
+slice-aggregate-pack c = part-length (width * at (c .before) .args .p .columns) _ (omega (arith, f (c .before) .few-columns))
+
+pack-requires : tie.Need-pack-requires
+pack-requires c κs =
+    let s = at (c .before) in
+    let g = f (c .before) in
+    record {
+      room = sym (part-length (width * s .args .p .columns) _ (omega (arith, g .few-columns))) ∙ ap (λ (n : ℕ). width * n) (sym (g .lower-long));
+      upper-long = g .upper-long ∙ sym (g .lower-long);
+      goals-long = g .goals-long ∙ sym (g .lower-long);
+      goals-small = g .goals-small;
+    }
+
+stands-requires : tie.Need-stands-requires
+stands-requires c κs =
+    let w = c .before .before .before .before in
+    let s = at w in
+    standable (P s) (lentOf (B s)) (f w) (s .args .values .now) refl
 
 same-length : tie.Need-same-length
 same-length c = search needs
+
+returns-2 : tie.Need-returns-2
+returns-2 c =
+    let w = c .before in
+    let s = from w in
+    sym (continue-off (P s) (B s) (standing w (not-true _ (c .if1 .taken)))) ∙ sym (continue-passed (P s) (B s) (passed (w .before .before .before .before .before)))
+
+form-requires : tie.Need-form-requires
+form-requires c κs =
+    let w = c .before .before .before .before .before .before .before in
+    let s = at w in
+    formable (P s) (lentOf (B s)) (q w) (s .args .tableau .now) refl
 
 same-length-2 : tie.Need-same-length-2
 same-length-2 c = search needs
@@ -42,24 +145,80 @@ same-length-2 c = search needs
 same-length-3 : tie.Need-same-length-3
 same-length-3 c = search needs
 
-returns-2 : tie.Need-returns-2
-returns-2 c =
-    let g = c .before .before .before .before in
-    let f = g .before .before .before .before .before .before in
-    let a = f .before .before in
-    let e = sym (continue-passed (P a) (B a) (sym (f .first-cause .ensures) ∙ g .before .before .before .before .enum-told .given .1)) in
-    (g .continue-fit .ensures .0 ∙ ap (λ (d : Done). d .answer) e, (g .continue-fit .ensures .1 .0 ∙ ap (λ (d : Done). d .tableau) e, (g .continue-fit .ensures .1 .1 .0 ∙ ap (λ (d : Done). d .values) e, g .continue-fit .ensures .1 .1 .1 ∙ ap (λ (d : Done). d .strides) e)))
+returns-3 : tie.Need-returns-3
+returns-3 c =
+    let g = c .before .before in
+    let w = c .before .before .before .before .before in
+    let s = from w in
+    let o : formed (P s) .over ≡ true = sym (g .form .ensures .0) ∙ c .if2 .taken in
+    ap (λ (u : List ℤ). refused Elimination u (B s)) (left g o) ∙ sym (continue-over (P s) (B s) (standing w (not-false _ (c .before .before .before .before .if1 .left))) o)
+    ∙ sym (continue-passed (P s) (B s) (passed (w .before .before .before .before .before)))
+
+array-share-prefix-columns : tie.Need-array-share-prefix-columns
+array-share-prefix-columns c = let k = c .before .before .before .before .before .before .before .before in part-fits (width * by k .args .p .columns) (k .pack .last .0) _ (wide k)
+
+slice-aggregate-settle-over : tie.Need-slice-aggregate-settle-over
+slice-aggregate-settle-over c = let k = c .before .before .before .before .before .before .before .before .before in sym (ap length (part-back (width * by k .args .p .columns) (k .pack .last .0) _ (wide k)) ∙ wide k)
+
+settle-over-requires : tie.Need-settle-over-requires
+settle-over-requires c κs =
+    let g = c .before .before .before .before .before .before in
+    let w = c .before .before .before .before .before .before .before .before .before in
+    let k = c .before .before .before .before .before .before .before .before .before .before .before .before in
+    let s = from w in
+    let e = standing w (not-false _ (c .before .before .before .before .before .before .before .before .if1 .left)) in
+    let o : formed (P s) .over ≡ false = sym (g .form .ensures .0) ∙ c .before .before .before .before .if2 .left in (
+      subst (λ (l : List ℤ). Placed (s .args .p) (g .form .last .0) (s .args .values .now) l) (sym (lent k _))
+          (laid-placed (P s) (lentOf (B s)) (q (w .before .before .before .before .before)) (laid g o) (s .args .values .now) (f (w .before .before .before .before .before) .values-long)
+          (λ j. within-entry (s .args .values .now) j (not-true _ (both-true (not (anyBeyond (s .args .values .now))) _ e .0)))),
+      record { long = f (w .before .before .before .before .before) .strides-long },
+    )
+
+same-length-4 : tie.Need-same-length-4
+same-length-4 c = search needs
+
+same-length-5 : tie.Need-same-length-5
+same-length-5 c = search needs
+
+same-length-6 : tie.Need-same-length-6
+same-length-6 c = search needs
+
+returns-4 : tie.Need-returns-4
+returns-4 c =
+    let g = c .before .before .before .before .before .before .before .before .before .before in
+    let w = c .before .before .before .before .before .before .before .before .before .before .before .before .before in
+    let k = c .before .before .before .before .before .before .before .before .before .before .before .before .before .before .before .before in
+    let s = from w in
+    let o : formed (P s) .over ≡ false = sym (g .form .ensures .0) ∙ c .before .before .before .before .before .before .before .before .if2 .left in
+    ap (doneWith (g .form .last .0))
+    (c .before .before .before .settle-over .ensures
+    ∙ ap (λ (C : Columns). settledOver (s .args .p) C (g .form .last .0) (s .args .values .now)) (ap (columnsIn (s .args .p .columns)) (lent k _) ∙ table-columns (P s) (lentOf (B s)) (f (w .before .before .before .before .before))))
+    ∙ sym (continue-settled (P s) (B s) (lentOf (B s)) (q (w .before .before .before .before .before)) (laid g o) (standing w (not-false _ (c .before .before .before .before .before .before .before .before .before .before .before .before .if1 .left))))
+    ∙ sym (continue-passed (P s) (B s) (passed (w .before .before .before .before .before)))
 
 pub continue-from-spec : {M : Type 1} → statement M
 continue-from-spec =
     tie.close
     (tie.spec
     first-cause-requires
-    enum-known-check
-    enum-told
-    continue-fit-requires
+    enum-known-why
     returns
+    enum-told
+    mul-used
+    array-borrow-prefix-columns
+    slice-aggregate-pack
+    pack-requires
+    stands-requires
     same-length
+    returns-2
+    form-requires
     same-length-2
     same-length-3
-    returns-2)
+    returns-3
+    array-share-prefix-columns
+    slice-aggregate-settle-over
+    settle-over-requires
+    same-length-4
+    same-length-5
+    same-length-6
+    returns-4)

@@ -20,7 +20,7 @@ number-requires c κs = search needs
 returns : tie.Need-returns
 returns c =
     let a = c .before .before .before .before in
-    is-untold (B a) (a .args .report .now) (continue (P a) (B a)) _ (c .before .if1 .taken) (c .number .ensures)
+    is-untold continue (P a) (B a) (a .args .report .now) _ (c .before .if1 .taken) (c .number .ensures)
 
 continue-from-requires : tie.Need-continue-from-requires
 continue-from-requires c κs = search needs
@@ -47,8 +47,8 @@ returns-2 : tie.Need-returns-2
 returns-2 c =
     let a = c .before .before .before .before .before .before .before .before .before .before .before .before .before .before .before .before in
     let e = c .before .before .before .before .before .before .before .before .before .continue-from in
-    is-told (B a) (a .args .report .now) (continue (P a) (B a)) (e .result) _ _ _ _ _ (c .before .before .before .before .before .before .before .before .before .before .before .before .before .if1 .left)
-    (e .ensures .0) (e .ensures .1 .0) (e .ensures .1 .1 .0) (e .ensures .1 .1 .1) (c .before .before .before .tell .ensures) (c .number2 .ensures)
+    is-told continue (P a) (B a) (a .args .report .now) (e .result) _ _ _ _ _ (c .before .before .before .before .before .before .before .before .before .before .before .before .before .if1 .left)
+    (e .ensures) (c .before .before .before .tell .ensures) (c .number2 .ensures)
 
 pub koralimbu-continue-spec : {M : Type 1} → statement M
 koralimbu-continue-spec =

@@ -1,6 +1,6 @@
 -- `link::tell` meets its contract: the three numbers are stored in their order. Assumes nothing.
-use mathlib.Core.Path.{_∙_, ap, ap₂}
-use mathlib.Core.List.{List, [], _∷_}
+use mathlib.Core.Path.{_∙_, ap₂}
+use mathlib.Core.List.{[], _∷_}
 use Prim.Native.Nat.{ℕ}
 use Rattle.problem.specs.declared.Counts.{Counts}
 use Rattle.link.proofs.Telling.{stored}

@@ -33,6 +33,9 @@ verdict-length-requires-3 c κs = search needs
 enum-known-answer-4 : tie.Need-enum-known-answer-4
 enum-known-answer-4 c = search needs
 
+number-requires : tie.Need-number-requires
+number-requires c κs = search needs
+
 refusal-length-requires : tie.Need-refusal-length-requires
 refusal-length-requires c κs = search needs
 
@@ -46,7 +49,7 @@ returns-3 : tie.Need-returns-3
 returns-3 c = rw (c .before .before .before .answer3 .given .1) (c .verdict-length3 .ensures)
 
 returns-4 : tie.Need-returns-4
-returns-4 c = search needs
+returns-4 c = rw (c .before .before .before .answer4 .given .1) (rw (c .before .number .ensures) at (c .refusal-length .ensures))
 
 pub headline-length-spec : {M : Type 1} → statement M
 headline-length-spec =
@@ -62,6 +65,7 @@ headline-length-spec =
     slice-aggregate-verdict-length-3
     verdict-length-requires-3
     enum-known-answer-4
+    number-requires
     refusal-length-requires
     returns
     returns-2

@@ -33,8 +33,11 @@ put-verdict-requires-3 c κs = rw (c .before .before .before .answer3 .given .1)
 enum-known-answer-4 : tie.Need-enum-known-answer-4
 enum-known-answer-4 c = search needs
 
+number-requires : tie.Need-number-requires
+number-requires c κs = search needs
+
 put-refusal-requires : tie.Need-put-refusal-requires
-put-refusal-requires c κs = rw (c .before .before .answer4 .given .1) at (c .before .before .before .before .before .pre)
+put-refusal-requires c κs = rw (c .number .ensures) (rw (c .before .before .before .answer4 .given .1) at (c .before .before .before .before .before .before .pre))
 
 same-length : tie.Need-same-length
 same-length c = search needs
@@ -58,7 +61,7 @@ same-length-4 : tie.Need-same-length-4
 same-length-4 c = search needs
 
 returns-4 : tie.Need-returns-4
-returns-4 c = rw (c .before .before .before .before .before .answer4 .given .1) (c .before .before .put-refusal .ensures)
+returns-4 c = rw (c .before .before .before .before .before .before .answer4 .given .1) (rw (c .before .before .before .number .ensures) at (c .before .before .put-refusal .ensures))
 
 pub put-headline-spec : {M : Type 1} → statement M
 put-headline-spec =
@@ -74,6 +77,7 @@ put-headline-spec =
     slice-aggregate-put-verdict-3
     put-verdict-requires-3
     enum-known-answer-4
+    number-requires
     put-refusal-requires
     same-length
     returns

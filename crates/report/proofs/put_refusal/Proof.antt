@@ -1,15 +1,14 @@
--- `report::put_refusal` meets its contract: number 8 is NONE, and any other follows REFUSED. Assumes nothing.
+-- `report::put_refusal` meets its contract: the number of NoWholeNumbers is NONE, and any other follows REFUSED. Assumes nothing.
 use mathlib.Core.Path.{ap, sym, _∙_}
 use mathlib.Core.List.{List, _++_}
 use Prim.Native.Nat.{ℕ, _+_, _≤_}
 use native.Mathlib.Omega.{arith}
-use borrow.Author.Needs.{needs}
 use lib.ListN.{length}
 use Rattle.text.specs.Decimals.{natural}
-use Rattle.problem.specs.Answers.{refusalNumber}
 use Rattle.report.specs.Listing.{REFUSED, field, lineEnd, numbered}
 use Rattle.text.proofs.Copying.{room-first, room-next, wrote-both}
 use Rattle.report.proofs.Laws.{refusal-none, refusal-other}
+use borrow.Author.Needs.{needs}
 use Rattle.report.proofs.put_refusal.Statement.{statement}
 use Rattle.report.proofs.put_refusal.Tie as tie
 
@@ -21,7 +20,7 @@ slice-aggregate-put c = search needs
 
 put-requires : tie.Need-put-requires
 put-requires c κs =
-    let w = refusal-none (c .before .before .before .before .before .args .why) (sym (c .before .before .before .number .ensures) ∙ c .before .before .if1 .taken) in
+    let w = refusal-none (c .before .before .before .before .before .args .number) (c .before .before .if1 .taken ∙ c .before .before .before .number .ensures) in
     omega (arith, ap length w, c .before .before .before .before .before .pre)
 
 same-length : tie.Need-same-length
@@ -29,7 +28,7 @@ same-length c = search needs
 
 returns : tie.Need-returns
 returns c =
-    let w = refusal-none (c .before .before .before .before .before .before .before .before .args .why) (sym (c .before .before .before .before .before .before .number .ensures) ∙ c .before .before .before .before .before .if1 .taken) in
+    let w = refusal-none (c .before .before .before .before .before .before .before .before .args .number) (c .before .before .before .before .before .if1 .taken ∙ c .before .before .before .before .before .before .number .ensures) in
     rw w (c .before .before .put .ensures)
 
 slice-aggregate-put-2 : tie.Need-slice-aggregate-put-2
@@ -38,21 +37,17 @@ slice-aggregate-put-2 c = search needs
 put-requires-2 : tie.Need-put-requires-2
 put-requires-2 c κs =
     let x = c .before .before .before .before .before .args in
-    let w = refusal-other (x .why) (λ h. c .before .before .if1 .left (c .before .before .before .number .ensures ∙ h)) in
-    let h : 0 + length (numbered (x .why)) ≤ length (x .out .now) = omega (arith, ap length w, c .before .before .before .before .before .pre) in
-    room-first _ 0 REFUSED (field (natural (refusalNumber (x .why))) ++ lineEnd) h
-
-cast-put-field : tie.Need-cast-put-field
-cast-put-field c = search needs
+    let w = refusal-other (x .number) (λ h. c .before .before .if1 .left (h ∙ sym (c .before .before .before .number .ensures))) in
+    let h : 0 + length (numbered (x .number)) ≤ length (x .out .now) = omega (arith, ap length w, c .before .before .before .before .before .pre) in
+    room-first _ 0 REFUSED (field (natural (x .number)) ++ lineEnd) h
 
 put-field-requires : tie.Need-put-field-requires
 put-field-requires c κs =
     let x = c .before .before .before .before .before .before .before .before .before .args in
-    let w = refusal-other (x .why) (λ h. c .before .before .before .before .before .before .if1 .left (c .before .before .before .before .before .before .before .number .ensures ∙ h)) in
-    let h : 0 + length (numbered (x .why)) ≤ length (x .out .now) = omega (arith, ap length w, c .before .before .before .before .before .before .before .before .before .pre) in
-    let k : List ℕ = field (natural (refusalNumber (x .why))) in
-    let r = room-next REFUSED (k ++ lineEnd) (c .before .before .before .put2 .ensures) h in
-    rw (c .before .before .before .before .before .before .before .number .ensures) (room-first _ _ k lineEnd r)
+    let w = refusal-other (x .number) (λ h. c .before .before .before .before .before .before .if1 .left (h ∙ sym (c .before .before .before .before .before .before .before .number .ensures))) in
+    let h : 0 + length (numbered (x .number)) ≤ length (x .out .now) = omega (arith, ap length w, c .before .before .before .before .before .before .before .before .before .pre) in
+    let k : List ℕ = field (natural (x .number)) in
+    room-first _ _ k lineEnd (room-next REFUSED (k ++ lineEnd) (c .before .before .before .put2 .ensures) h)
 
 slice-aggregate-put-3 : tie.Need-slice-aggregate-put-3
 slice-aggregate-put-3 c = search needs
@@ -60,11 +55,10 @@ slice-aggregate-put-3 c = search needs
 put-requires-3 : tie.Need-put-requires-3
 put-requires-3 c κs =
     let x = c .before .before .before .before .before .before .before .before .before .before .before .before .before .before .args in
-    let w = refusal-other (x .why) (λ h. c .before .before .before .before .before .before .before .before .before .before .before .if1 .left (c .before .before .before .before .before .before .before .before .before .before .before .before .number .ensures ∙ h)) in
-    let h : 0 + length (numbered (x .why)) ≤ length (x .out .now) = omega (arith, ap length w, c .before .before .before .before .before .before .before .before .before .before .before .before .before .before .pre) in
-    let k : List ℕ = field (natural (refusalNumber (x .why))) in
-    let r = room-next REFUSED (k ++ lineEnd) (c .before .before .before .before .before .before .before .before .put2 .ensures) h in
-    room-next k lineEnd (rw (c .before .before .before .before .before .before .before .before .before .before .before .before .number .ensures) at (c .before .before .before .before .put-field .ensures)) r
+    let w = refusal-other (x .number) (λ h. c .before .before .before .before .before .before .before .before .before .before .before .if1 .left (h ∙ sym (c .before .before .before .before .before .before .before .before .before .before .before .before .number .ensures))) in
+    let h : 0 + length (numbered (x .number)) ≤ length (x .out .now) = omega (arith, ap length w, c .before .before .before .before .before .before .before .before .before .before .before .before .before .before .pre) in
+    let k : List ℕ = field (natural (x .number)) in
+    room-next k lineEnd (c .before .before .before .before .put-field .ensures) (room-next REFUSED (k ++ lineEnd) (c .before .before .before .before .before .before .before .before .put2 .ensures) h)
 
 same-length-2 : tie.Need-same-length-2
 same-length-2 c = search needs
@@ -72,11 +66,11 @@ same-length-2 c = search needs
 returns-2 : tie.Need-returns-2
 returns-2 c =
     let x = c .before .before .before .before .before .before .before .before .before .before .before .before .before .before .before .before .before .args in
-    let w = refusal-other (x .why) (λ h. c .before .before .before .before .before .before .before .before .before .before .before .before .before .before .if1 .left (c .before .before .before .before .before .before .before .before .before .before .before .before .before .before .before .number .ensures ∙ h)) in
-    let h : 0 + length (numbered (x .why)) ≤ length (x .out .now) = omega (arith, ap length w, c .before .before .before .before .before .before .before .before .before .before .before .before .before .before .before .before .before .pre) in
-    let k : List ℕ = field (natural (refusalNumber (x .why))) in
+    let w = refusal-other (x .number) (λ h. c .before .before .before .before .before .before .before .before .before .before .before .before .before .before .if1 .left (h ∙ sym (c .before .before .before .before .before .before .before .before .before .before .before .before .before .before .before .number .ensures))) in
+    let h : 0 + length (numbered (x .number)) ≤ length (x .out .now) = omega (arith, ap length w, c .before .before .before .before .before .before .before .before .before .before .before .before .before .before .before .before .before .pre) in
+    let k : List ℕ = field (natural (x .number)) in
     let r = room-next REFUSED (k ++ lineEnd) (c .before .before .before .before .before .before .before .before .before .before .before .put2 .ensures) h in
-    rw w (wrote-both REFUSED (k ++ lineEnd) (c .before .before .before .before .before .before .before .before .before .before .before .put2 .ensures) (wrote-both k lineEnd (rw (c .before .before .before .before .before .before .before .before .before .before .before .before .before .before .before .number .ensures) at (c .before .before .before .before .before .before .before .put-field .ensures)) (c .before .before .put3 .ensures) r) h)
+    rw w (wrote-both REFUSED (k ++ lineEnd) (c .before .before .before .before .before .before .before .before .before .before .before .put2 .ensures) (wrote-both k lineEnd (c .before .before .before .before .before .before .before .put-field .ensures) (c .before .before .put3 .ensures) r) h)
 
 pub put-refusal-spec : {M : Type 1} → statement M
 put-refusal-spec =
@@ -89,7 +83,6 @@ put-refusal-spec =
     returns
     slice-aggregate-put-2
     put-requires-2
-    cast-put-field
     put-field-requires
     slice-aggregate-put-3
     put-requires-3

@@ -1,4 +1,5 @@
 -- `report::refusal_length` meets its contract: what is written into a buffer that has room is as long as the definition's. Assumes nothing.
+use native.Mathlib.Omega.{arith}
 use borrow.Author.Needs.{needs}
 use Rattle.report.proofs.Laws.{length-refusal}
 use Rattle.report.proofs.refusal_length.Statement.{statement}
@@ -8,7 +9,7 @@ slice-aggregate-put-refusal : tie.Need-slice-aggregate-put-refusal
 slice-aggregate-put-refusal c = search needs
 
 put-refusal-requires : tie.Need-put-refusal-requires
-put-refusal-requires c κs = length-refusal (c .before .args .why)
+put-refusal-requires c κs = length-refusal (c .before .args .number) (omega arith)
 
 returns : tie.Need-returns
 returns c = search needs

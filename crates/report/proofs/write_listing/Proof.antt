@@ -1,5 +1,5 @@
 -- `report::write_listing` meets its contract: nothing is written before the whole listing is known to fit. Assumes nothing.
-use mathlib.Core.Path.{_≡_, refl, sym, ap, _∙_}
+use mathlib.Core.Path.{_≡_, sym, ap, _∙_}
 use mathlib.Core.List.{List, _++_}
 use Prim.Native.Nat.{ℕ, _+_, _≤_}
 use native.Mathlib.Omega.{arith}
@@ -23,7 +23,7 @@ returns : tie.Need-returns
 returns c =
     let x = c .before .before .before .before .before .args in
     let a = write-uneven (x .out .now) (x .answer) (x .values .now) (x .strides .now) (λ h. c .if1 .taken (c .before .lines-of2 .ensures ∙ (h ∙ sym (c .before .before .lines-of .ensures)))) in
-    rw a (refl, refl)
+    sym a
 
 headline-length-requires : tie.Need-headline-length-requires
 headline-length-requires c κs = search needs
@@ -35,7 +35,7 @@ returns-2 c =
     let q : linesOf (x .answer) (length (x .strides .now)) ≡ n = sym (c .before .before .before .lines-of2 .ensures) ∙ c .before .before .if1 .left in
     let l = listing-length (x .answer) (x .values .now) (x .strides .now) n (c .before .before .before .before .lines-of .ensures) q in
     let a = write-short (x .out .now) (x .answer) (x .values .now) (x .strides .now) (q ∙ c .before .before .before .before .lines-of .ensures) (omega (arith, c .if2 .taken, c .before .headline-length .ensures)) in
-    rw a (refl, refl)
+    sym a
 
 sub-lines-fit : tie.Need-sub-lines-fit
 sub-lines-fit c = search needs
@@ -64,7 +64,7 @@ returns-3 c =
     let l = listing-length (x .answer) (x .values .now) (x .strides .now) n (c .before .before .before .before .before .before .before .before .lines-of .ensures) q in
     let f = leb-false (length (linesFrom 0 (take n (x .values .now)) (take n (x .strides .now)))) _ (sym (c .before .lines-fit .ensures) ∙ not-true _ (c .if3 .taken)) in
     let a = write-short (x .out .now) (x .answer) (x .values .now) (x .strides .now) (q ∙ c .before .before .before .before .before .before .before .before .lines-of .ensures) (omega (arith, c .before .before .before .before .if2 .left, c .before .before .before .before .before .headline-length .ensures)) in
-    rw a (refl, refl)
+    sym a
 
 put-headline-requires : tie.Need-put-headline-requires
 put-headline-requires c κs = search needs
@@ -107,7 +107,7 @@ returns-4 c =
     let r : 0 + length (headline (x .answer) ++ t) ≤ length (x .out .now) = omega (arith, c .before .before .before .before .before .before .before .before .before .before .before .before .before .before .if2 .left, c .before .before .before .before .before .before .before .before .before .before .before .before .before .before .before .headline-length .ensures) in
     let w : Wrote (x .out .now) 0 (listing (x .answer) (x .values .now) (x .strides .now)) (c .before .before .put-lines .result) (c .before .before .put-lines .last .0) = rw s (wrote-both (headline (x .answer)) t (c .before .before .before .before .before .before .before .before .put-headline .ensures) (c .before .before .put-lines .ensures) r) in
     let a = write-done (x .out .now) (x .answer) (x .values .now) (x .strides .now) _ _ (q ∙ c .before .before .before .before .before .before .before .before .before .before .before .before .before .before .before .before .before .before .lines-of .ensures) (omega arith) w in
-    rw a (refl, refl)
+    sym a
 
 pub write-listing-spec : {M : Type 1} → statement M
 write-listing-spec =

@@ -3,16 +3,16 @@
 use mathlib.Core.Path.{_≡_, sym, _∙_, ap}
 use mathlib.Core.Bool.{false}
 use mathlib.Core.List.{List}
-use Prim.Native.Nat.{ℕ, _-_}
+use Prim.Native.Nat.{ℕ}
 use native.Mathlib.Omega.{arith}
 use lib.IntN.{ℤ}
 use lib.ListN.{length, drop, length-drop}
 use Rattle.lattice.specs.Rows.{chop}
 use Rattle.lattice.proofs.Parts.{tail-is}
 use Rattle.tableau.specs.RightSide.{Solved, rightSide}
-use Rattle.rightside.specs.Solutions.{solutionOf}
+use Rattle.rightside.specs.Solutions.{solutionOf, Righted}
 use Rattle.rightside.specs.Halves.{foundOf}
-use Rattle.rightside.proofs.Answers.{work-wide, list-wide, list-small, found-is, start-over, start-none, start-found}
+use Rattle.rightside.proofs.Answers.{work-wide, list-wide, list-small, found-is, righted-starts, start-over, start-none, start-found}
 use borrow.Author.Needs.{needs}
 use Rattle.rightside.proofs.find.Statement.{statement}
 use Rattle.rightside.proofs.find.Tie as tie
@@ -31,7 +31,7 @@ told :
     (c : tie.After-right-side) →
     let a = c .before .before .before .before .before .args in
     c .right-side .result ≡ solutionOf (foundOf (a .p) (a .t .now) (a .rights .now))
-told c = c .right-side .ensures .answer ∙ ap solutionOf (same c)
+told c = ap (λ (x : Righted). x .answer) (c .right-side .ensures) ∙ ap solutionOf (same c)
 
 turn-over-requires : tie.Need-turn-over-requires
 turn-over-requires c κs = (omega (arith, work-wide (c .before .pre), c .before .pre .right), c .before .pre .small)
@@ -98,7 +98,7 @@ returns-3 c =
     let m : ℕ = c .before .before .before .before .before .before .before .before .before .before .before .before .before .args .p .rows in
     let u : List ℤ = c .before .before .before .before .before .before .before .before .right-side .last .0 in (
       e,
-      c .before .copy .ensures ∙ tail-is m u ∙ sym (start-found (foundOf (c .before .before .before .before .before .before .before .before .before .before .before .before .before .args .p) (c .before .before .before .before .before .before .before .before .before .before .before .before .before .args .t .now) (c .before .before .before .before .before .before .before .before .before .before .before .before .before .args .rights .now)) (c .before .before .before .before .before .before .before .before .before .before .before .before .before .args .start .now) (drop m u) _ e (ap (λ (x : Solved). x .found) (sym (same n)) ∙ c .before .before .before .before .before .before .before .before .right-side .ensures .start (c .before .before .before .before .before .enum-told3 .given .1))),
+      c .before .copy .ensures ∙ tail-is m u ∙ sym (start-found (foundOf (c .before .before .before .before .before .before .before .before .before .before .before .before .before .args .p) (c .before .before .before .before .before .before .before .before .before .before .before .before .before .args .t .now) (c .before .before .before .before .before .before .before .before .before .before .before .before .before .args .rights .now)) (c .before .before .before .before .before .before .before .before .before .before .before .before .before .args .start .now) (drop m u) _ e (ap (λ (x : Solved). x .found) (sym (same n)) ∙ righted-starts _ _ _ (rw (c .before .before .before .before .before .enum-told3 .given .1) at (c .before .before .before .before .before .before .before .before .right-side .ensures)))),
     )
 
 pub find-spec : {M : Type 1} → statement M

@@ -7,12 +7,12 @@ use borrow.Author.Tests.{not-true, not-false}
 use lib.IntN.{ℤ}
 use lib.ListN.{length, take}
 use lib.Seq.{length-take-le}
+use Rattle.whole.specs.Lists.{zeros}
 use Rattle.lattice.specs.Rows.{allZero, chop}
 use Rattle.tableau.specs.Within.{Within}
-use Rattle.tableau.specs.RightSide.{sweep, leading}
+use Rattle.tableau.specs.RightSide.{sweep, leading, remaining}
 use Rattle.rightside.specs.Halves.{Swept}
-use Rattle.rightside.specs.declared.Half.the-variants.{Remaining}
-use Rattle.rightside.proofs.Sweeping.{sweep-within}
+use Rattle.rightside.proofs.Sweeping.{over-left, kept-left, sweep-wide, sweep-within}
 use Rattle.rightside.proofs.Answers.{righted-over, righted-none, righted-late, righted-found}
 use borrow.Author.Needs.{needs}
 use Rattle.rightside.proofs.right_side.Statement.{statement}
@@ -30,7 +30,7 @@ module _ (c : tie.Else1) where
   unmarked = sym (c .before .before .sweep .ensures .answer) ∙ c .if1 .left
 
   left-is : c .before .before .sweep .last .0 ≡ sweep (leading (s-of .args .m) (T-of s-of)) (s-of .args .v .now) .row
-  left-is = c .before .before .sweep .ensures .left (c .if1 .left)
+  left-is = kept-left (rw (c .if1 .left) at (c .before .before .sweep .ensures))
 
 -- the first m numbers are 0
 zero :
@@ -46,11 +46,12 @@ late :
     (c : tie.After-sweep2) →
     let n = c .before .before .before .before .before in
     let s = s-of n in
-    Swept Remaining (s .args .m) (T-of s) (sweep (leading (s .args .m) (T-of s)) (s .args .v .now) .row) (c .sweep2 .result) (c .sweep2 .last .0)
+    let l : List ℤ = sweep (leading (s .args .m) (T-of s)) (s .args .v .now) .row in
+    Swept (sweep (remaining (s .args .m) (T-of s)) l) l (c .sweep2 .result) (c .sweep2 .last .0)
 late c =
     let n = c .before .before .before .before .before in
     let s = s-of n in
-    subst (λ (l : List ℤ). Swept Remaining (s .args .m) (T-of s) l (c .sweep2 .result) (c .sweep2 .last .0)) (left-is n)
+    subst (λ (l : List ℤ). Swept (sweep (remaining (s .args .m) (T-of s)) l) l (c .sweep2 .result) (c .sweep2 .last .0)) (left-is n)
     (rw (n .before .before .sweep .kept .0) at (c .sweep2 .ensures))
 
 sweep-requires : tie.Need-sweep-requires
@@ -62,7 +63,7 @@ same-length c = search needs
 returns : tie.Need-returns
 returns c =
     let s = c .before .before .before .before in
-    righted-over (s .args .m) (T-of s) (s .args .v .now) (c .before .before .sweep .last .0) (sym (c .before .before .sweep .ensures .answer) ∙ c .if1 .taken)
+    righted-over (s .args .m) (T-of s) (s .args .v .now) (sym (c .before .before .sweep .ensures .answer) ∙ c .if1 .taken) (over-left (rw (c .if1 .taken) at (c .before .before .sweep .ensures)))
 
 slice-reshare-prefix-all-zero : tie.Need-slice-reshare-prefix-all-zero
 slice-reshare-prefix-all-zero c = search needs
@@ -79,8 +80,8 @@ same-length-2 c = search needs
 returns-2 : tie.Need-returns-2
 returns-2 c =
     let n = c .before .before .before in
-    righted-none (c .before .before .before .before .before .before .before .args .m) (T-of (s-of n)) (c .before .before .before .before .before .before .before .args .v .now) (c .before .before .before .before .before .sweep .last .0) (unmarked n)
-    (ap (λ (l : List ℤ). allZero (take (c .before .before .before .before .before .before .before .args .m) l)) (sym (left-is n)) ∙ sym (c .before .all-zero .ensures) ∙ not-true _ (c .if2 .taken))
+    righted-none (c .before .before .before .before .before .before .before .args .m) (T-of (s-of n)) (c .before .before .before .before .before .before .before .args .v .now) (unmarked n)
+    (ap (λ (l : List ℤ). allZero (take (c .before .before .before .before .before .before .before .args .m) l)) (sym (left-is n)) ∙ sym (c .before .all-zero .ensures) ∙ not-true _ (c .if2 .taken)) (left-is n)
 
 sweep-requires-2 : tie.Need-sweep-requires-2
 sweep-requires-2 c κs =
@@ -94,7 +95,10 @@ same-length-3 c = search needs
 returns-3 : tie.Need-returns-3
 returns-3 c =
     let n = c .before .before .before .before .before .before .before in
-    righted-late (c .before .before .before .before .before .before .before .before .before .before .before .args .m) (T-of (s-of n)) (c .before .before .before .before .before .before .before .before .before .before .before .args .v .now) (c .before .before .sweep2 .last .0) (unmarked n) (zero (c .before .before .before .before)) (sym (late (c .before .before) .answer) ∙ c .if3 .taken)
+    let s = s-of n in
+    let o = late (c .before .before) in
+    righted-late (s .args .m) (T-of s) (s .args .v .now) (unmarked n) (zero (c .before .before .before .before)) (sym (o .answer) ∙ c .if3 .taken)
+    (over-left (rw (c .if3 .taken) at o) ∙ ap zeros (sweep-wide (leading (s .args .m) (T-of s)) (s .args .v .now)))
 
 same-length-4 : tie.Need-same-length-4
 same-length-4 c = search needs
@@ -102,8 +106,10 @@ same-length-4 c = search needs
 returns-4 : tie.Need-returns-4
 returns-4 c =
     let n = c .before .before .before .before .before .before .before in
+    let s = s-of n in
     let o = late (c .before .before) in
-    righted-found (c .before .before .before .before .before .before .before .before .before .before .before .args .m) (T-of (s-of n)) (c .before .before .before .before .before .before .before .before .before .before .before .args .v .now) (c .before .before .sweep2 .last .0) (unmarked n) (zero (c .before .before .before .before)) (sym (o .answer) ∙ c .if3 .left) (o .left (c .if3 .left))
+    righted-found (s .args .m) (T-of s) (s .args .v .now) (unmarked n) (zero (c .before .before .before .before)) (sym (o .answer) ∙ c .if3 .left)
+    (kept-left (rw (c .if3 .left) at o))
 
 pub right-side-spec : {M : Type 1} → statement M
 right-side-spec =

@@ -6,6 +6,7 @@ use native.Mathlib.Omega.{arith}
 use lib.Seq.{length-take-le}
 use Rattle.whole.specs.Lists.{zeros}
 use Rattle.lattice.specs.Rows.{flat}
+use Rattle.tableau.specs.Table.{maxWidth}
 use Rattle.tableau.specs.RightSide.{Solved}
 use Rattle.rightside.specs.Solutions.{solvedOf, solutionOf, startAfter}
 use Rattle.tableau.specs.Buffers.{formOf}
@@ -77,7 +78,7 @@ slice-aggregate-find : tie.Need-slice-aggregate-find
 slice-aggregate-find c = sym (length-take-le (c .before .before .before .before .before .before .args .p .rows + c .before .before .before .before .before .before .args .p .columns) _ (omega (arith, c .before .before .before .before .before .before .pre .form .columns, c .before .before .before .before .before .before .pre .form .rows)))
 
 find-requires : tie.Need-find-requires
-find-requires c κs = findable 96 (c .before .before .before .before .before .before .before .before .pre) (omega (arith, c .before .before .before .before .before .before .before .before .pre .form .columns, c .before .before .before .before .before .before .before .before .pre .form .rows)) (c .before .before .before .before .before .before .form .kept .0) (stands (c .before .before .before .before))
+find-requires c κs = findable maxWidth (c .before .before .before .before .before .before .before .before .pre) (omega (arith, c .before .before .before .before .before .before .before .before .pre .form .columns, c .before .before .before .before .before .before .before .before .pre .form .rows)) (c .before .before .before .before .before .before .form .kept .0) (stands (c .before .before .before .before))
 
 enum-told : tie.Need-enum-told
 enum-told c = search needs

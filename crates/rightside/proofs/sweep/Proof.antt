@@ -1,15 +1,13 @@
 -- `rightside::sweep` meets its contract: the rows are taken from the top, and what is left to take from v is what was to take at first.
 -- Assumes nothing.
-use mathlib.Core.Path.{sym, _∙_}
-use mathlib.Core.Bool.{true≢false}
-use Prim.Native.Nat.{ℕ, _-_}
+use mathlib.Core.Path.{refl, sym, _∙_}
+use Prim.Native.Nat.{ℕ}
 use native.Mathlib.Omega.{arith}
 use lib.ListN.{length, drop}
 use Rattle.lattice.proofs.Parts.{part-is}
 use Rattle.tableau.specs.Elimination.{Left}
 use Rattle.tableau.specs.Within.{within-take, within-drop}
-use Rattle.tableau.specs.Steps.{Stops}
-use Rattle.rightside.specs.Halves.{ownStep}
+use Rattle.rightside.specs.Halves.{ownStep, Swept}
 use Rattle.rightside.proofs.Sweeping.{Sweeps, starts, goes-on, stops, ends, ahead, row, row-wide, row-leads}
 use Rattle.rightside.proofs.sweep.Statement.{statement}
 use Rattle.rightside.proofs.sweep.Tie as tie
@@ -26,7 +24,7 @@ told :
     let a = c .before .before .before .before .before .args in
     let l = c .before .before .before .before .loop in
     let f : Left = ownStep (a .half) (a .m) (row (l .inv) (c .before .before .before .loop-test .taken)) (l .v) in
-    Stops (f .over) (f .row) (c .sweep-row .result) (c .sweep-row .last .0)
+    Swept f (l .v) (c .sweep-row .result) (c .sweep-row .last .0)
 told c =
     let a = c .before .before .before .before .before .args in
     let l = c .before .before .before .before .loop in
@@ -64,7 +62,7 @@ same-length : tie.Need-same-length Inv-loop μ-loop
 same-length c = c .before .before .sweep-row .kept .0 ∙ c .before .before .before .before .before .before .loop .inv .wide
 
 returns : tie.Need-returns Inv-loop μ-loop
-returns c = record { answer = sym (stops (c .before .before .before .before .before .before .loop .inv) (c .before .before .before .before .before .loop-test .taken) (sym (told (c .before .before) .answer) ∙ c .if1 .taken)); left = λ e. absurd (true≢false e) }
+returns c = stops (c .before .before .before .before .before .before .loop .inv) (c .before .before .before .before .before .loop-test .taken) refl (rw (c .if1 .taken) at (told (c .before .before)))
 
 sub-left : tie.Need-sub-left Inv-loop μ-loop
 sub-left c = omega arith
@@ -74,8 +72,7 @@ loop-less c = omega arith
 
 loop-again : tie.Need-loop-again Inv-loop μ-loop
 loop-again c =
-    let o = told (c .before .before) in
-    goes-on (c .before .before .before .before .before .before .loop .inv) (c .before .before .before .before .before .loop-test .taken) (sym (o .answer) ∙ c .if1 .left) (o .left (c .if1 .left))
+    goes-on (c .before .before .before .before .before .before .loop .inv) (c .before .before .before .before .before .loop-test .taken) (rw (c .if1 .left) at (told (c .before .before)))
 
 same-length-2 : tie.Need-same-length-2 Inv-loop μ-loop
 same-length-2 c = c .before .loop .inv .wide

@@ -5,11 +5,10 @@ use mathlib.Core.List.{List}
 use Prim.Native.Nat.{ℕ}
 use lib.IntN.{ℤ}
 use lib.ListN.{length}
-use Rattle.whole.specs.Lists.{zeros}
 use Rattle.lattice.specs.Rows as Rows
 use Rattle.tableau.specs.Elimination.{Left, kept, reduced}
-use Rattle.tableau.specs.Steps.{Stops, Pivot, leftAfter}
-use Rattle.rightside.specs.Halves.{wantedOf}
+use Rattle.tableau.specs.Steps.{Pivot}
+use Rattle.rightside.specs.Halves.{wantedOf, Swept}
 use Rattle.rightside.proofs.Sweeping.{lead-pivot}
 use borrow.Author.Needs.{needs}
 use Rattle.rightside.proofs.sweep_row.Statement.{statement}
@@ -19,14 +18,11 @@ module _ (r v : List ℤ) where
   abbrev own : Bool → Left
   own w = cond w (reduced (Rows.lead r) r v) (kept v)
 
-  taken : {w : Bool} (u : List ℤ) (b : Bool) → w ≡ true → Stops (own true .over) (own true .row) b u → Stops (own w .over) (own w .row) b u
+  taken : {w : Bool} (u : List ℤ) (b : Bool) → w ≡ true → Swept (own true) v b u → Swept (own w) v b u
   taken u b e s = rw e s
 
-  left : {w : Bool} → w ≡ false → Stops (own w .over) (own w .row) false v
-  left e = rw e (record { answer = refl; left = λ _. refl })
-
-stops : (x : Left) (s u : List ℤ) (b : Bool) → b ≡ x .over → u ≡ leftAfter x s → Stops (x .over) (x .row) b u
-stops x s u b e f = record { answer = e; left = λ o. f ∙ ap (λ (t : Bool). cond t (zeros (length s)) (x .row)) (sym e ∙ o) }
+  left : {w : Bool} → w ≡ false → Swept (own w) v false v
+  left e = rw e (record { answer = refl; left = refl })
 
 -- whether the row is of the half
 told : (c : tie.After-wanted) → let a = c .before .before .args in c .wanted .result ≡ wantedOf (a .half) (a .m) (Rows.lead (a .row .now))
@@ -55,8 +51,8 @@ returns c =
     let u : List ℤ = c .before .reduce .last .0 in
     let b : Bool = c .before .reduce .result in
     taken (a .row .now) (a .v .now) u b (sym (told (c .before .before .before .before)) ∙ c .before .before .before .if1 .taken)
-    (subst (λ (i : ℕ). Stops (reduced i (a .row .now) (a .v .now) .over) (reduced i (a .row .now) (a .v .now) .row) b u) (c .before .before .before .before .before .lead .ensures)
-    (stops (reduced (c .before .before .before .before .before .lead .result) (a .row .now) (a .v .now)) (a .v .now) u b (c .before .reduce .ensures .0) (c .before .reduce .ensures .1)))
+    (subst (λ (i : ℕ). Swept (reduced i (a .row .now) (a .v .now)) (a .v .now) b u) (c .before .before .before .before .before .lead .ensures)
+    (record { answer = c .before .reduce .ensures .0; left = c .before .reduce .ensures .1 }))
 
 returns-2 : tie.Need-returns-2
 returns-2 c =

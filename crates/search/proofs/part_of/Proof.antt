@@ -7,36 +7,38 @@ use native.Mathlib.Omega.{arith}
 use borrow.Author.Tests.{eq-eqb, ne-eqb}
 use lib.Dec.{eqb}
 use lib.IntN.{ℤ}
+use lib.ListN.{length}
 use Rattle.whole.specs.Counted.{SoFar, starts, goes-on, ends, fails}
-use Rattle.settling.specs.Sizes.{distanceOf}
+use Rattle.settling.specs.Columns.{columnsIn, cell}
+use Rattle.settling.specs.Measures.{distance}
 use Rattle.settling.specs.Steps.{partIf}
-use Rattle.search.specs.Cells.{cellAt}
 use Rattle.search.proofs.part_of.Statement.{statement}
 use Rattle.search.proofs.part_of.Tie as tie
 
-abbrev test : List ℤ → ℕ → Bool
-test cells j = eqb (distanceOf (cellAt cells j)) 0
+abbrev test : List ℤ → List ℤ → ℕ → Bool
+test columns values j = eqb (distance (cell (columnsIn (length values) columns) values j)) 0
 
 abbrev Inv-loop : tie.InvT-loop
-Inv-loop cells n j₀ j = SoFar n (test cells) j
+Inv-loop columns values j₀ j = SoFar (length values) (test columns values) j
 
 abbrev μ-loop : tie.MeasureT-loop
-μ-loop cells n j₀ j = n - j
+μ-loop columns values j₀ j = length values - j
 
 -- what the call answers at the place that the loop has come to
 tested :
     (c : tie.After-distance Inv-loop μ-loop) →
-    eqb (c .distance .result) 0 ≡ test (c .before .before .before .before .args .cells .now) (c .before .before .before .loop .j)
-tested c = ap (λ (d : ℕ). eqb d 0) (c .distance .ensures ∙ ap distanceOf (c .before .cell-at .ensures))
+    let a = c .before .before .before .before .args in
+    eqb (c .distance .result) 0 ≡ test (a .columns .now) (a .values .now) (c .before .before .before .loop .j)
+tested c = ap (λ (d : ℕ). eqb d 0) (c .distance .ensures ∙ ap distance (c .before .cell-at .ensures))
 
 loop-holds : tie.Need-loop-holds Inv-loop μ-loop
 loop-holds c = starts _ _
 
 cell-at-requires : tie.Need-cell-at-requires Inv-loop μ-loop
-cell-at-requires c κs = omega (arith, c .before .before .pre .1)
+cell-at-requires c κs = (omega (arith, c .before .before .pre .long, c .loop-test .taken), c .loop-test .taken)
 
 distance-requires : tie.Need-distance-requires Inv-loop μ-loop
-distance-requires c κs = let s = c .before .before .before in rw (c .cell-at .ensures) (s .pre .0 .sized (c .before .before .loop .j) (omega (arith, s .pre .1)))
+distance-requires c κs = rw (c .cell-at .ensures) (c .before .before .before .pre .sized (c .before .before .loop .j) (c .before .loop-test .taken))
 
 returns : tie.Need-returns Inv-loop μ-loop
 returns c = ap partIf (sym (fails (c .before .before .before .before .loop .inv) (c .before .before .before .loop-test .taken) (sym (tested (c .before)) ∙ ne-eqb _ 0 (c .if1 .taken))))

@@ -1,56 +1,186 @@
--- `solve::list_text` meets its contract: its arrays have the largest lengths and hold 0. Assumes nothing.
-use mathlib.Core.Path.{refl}
-use Rattle.solve.specs.Room.{clear, clearStrides}
+-- `solve::list_text` meets its contract: a text is turned back as the reader says, or the parts that it filled are its problem. Assumes nothing.
+use mathlib.Core.Path.{_≡_, sym, _∙_, ap}
+use native.Mathlib.Omega.{arith}
+use Prim.Native.Nat.{ℕ, _*_, _≤_}
+use lib.ListN.{length}
+use lib.Seq.{length-take-le}
+use Rattle.sections.specs.Sections.{deckColumns, deckRows}
+use Rattle.deck.specs.Reader.{DeckBuffers, deckBuffers, readDone, read}
+use Rattle.deck.specs.declared.Reading.{Reading}
+use Rattle.solve.proofs.Laws.{clear, few-cells, largest, largest-fit, refused-into, Taken, taken, few-columns, few-rows, accepted-into}
 use borrow.Author.Needs.{needs}
 use Rattle.solve.proofs.list_text.Statement.{statement}
 use Rattle.solve.proofs.list_text.Tie as tie
 
-slice-aggregate-list-lent : tie.Need-slice-aggregate-list-lent
-slice-aggregate-list-lent c = search needs
+-- what the reader leaves
+module _ (w : tie.After-read-deck) where
+  abbrev start : tie.Start
+  start = w .before .before .before .before .before .before .before .before
 
-slice-aggregate-list-lent-2 : tie.Need-slice-aggregate-list-lent-2
-slice-aggregate-list-lent-2 c = search needs
+  abbrev left : DeckBuffers
+  left = deckBuffers (w .read-deck .last .1 .0) (w .read-deck .last .1 .1 .0) (w .read-deck .last .1 .1 .1 .0) (w .read-deck .last .1 .1 .1 .1 .0) (w .read-deck .last .1 .1 .1 .1 .1 .0)
 
-slice-aggregate-list-lent-3 : tie.Need-slice-aggregate-list-lent-3
-slice-aggregate-list-lent-3 c = search needs
+  done-reading : readDone (w .read-deck .result) left ≡ read (start .args .text .now) largest
+  unfolding clear
+  done-reading = w .read-deck .ensures
 
-slice-aggregate-list-lent-4 : tie.Need-slice-aggregate-list-lent-4
-slice-aggregate-list-lent-4 c = search needs
+  found : {r : Reading} → w .read-deck .result ≡ r → readDone r left ≡ read (start .args .text .now) largest
+  found e = ap (λ (r : Reading). readDone r left) (sym e) ∙ done-reading
 
-slice-aggregate-list-lent-5 : tie.Need-slice-aggregate-list-lent-5
-slice-aggregate-list-lent-5 c = search needs
+-- what an accepted text leaves: its parts lie in the buffers
+module _ (k : tie.After-known-told2) where
+  abbrev at : tie.After-read-deck
+  at = k .before .before .before .before .before .before .before .before
 
-slice-aggregate-list-lent-6 : tie.Need-slice-aggregate-list-lent-6
-slice-aggregate-list-lent-6 c = search needs
+  abbrev n : ℕ
+  n = k .before .reading2 .given .0 .0
 
-slice-aggregate-list-lent-7 : tie.Need-slice-aggregate-list-lent-7
-slice-aggregate-list-lent-7 c = search needs
+  abbrev m : ℕ
+  m = k .before .reading2 .given .0 .1 .0
 
-slice-aggregate-list-lent-8 : tie.Need-slice-aggregate-list-lent-8
-slice-aggregate-list-lent-8 c = search needs
+  abbrev D : DeckBuffers
+  D = left at
 
-list-lent-requires : tie.Need-list-lent-requires
-unfolding clear clearStrides
-list-lent-requires c κs = (record { coefficients = refl; rights = refl; lower = refl; upper = refl; goals = refl; tableau = refl; values = refl; strides = refl }, record { tableau = refl; values = refl; strides = refl })
+  text-taken : Taken (start at .args .text .now) n m (D .coefficients) (D .rights) (D .lower) (D .upper) (D .goals)
+  text-taken = taken (start at .args .text .now) largest n m _ _ _ _ _ largest-fit (found at (k .before .reading2 .given .1))
+
+  rights-long : length (D .rights) ≡ deckRows
+  rights-long = at .read-deck .kept .1 .1 .0
+
+  lower-long : length (D .lower) ≡ deckColumns
+  lower-long = at .read-deck .kept .1 .1 .1 .0
+
+  columns-few : n ≤ deckColumns
+  columns-few = few-columns text-taken lower-long
+
+  rows-few : m ≤ deckRows
+  rows-few = few-rows text-taken rights-long
+
+  coefficients-fit : m * n ≤ length (D .coefficients)
+  coefficients-fit =
+      let e : length (D .coefficients) ≡ deckRows * deckColumns = at .read-deck .kept .1 .0 in
+      omega (arith, few-cells n m columns-few rows-few)
+
+  rights-fit : m ≤ length (D .rights)
+  rights-fit = omega (arith, rights-long, rows-few)
+
+  lower-fit : n ≤ length (D .lower)
+  lower-fit = omega (arith, lower-long, columns-few)
+
+  upper-fit : n ≤ length (D .upper)
+  upper-fit = let e : length (D .upper) ≡ deckColumns = at .read-deck .kept .1 .1 .1 .1 .0 in omega (arith, columns-few)
+
+  goals-fit : n ≤ length (D .goals)
+  goals-fit = let e : length (D .goals) ≡ deckColumns = at .read-deck .kept .1 .1 .1 .1 .1 .0 in omega (arith, columns-few)
+
+slice-aggregate-read-deck : tie.Need-slice-aggregate-read-deck
+slice-aggregate-read-deck c = search needs
+
+slice-aggregate-read-deck-2 : tie.Need-slice-aggregate-read-deck-2
+slice-aggregate-read-deck-2 c = search needs
+
+slice-aggregate-read-deck-3 : tie.Need-slice-aggregate-read-deck-3
+slice-aggregate-read-deck-3 c = search needs
+
+slice-aggregate-read-deck-4 : tie.Need-slice-aggregate-read-deck-4
+slice-aggregate-read-deck-4 c = search needs
+
+slice-aggregate-read-deck-5 : tie.Need-slice-aggregate-read-deck-5
+slice-aggregate-read-deck-5 c = search needs
+
+read-deck-requires : tie.Need-read-deck-requires
+read-deck-requires c κs = search needs
+
+enum-known-reading : tie.Need-enum-known-reading
+enum-known-reading c = search needs
+
+list-refused-requires : tie.Need-list-refused-requires
+list-refused-requires c κs = search needs
+
+enum-known-reading-2 : tie.Need-enum-known-reading-2
+enum-known-reading-2 c = search needs
+
+mul-size : tie.Need-mul-size
+mul-size c =
+    let f = few-cells _ _ (columns-few c) (rows-few c) in
+    omega arith
+
+array-share-prefix-coefficients : tie.Need-array-share-prefix-coefficients
+array-share-prefix-coefficients c = coefficients-fit c
+
+slice-aggregate-list-assigned : tie.Need-slice-aggregate-list-assigned
+slice-aggregate-list-assigned c = sym (length-take-le _ _ (coefficients-fit (c .before)))
+
+array-share-prefix-rights : tie.Need-array-share-prefix-rights
+array-share-prefix-rights c = rights-fit (c .before)
+
+slice-aggregate-list-assigned-2 : tie.Need-slice-aggregate-list-assigned-2
+slice-aggregate-list-assigned-2 c = sym (length-take-le _ _ (rights-fit (c .before .before)))
+
+array-share-prefix-lower : tie.Need-array-share-prefix-lower
+array-share-prefix-lower c = lower-fit (c .before .before)
+
+slice-aggregate-list-assigned-3 : tie.Need-slice-aggregate-list-assigned-3
+slice-aggregate-list-assigned-3 c = sym (length-take-le _ _ (lower-fit (c .before .before .before)))
+
+array-share-prefix-upper : tie.Need-array-share-prefix-upper
+array-share-prefix-upper c = upper-fit (c .before .before .before)
+
+slice-aggregate-list-assigned-4 : tie.Need-slice-aggregate-list-assigned-4
+slice-aggregate-list-assigned-4 c = sym (length-take-le _ _ (upper-fit (c .before .before .before .before)))
+
+array-share-prefix-goals : tie.Need-array-share-prefix-goals
+array-share-prefix-goals c = goals-fit (c .before .before .before .before)
+
+slice-aggregate-list-assigned-5 : tie.Need-slice-aggregate-list-assigned-5
+slice-aggregate-list-assigned-5 c = sym (length-take-le _ _ (goals-fit (c .before .before .before .before .before)))
+
+list-assigned-requires : tie.Need-list-assigned-requires
+list-assigned-requires c κs = (columns-few (c .before .before .before .before .before .before), rows-few (c .before .before .before .before .before .before))
 
 same-length : tie.Need-same-length
 same-length c = search needs
 
 returns : tie.Need-returns
-returns c = search needs
+returns c =
+    let w = c .before .before .before .before .before .before .before .before .before .before .before .before in
+    let a = start w .args in
+    c .before .before .list-refused .ensures ∙ refused-into (a .out .now) (a .text .now) largest (left w) _ largest-fit (found w (c .before .before .before .before .before .reading .given .1))
+
+same-length-2 : tie.Need-same-length-2
+same-length-2 c = search needs
+
+returns-2 : tie.Need-returns-2
+returns-2 c =
+    let k = c .before .before .before .before .before .before .before .before .before in
+    c .before .before .list-assigned .ensures ∙ accepted-into (text-taken k) (start (at k) .args .out .now)
 
 pub list-text-spec : {M : Type 1} → statement M
 list-text-spec =
     tie.close
     (tie.spec
-    slice-aggregate-list-lent
-    slice-aggregate-list-lent-2
-    slice-aggregate-list-lent-3
-    slice-aggregate-list-lent-4
-    slice-aggregate-list-lent-5
-    slice-aggregate-list-lent-6
-    slice-aggregate-list-lent-7
-    slice-aggregate-list-lent-8
-    list-lent-requires
+    slice-aggregate-read-deck
+    slice-aggregate-read-deck-2
+    slice-aggregate-read-deck-3
+    slice-aggregate-read-deck-4
+    slice-aggregate-read-deck-5
+    read-deck-requires
+    enum-known-reading
+    list-refused-requires
+    enum-known-reading-2
+    mul-size
+    array-share-prefix-coefficients
+    slice-aggregate-list-assigned
+    array-share-prefix-rights
+    slice-aggregate-list-assigned-2
+    array-share-prefix-lower
+    slice-aggregate-list-assigned-3
+    array-share-prefix-upper
+    slice-aggregate-list-assigned-4
+    array-share-prefix-goals
+    slice-aggregate-list-assigned-5
+    list-assigned-requires
     same-length
-    returns)
+    returns
+    same-length-2
+    returns-2)

@@ -1,18 +1,12 @@
 -- `tableau::reduce` meets its contract: the step of a row above, and a row that is wiped where a number lies beyond M. Assumes nothing.
 use mathlib.Core.Path.{_≡_, sym, _∙_, ap}
-use mathlib.Core.Bool.{Bool, true, false, cond}
-use mathlib.Core.List.{List}
-use lib.IntN.{ℤ}
-use lib.ListN.{length}
+use mathlib.Core.Bool.{true, false}
 use Rattle.whole.specs.Lists.{zeros}
 use Rattle.tableau.specs.Elimination.{Left, reduced}
-use Rattle.tableau.specs.Steps.{leftAfter}
+use Rattle.tableau.proofs.Stepping.{left-by}
 use borrow.Author.Needs.{needs}
 use Rattle.tableau.proofs.reduce.Statement.{statement}
 use Rattle.tableau.proofs.reduce.Tie as tie
-
-after : (x : Left) (s : List ℤ) {b : Bool} → x .over ≡ b → leftAfter x s ≡ cond b (zeros (length s)) (x .row)
-after x s e = ap (λ (o : Bool). cond o (zeros (length s)) (x .row)) e
 
 step-requires : tie.Need-step-requires
 step-requires c κs = search needs
@@ -27,7 +21,7 @@ returns : tie.Need-returns
 returns c =
     let x : Left = reduced (c .before .before .before .before .before .before .before .args .c) (c .before .before .before .before .before .before .before .args .pivot .now) (c .before .before .before .before .before .before .before .args .row .now) in
     let e : x .over ≡ true = sym (c .before .before .before .before .before .step .ensures .answer) ∙ c .before .before .before .if1 .taken in
-    (sym e, c .before .wipe .ensures ∙ ap zeros (c .before .before .before .before .before .step .kept .0) ∙ sym (after x (c .before .before .before .before .before .before .before .args .row .now) e))
+    (sym e, c .before .wipe .ensures ∙ ap zeros (c .before .before .before .before .before .step .kept .0) ∙ sym (left-by x (c .before .before .before .before .before .before .before .args .row .now) e))
 
 same-length-2 : tie.Need-same-length-2
 same-length-2 c = search needs
@@ -36,7 +30,7 @@ returns-2 : tie.Need-returns-2
 returns-2 c =
     let x : Left = reduced (c .before .before .before .before .args .c) (c .before .before .before .before .args .pivot .now) (c .before .before .before .before .args .row .now) in
     let e : x .over ≡ false = sym (c .before .before .step .ensures .answer) ∙ c .if1 .left in
-    (sym e, c .before .before .step .ensures .left (c .if1 .left) ∙ sym (after x (c .before .before .before .before .args .row .now) e))
+    (sym e, c .before .before .step .ensures .left (c .if1 .left) ∙ sym (left-by x (c .before .before .before .before .args .row .now) e))
 
 pub reduce-spec : {M : Type 1} → statement M
 reduce-spec =

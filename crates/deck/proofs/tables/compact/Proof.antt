@@ -7,16 +7,16 @@ use lib.IntN.{ℤ}
 use lib.ListN.{length, take, drop, length-append, length-drop}
 use lib.Seq.{length-take-le}
 use Rattle.text.specs.Buffers.{written}
-use Rattle.deck.specs.Sections.{deckColumns, deckRows}
+use Rattle.sections.specs.Sections.{deckColumns, deckRows, coefficientCount}
 use Rattle.deck.specs.Steps.{compacted}
 use Rattle.text.proofs.Copying.{written-none, written-then}
-use Rattle.deck.proofs.Storage.{compacted-more, compacted-end}
+use Rattle.deck.proofs.Lists.{compacted-more, compacted-end}
 use Rattle.deck.proofs.tables.compact.Statement.{statement}
 use Rattle.deck.proofs.tables.compact.Tie as tie
 
 record Sofar (t : List ℤ) (n m : ℕ) (o : List ℤ) (i to : ℕ) (out : List ℤ) : Type 0 where
   small : i ≤ m
-  size : length out ≡ deckRows * deckColumns
+  size : length out ≡ coefficientCount
   done : List ℤ
   many : to ≡ length done
   short : length done ≤ i * deckColumns
@@ -27,12 +27,12 @@ record Sofar (t : List ℤ) (n m : ℕ) (o : List ℤ) (i to : ℕ) (out : List 
 part-is : (t : List ℤ) (n i : ℕ) → take (i * deckColumns + n - i * deckColumns) (drop (i * deckColumns) t) ≡ take n (drop (i * deckColumns) t)
 part-is t n i = let e : i * deckColumns + n - i * deckColumns ≡ n = omega arith in rw e
 
-part-length : (t : List ℤ) (n i : ℕ) → n ≤ deckColumns → i < deckRows → length t ≡ deckRows * deckColumns
+part-length : (t : List ℤ) (n i : ℕ) → n ≤ deckColumns → i < deckRows → length t ≡ coefficientCount
     → length (take (i * deckColumns + n - i * deckColumns) (drop (i * deckColumns) t)) ≡ n
 part-length t n i a b e =
     ap length (part-is t n i) ∙ length-take-le n (drop (i * deckColumns) t) (omega (arith, length-drop (i * deckColumns) t))
 
-more : (t : List ℤ) (n m : ℕ) (o : List ℤ) → n ≤ deckColumns → m ≤ deckRows → length t ≡ deckRows * deckColumns → length o ≡ deckRows * deckColumns
+more : (t : List ℤ) (n m : ℕ) (o : List ℤ) → n ≤ deckColumns → m ≤ deckRows → length t ≡ coefficientCount → length o ≡ coefficientCount
     → (i to : ℕ) (out out' : List ℤ) → Sofar t n m o i to out → i < m
     → out' ≡ written out to (take (i * deckColumns + n - i * deckColumns) (drop (i * deckColumns) t)) → length out' ≡ length out
     → Sofar t n m o (i + 1) (to + n) out'

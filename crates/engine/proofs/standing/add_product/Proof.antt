@@ -1,14 +1,13 @@
 -- `engine::standing::add_product` meets its contract: the product and the sum are far below 2^63. Assumes nothing.
-use mathlib.Core.Path.{_≡_, sym, subst}
-use Prim.Native.Nat.{ℕ, _+_, _*_, _≤_}
+use Prim.Native.Nat.{_+_, _*_}
 use native.Mathlib.Omega.{arith}
-use lib.IntN.{ℤ, natAbs, _+ℤ_, _*ℤ_}
+use lib.IntN.{ℤ, _+ℤ_, _*ℤ_}
 use mir.Syntax.{w64}
 use mir.Val.{SFits}
 use mir.Facts.{toZ-ofZ}
 use Rattle.whole.proofs.Signed.{abs-add, sfits-abs}
-use Rattle.problem.specs.Limits.{M, maxCoefficient}
-use Rattle.engine.proofs.Dots.{step, product-small}
+use Rattle.problem.specs.Limits.{M}
+use Rattle.engine.proofs.Dots.{product-small}
 use Rattle.engine.proofs.standing.add_product.Statement.{statement}
 use Rattle.engine.proofs.standing.add_product.Tie as tie
 

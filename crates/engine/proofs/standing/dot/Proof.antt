@@ -1,18 +1,14 @@
-use Rattle.engine.proofs.Dots.{small-back}
 -- `engine::standing::dot` meets its contract. The invariant: s is the sum from column j on. Assumes nothing.
-use mathlib.Core.Path.{_≡_, refl, sym, _∙_, ap, subst}
-use Prim.Native.Nat.{ℕ, _-_, _≤_}
+use Rattle.engine.proofs.Dots.{small-back, Summed, summed-none, summed-more, summed-all, room}
+use mathlib.Core.Path.{_≡_, sym, subst}
+use Prim.Native.Nat.{_-_}
 use native.Mathlib.Omega.{arith}
-use borrow.Author.Needs.{needs}
-use lib.IntN.{ℤ, pos, natAbs, _+ℤ_, _*ℤ_}
-use lib.ListN.{length, getD}
+use lib.IntN.{ℤ, _+ℤ_, _*ℤ_}
 use mir.Syntax.{w64}
 use mir.Val.{toZ, ofZ}
-use mir.Facts.{toZ-ofZ}
 use Rattle.whole.specs.Lists.{entry}
 use Rattle.whole.proofs.Signed.{back}
-use Rattle.problem.specs.Limits.{M, maxCoefficient}
-use Rattle.engine.proofs.Dots.{Summed, summed-none, summed-more, summed-all, room}
+use Rattle.problem.specs.Limits.{M}
 use Rattle.engine.proofs.standing.dot.Statement.{statement}
 use Rattle.engine.proofs.standing.dot.Tie as tie
 

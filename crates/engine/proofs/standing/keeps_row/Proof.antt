@@ -1,18 +1,14 @@
-use mathlib.Core.Path.{subst}
-use Rattle.engine.proofs.Dots.{step}
-use mathlib.Core.List.{List}
 -- `engine::standing::keeps_row` meets its contract: the part of the coefficients is row i, and a difference of magnitude 0 is 0. Assumes nothing.
-use mathlib.Core.Path.{_≡_, refl, sym, _∙_, ap}
+use mathlib.Core.Path.{subst, _≡_, refl, sym, _∙_, ap}
 use Prim.Native.Nat.{ℕ, _+_, _*_, _-_, _≤_}
 use native.Mathlib.Omega.{arith}
 use lib.Dec.{eqb}
-use lib.IntN.{ℤ, pos, natAbs, _-ℤ_}
+use lib.IntN.{ℤ, natAbs, _-ℤ_}
 use lib.ListN.{length, take, drop}
-use mir.Syntax.{w64}
-use mir.Val.{toZ, ofZ}
 use Rattle.whole.specs.Lists.{entry}
 use Rattle.whole.proofs.Signed.{back}
 use Rattle.lattice.specs.Sums.{dot}
+use Rattle.engine.specs.Standing.{maxSum}
 use Rattle.engine.proofs.Dots.{small-back, row-inside, table-small, row-summable, dot-small}
 use borrow.Author.Needs.{needs}
 use Rattle.engine.proofs.standing.keeps_row.Statement.{statement}
@@ -57,10 +53,10 @@ sum-is c =
     let e : s .args .i * n + n - s .args .i * n ≡ n = omega arith in
     c .dot .ensures ∙ ap (λ (k : ℕ). dot (take k (drop (s .args .i * n) (s .args .coefficients .now))) (s .args .values .now)) e
 
-sum-small : (c : tie.After-dot) → natAbs (c .dot .result) ≤ 48 * step
+sum-small : (c : tie.After-dot) → natAbs (c .dot .result) ≤ maxSum
 sum-small c =
     let s = c .before .before in
-    subst (λ (z : ℤ). natAbs z ≤ 48 * step) (sym (sum-is c)) (dot-small _ _ (row-summable (s .pre) (length (s .args .values .now)) refl))
+    subst (λ (z : ℤ). natAbs z ≤ maxSum) (sym (sum-is c)) (dot-small _ _ (row-summable (s .pre) (length (s .args .values .now)) refl))
 
 less-right-requires : tie.Need-less-right-requires
 less-right-requires c κs =

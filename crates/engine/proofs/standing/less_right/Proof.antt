@@ -1,5 +1,5 @@
 -- `engine::standing::less_right` meets its contract: both numbers are far below 2^62. Assumes nothing.
-use lib.IntN.{ℤ, natAbs, negℤ, _-ℤ_}
+use lib.IntN.{negℤ, _-ℤ_}
 use native.Mathlib.Omega.{arith}
 use mir.Syntax.{w64}
 use mir.Val.{SFits}

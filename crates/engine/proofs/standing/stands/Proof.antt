@@ -1,21 +1,20 @@
+-- `engine::standing::stands` meets its contract. The invariant: the rows passed are kept. Assumes nothing.
 use mathlib.Core.List.{List}
 use lib.IntN.{ℤ}
 use Rattle.problem.specs.declared.Problem.{Problem}
 use Rattle.problem.specs.CheckLaws.{all-small}
-use Rattle.engine.specs.Standing.{Standable, RowStandable}
--- `engine::standing::stands` meets its contract. The invariant: the rows passed are kept. Assumes nothing.
-use mathlib.Core.Path.{_≡_, refl, sym, _∙_, ap, ap₂, subst}
-use mathlib.Core.Bool.{Bool, true, false, not, _&&_}
-use Prim.Native.Nat.{ℕ, _-_, _<_, _≤_}
+use Rattle.engine.specs.Standing.{Standable, keepsRow}
+use mathlib.Core.Path.{_≡_, sym, _∙_, ap, ap₂}
+use mathlib.Core.Bool.{Bool, true, _&&_}
+use Prim.Native.Nat.{ℕ, _-_}
 use native.Mathlib.Omega.{arith}
 use borrow.Author.Needs.{needs}
 use lib.ListN.{length}
 use Rattle.whole.specs.Tests.{every}
 use Rattle.whole.specs.Counted.{SoFar, starts, goes-on, ends, fails}
-use Rattle.problem.specs.Limits.{M, anyBeyond}
+use Rattle.problem.specs.Limits.{M}
 use Rattle.problem.specs.Checks.{allSpan}
 use Rattle.problem.proofs.Laws.{passed, failed}
-use Rattle.engine.specs.Standing.{keepsRow}
 use Rattle.engine.proofs.Dots.{all-within}
 use Rattle.engine.proofs.standing.stands.Statement.{statement}
 use Rattle.engine.proofs.standing.stands.Tie as tie

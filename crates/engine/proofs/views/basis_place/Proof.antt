@@ -1,6 +1,5 @@
 -- `engine::views::basis_place` meets its contract: it counts the leading rows, and the basis lies behind them. Assumes nothing.
 use mathlib.Core.Path.{_∙_, ap}
-use Prim.Native.Nat.{ℕ}
 use Rattle.engine.specs.Views.{placeBehind}
 use Rattle.engine.proofs.Viewing.{few-leading}
 use borrow.Author.Needs.{needs}

@@ -1,9 +1,8 @@
-use Rattle.engine.proofs.Leading.{leads-yes, leads-no, leads-all, row-inside}
 -- `engine::views::leading_rows` meets its contract. The invariant: h counts the leading rows from i on. Assumes nothing.
+use Rattle.engine.proofs.Leading.{leads-yes, leads-no, leads-all, row-inside, leads, leads-none, leads-few}
 use mathlib.Core.Path.{_≡_, sym, _∙_}
 use Prim.Native.Nat.{_+_, _≤_}
 use native.Mathlib.Omega.{arith}
-use Rattle.engine.proofs.Leading.{leads, leads-none, leads-few}
 use Rattle.engine.proofs.views.leading_rows.Statement.{statement}
 use Rattle.engine.proofs.views.leading_rows.Tie as tie
 

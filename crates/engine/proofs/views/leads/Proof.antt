@@ -1,12 +1,10 @@
+-- `engine::views::leads` meets its contract: the part of the tableau is row i. Assumes nothing.
 use mathlib.Core.Path.{_≡_, ap, _∙_}
 use Prim.Native.Nat.{ℕ, _*_, _+_, _-_}
 use native.Mathlib.Omega.{arith}
 use lib.Dec.{ltb}
-use lib.IntN.{ℤ}
 use lib.ListN.{take, drop}
-use mathlib.Core.List.{List}
 use Rattle.lattice.specs.Rows.{lead}
--- `engine::views::leads` meets its contract: the part of the tableau is row i. Assumes nothing.
 use borrow.Author.Needs.{needs}
 use Rattle.engine.proofs.views.leads.Statement.{statement}
 use Rattle.engine.proofs.views.leads.Tie as tie

@@ -1,6 +1,6 @@
 -- `engine::views::place_behind` meets its contract: its branches are the definition's, and the sizes are small. Assumes nothing.
 use mathlib.Core.Path.{refl}
-use Prim.Native.Nat.{_+_, _≤_}
+use Prim.Native.Nat.{_+_}
 use native.Mathlib.Omega.{arith}
 use borrow.Author.Tests.{lt-ltb, le-ltb}
 use Rattle.engine.proofs.Leading.{product-small}

@@ -47,10 +47,9 @@ same-length-6 c = search needs
 returns-2 : tie.Need-returns-2
 returns-2 c =
     let a = c .before .before .before .before .before .before .before .before .before .before .before .before .before .before .before .before .before .before .before in
-    let d = c .before .before .before .before .before .before .before .before .before .before .read-deck in
-    let r = d .ensures in
-    is-read-told (a .args .text .now) (B a) (a .args .sizes .now) (d .result) _ _ _ _ _ _ _ (c .before .before .before .before .before .before .before .before .before .before .before .before .before .before .before .before .if1 .left)
-    (r .0) (r .1 .0) (r .1 .1 .0) (r .1 .1 .1 .0) (r .1 .1 .1 .1 .0) (r .1 .1 .1 .1 .1) (c .before .before .before .tell-sizes .ensures) (c .reading-number .ensures)
+    let d = c .before .before .before .before .before .before .before .before .before .before in
+    is-read-told (a .args .text .now) (B a) (a .args .sizes .now) (d .read-deck .result) _ _ _ (c .before .before .before .before .before .before .before .before .before .before .before .before .before .before .before .before .if1 .left)
+    (d .read-deck .ensures) (c .before .before .before .tell-sizes .ensures) (c .reading-number .ensures)
 
 pub koralimbu-read-spec : {M : Type 1} → statement M
 koralimbu-read-spec =

@@ -1,7 +1,6 @@
 -- `search::pairs::all_shut` meets its contract. Assumes nothing.
 use mathlib.Core.Path.{refl}
 use Rattle.problem.proofs.Laws.{passed, failed}
-use borrow.Author.Needs.{needs}
 use Rattle.search.proofs.pairs.all_shut.Statement.{statement}
 use Rattle.search.proofs.pairs.all_shut.Tie as tie
 

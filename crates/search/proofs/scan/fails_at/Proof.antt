@@ -2,7 +2,6 @@
 use mathlib.Core.Path.{sym, _∙_}
 use mathlib.Core.Bool.{true≢false}
 use borrow.Author.Tests.{not-true}
-use borrow.Author.Needs.{needs}
 use Rattle.search.proofs.scan.fails_at.Statement.{statement}
 use Rattle.search.proofs.scan.fails_at.Tie as tie
 

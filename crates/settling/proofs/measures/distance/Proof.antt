@@ -36,7 +36,7 @@ gap-requires c κs = let s = c .before .before .before .before .before .before i
 returns : tie.Need-returns
 returns c =
     let s = c .before .before .before .before .before .before .before in
-    cc (c .gap .ensures, lower s, value s, distance-under (s .args .c .lower) (s .args .c .upper) (s .args .c .value) (under (c .before .before .before .before) ∙ c .before .before .before .if1 .taken))
+    cc (c .gap .ensures, lower s, value s, distance-under (s .args .c) (under (c .before .before .before .before) ∙ c .before .before .before .if1 .taken))
 
 less-requires-2 : tie.Need-less-requires-2
 less-requires-2 c κs = search needs
@@ -51,14 +51,14 @@ returns-2 c =
       c .gap2 .ensures,
       upper s,
       value s,
-      distance-over (s .args .c .lower) (s .args .c .upper) (s .args .c .value) (under (c .before .before .before .before .before .before .before .before) ∙ c .before .before .before .before .before .before .before .if1 .left)
+      distance-over (s .args .c) (under (c .before .before .before .before .before .before .before .before) ∙ c .before .before .before .before .before .before .before .if1 .left)
           (over (c .before .before .before .before) ∙ c .before .before .before .if2 .taken),
     )
 
 returns-3 : tie.Need-returns-3
 returns-3 c =
     let s = c .before .before .before .before .before .before .before .before in
-    sym (distance-inside (s .args .c .lower) (s .args .c .upper) (s .args .c .value) (under (c .before .before .before .before .before) ∙ c .before .before .before .before .if1 .left) (over (c .before) ∙ c .if2 .left))
+    sym (distance-inside (s .args .c) (under (c .before .before .before .before .before) ∙ c .before .before .before .before .if1 .left) (over (c .before) ∙ c .if2 .left))
 
 pub distance-spec : {M : Type 1} → statement M
 distance-spec =

@@ -1,6 +1,7 @@
 -- `settling::measures::is_compared` meets its contract: each part has its own test. Assumes nothing.
+use native.Mathlib.Omega.{arith}
 use borrow.Author.Needs.{needs}
-use mir.Facts.{toZ-ofZ}
+use Rattle.settling.proofs.Machine.{read}
 use Rattle.settling.proofs.measures.is_compared.Statement.{statement}
 use Rattle.settling.proofs.measures.is_compared.Tie as tie
 
@@ -17,7 +18,7 @@ returns : tie.Need-returns
 returns c = search needs
 
 returns-2 : tie.Need-returns-2
-returns-2 c = cc (c .is-zero .ensures, toZ-ofZ (c .before .before .before .fits .goal), c .before .enum-told2 .given .1)
+returns-2 c = let s = c .before .before .before .before in cc (c .is-zero .ensures, read (s .args .c .low) (omega (arith, s .pre .low)), c .before .before .enum-told2 .given .1)
 
 pub is-compared-spec : {M : Type 1} → statement M
 is-compared-spec = tie.close (tie.spec enum-told enum-told-2 is-zero-requires returns returns-2)

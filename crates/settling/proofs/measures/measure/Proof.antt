@@ -16,8 +16,11 @@ use Rattle.settling.proofs.measures.measure.Statement.{statement}
 use Rattle.settling.proofs.measures.measure.Tie as tie
 
 module _ (s : tie.Start) where
-  read-goal : toZ w64 (ofZ w64 (s .args .c .goal)) ≡ s .args .c .goal
-  read-goal = read _ (omega (arith, s .pre .goal))
+  low : toZ w64 (ofZ w64 (s .args .c .low)) ≡ s .args .c .low
+  low = read _ (omega (arith, s .pre .low))
+
+  high : toZ w64 (ofZ w64 (s .args .c .high)) ≡ s .args .c .high
+  high = read _ (omega (arith, s .pre .high))
 
   -- in the goals part the value lies in bounds
   goal : s .args .part ≡ Goals → natAbs (s .args .c .value) ≤ maxBound
@@ -45,8 +48,8 @@ ratio-requires : tie.Need-ratio-requires
 ratio-requires c κs =
     let s = c .before .before .before .before .before .before .before .before in
     let g = goal s (c .before .before .before .before .before .before .enum-told2 .given .1) in (
-      rw (c .before .before .before .before .magnitude .ensures, read-goal s) (s .pre .goal),
-      rw (c .before .before .magnitude2 .ensures, read-goal s) (s .pre .goal),
+      rw (c .before .before .before .before .magnitude .ensures, low s) (s .pre .low),
+      rw (c .before .before .magnitude2 .ensures, high s) (s .pre .high),
       rw (c .magnitude3 .ensures, read (s .args .c .value) (omega (arith, g))) g,
     )
 
@@ -59,11 +62,10 @@ unfolding Measures.measure
 returns-2 c =
     let s = c .before .before .before .before .before .before .before .before .before in
     let e = c .before .before .before .before .before .before .before .enum-told2 .given .1 in
-    let g = ap natAbs (read-goal s) in
     let v = ap natAbs (read (s .args .c .value) (omega (arith, goal s e))) in
     c .ratio .ensures
-    ∙ (λ i. Measures.ratio ((c .before .before .before .before .before .magnitude .ensures ∙ g) i) ((c .before .before .before .magnitude2 .ensures ∙ g) i) ((c .before .magnitude3 .ensures ∙ v) i))
-    ∙ ap (λ (p : Part). Measures.measure p (s .args .c .lower) (s .args .c .upper) (s .args .c .goal) (s .args .c .value)) (sym e)
+    ∙ (λ i. Measures.ratio ((c .before .before .before .before .before .magnitude .ensures ∙ ap natAbs (low s)) i) ((c .before .before .before .magnitude2 .ensures ∙ ap natAbs (high s)) i) ((c .before .magnitude3 .ensures ∙ v) i))
+    ∙ ap (λ (p : Part). Measures.measure p (s .args .c)) (sym e)
 
 pub measure-spec : {M : Type 1} → statement M
 measure-spec =

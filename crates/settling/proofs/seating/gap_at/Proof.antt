@@ -1,76 +1,54 @@
 -- `settling::seating::gap_at` meets its contract: an ideal lies in bounds, so that the difference fits. Assumes nothing.
 use mathlib.Core.Path.{_≡_, _∙_, ap}
 use native.Mathlib.Omega.{arith}
-use borrow.Author.Needs.{needs}
+use lib.ListN.{length}
 use mir.Syntax.{w64}
 use mir.Val.{SFits, toZ, ofZ}
 use mir.Facts.{toZ-ofZ}
 use Rattle.whole.specs.Lists.{entry}
 use Rattle.whole.proofs.Signed.{back, sfits-abs}
-use Rattle.settling.specs.Columns.{Columns}
+use Rattle.settling.specs.declared.Cell.{Cell}
+use Rattle.settling.specs.Columns.{Columns, columnsIn}
 use Rattle.settling.specs.Ideals as Ideals
-use Rattle.settling.specs.Seating.{goalWishes, idealAt}
-use Rattle.settling.specs.Seats.{listed, gapAt, gap-small}
+use Rattle.settling.specs.Seating.{idealAt, gapAt}
+use Rattle.settling.specs.Seats.{gap-small}
+use Rattle.settling.proofs.Machine.{read}
+use borrow.Author.Needs.{needs}
 use Rattle.settling.proofs.seating.gap_at.Statement.{statement}
 use Rattle.settling.proofs.seating.gap_at.Tie as tie
 
 module _ (s : tie.Start) where
   abbrev C : Columns
-  C = listed (s .args .lower .now) (s .args .upper .now) (s .args .goals .now)
+  C = columnsIn (length (s .args .values .now)) (s .args .columns .now)
 
   fits : SFits w64 (gapAt C (s .args .values .now) (s .args .c))
-  fits = sfits-abs _ (omega (arith, gap-small C (s .args .values .now) (s .args .c) (s .pre .0 .lower-small (s .args .c)) (s .pre .0 .upper-small (s .args .c)) (s .pre .0 .values-small (s .args .c))))
+  fits = sfits-abs _ (omega (arith, gap-small C (s .args .values .now) (s .args .c) (s .pre .0 .columns (s .args .c)) (s .pre .0 .values-small (s .args .c))))
 
 -- what the machine reads back
-value : (c : tie.After-x) → let s = c .before in toZ w64 (ofZ w64 (entry (s .args .c) (s .args .values .now))) ≡ entry (s .args .c) (s .args .values .now)
-value c = back _ (c .x .given)
+module _ (c : tie.After-cell-at) where
+  abbrev start : tie.Start
+  start = c .before
 
-low : (c : tie.After-ideal-arg) → let s = c .before .before in toZ w64 (ofZ w64 (entry (s .args .c) (s .args .lower .now))) ≡ entry (s .args .c) (s .args .lower .now)
-low c = back _ (c .ideal-arg .given)
+  value : toZ w64 (ofZ w64 (c .cell-at .result .value)) ≡ entry (start .args .c) (start .args .values .now)
+  value = ap (λ (x : Cell). toZ w64 (ofZ w64 (x .value))) (c .cell-at .ensures) ∙ read _ (omega (arith, start .pre .0 .values-small (start .args .c)))
 
-high : (c : tie.After-ideal-arg2) → let s = c .before .before .before in toZ w64 (ofZ w64 (entry (s .args .c) (s .args .upper .now))) ≡ entry (s .args .c) (s .args .upper .now)
-high c = back _ (c .ideal-arg2 .given)
+  lower : toZ w64 (ofZ w64 (c .cell-at .result .lower)) ≡ C start .column (start .args .c) .lower
+  lower = ap (λ (x : Cell). toZ w64 (ofZ w64 (x .lower))) (c .cell-at .ensures) ∙ read _ (omega (arith, start .pre .0 .columns (start .args .c) .lower))
 
-goal : (c : tie.After-goal-wish-arg) → let s = c .before .before .before .before in toZ w64 (ofZ w64 (entry (s .args .c) (s .args .goals .now))) ≡ entry (s .args .c) (s .args .goals .now)
-goal c = back _ (c .goal-wish-arg .given)
+  upper : toZ w64 (ofZ w64 (c .cell-at .result .upper)) ≡ C start .column (start .args .c) .upper
+  upper = ap (λ (x : Cell). toZ w64 (ofZ w64 (x .upper))) (c .cell-at .ensures) ∙ read _ (omega (arith, start .pre .0 .columns (start .args .c) .upper))
 
-wish : (c : tie.After-goal-wish) → let s = c .before .before .before .before .before in c .goal-wish .result ≡ goalWishes (C s) (s .args .c)
-wish c = c .goal-wish .ensures ∙ ap Ideals.goalWish (goal (c .before))
-
-nearest :
-    (c : tie.After-ideal) →
-    let s = c .before .before .before .before .before .before in
-    toZ w64 (ofZ w64 (c .ideal .result)) ≡ idealAt (goalWishes (C s)) (C s) (s .args .values .now) (s .args .c)
+nearest : (c : tie.After-ideal) → let s = c .before .before .before .before .before .before in toZ w64 (ofZ w64 (c .ideal .result)) ≡ idealAt (C s) (s .args .values .now) (s .args .c)
 nearest c =
+    let k = c .before .before .before .before .before in
     back (c .ideal .result) (c .ideal .ok) ∙ c .ideal .ensures
-    ∙ (λ i. Ideals.ideal (low (c .before .before .before .before) i) (high (c .before .before .before) i) (wish (c .before) i) (value (c .before .before .before .before .before) i))
+    ∙ (λ i. Ideals.ideal (lower k i) (upper k i) (c .before .before .before .wish-at .ensures i) (value k i))
 
-mul-x : tie.Need-mul-x
-mul-x c = search needs
+cell-at-requires : tie.Need-cell-at-requires
+cell-at-requires c κs = search needs
 
-shared-slice-copy-out-x : tie.Need-shared-slice-copy-out-x
-shared-slice-copy-out-x c = search needs
-
-mul-ideal : tie.Need-mul-ideal
-mul-ideal c = search needs
-
-shared-slice-copy-out-ideal : tie.Need-shared-slice-copy-out-ideal
-shared-slice-copy-out-ideal c = search needs
-
-mul-ideal-2 : tie.Need-mul-ideal-2
-mul-ideal-2 c = search needs
-
-shared-slice-copy-out-ideal-2 : tie.Need-shared-slice-copy-out-ideal-2
-shared-slice-copy-out-ideal-2 c = search needs
-
-mul-goal-wish : tie.Need-mul-goal-wish
-mul-goal-wish c = search needs
-
-shared-slice-copy-out-goal-wish : tie.Need-shared-slice-copy-out-goal-wish
-shared-slice-copy-out-goal-wish c = search needs
-
-goal-wish-requires : tie.Need-goal-wish-requires
-goal-wish-requires c κs = let s = c .before .before .before .before in rw (goal c) (s .pre .0 .goals-small (s .args .c))
+wish-at-requires : tie.Need-wish-at-requires
+wish-at-requires c κs = search needs
 
 ideal-requires : tie.Need-ideal-requires
 ideal-requires c κs = search needs
@@ -83,17 +61,4 @@ returns c = let s = c .before .before .before .before .before .before in rw (nea
 
 pub gap-at-spec : {M : Type 1} → statement M
 gap-at-spec =
-    tie.close
-    (tie.spec
-    mul-x
-    shared-slice-copy-out-x
-    mul-ideal
-    shared-slice-copy-out-ideal
-    mul-ideal-2
-    shared-slice-copy-out-ideal-2
-    mul-goal-wish
-    shared-slice-copy-out-goal-wish
-    goal-wish-requires
-    ideal-requires
-    sub-result
-    returns)
+    tie.close (tie.spec cell-at-requires wish-at-requires ideal-requires sub-result returns)

@@ -9,13 +9,19 @@ use borrow.Author.Needs.{needs}
 use lib.IntN.{ℤ}
 use lib.ListN.{length, take, drop}
 use Rattle.settling.specs.Parts.{part-length, part-back, part-fits}
-use Rattle.settling.specs.Seating.{Seated, seated, far}
-use Rattle.settling.specs.Seats.{seatWhole, isSeated, valuesAfter, Seatable}
+use Rattle.settling.specs.Columns.{columnsIn}
+use Rattle.settling.specs.Seating.{Seated, seated, far, seatDone, leaves}
+use Rattle.settling.specs.Seating as Seating
+use Rattle.settling.specs.Seats.{Seatable}
+use Rattle.settling.specs.Views.{vectors}
 use Rattle.settling.proofs.seating.seat.Statement.{statement}
 use Rattle.settling.proofs.seating.seat.Tie as tie
 
 abbrev n : (s : tie.Start) → ℕ
 n s = s .args .view .columns
+
+abbrev whole : (s : tie.Start) → List ℤ → Seated
+whole s v = Seating.seat (columnsIn (n s) (s .args .columns .now)) (vectors (s .args .view) (s .args .basis .now)) v
 
 -- the copy
 module _ (c : tie.After-copy) where
@@ -37,17 +43,16 @@ module _ (c : tie.After-seat-all) where
   start = c .before .before .before .before .before .before
 
   -- what the call answers
-  outcome : cond (c .seat-all .result) (seated (c .seat-all .last .0)) far
-      ≡ seatWhole (start .args .view) (start .args .lower .now) (start .args .upper .now) (start .args .goals .now) (start .args .basis .now) (start .args .values .now)
+  outcome : cond (c .seat-all .result) (seated (c .seat-all .last .0)) far ≡ whole start (start .args .values .now)
   outcome =
       c .seat-all .ensures
-      ∙ ap (seatWhole (start .args .view) (start .args .lower .now) (start .args .upper .now) (start .args .goals .now) (start .args .basis .now)) (held (c .before .before) _)
+      ∙ ap (whole start) (held (c .before .before) _)
 
   seated-long : length (c .seat-all .last .0) ≡ n start
   seated-long = c .seat-all .kept .0 ∙ ap length (held (c .before .before) _) ∙ start .pre .ready .values-long
 
   answered : (b : Bool) → c .seat-all .result ≡ b
-      → seatWhole (start .args .view) (start .args .lower .now) (start .args .upper .now) (start .args .goals .now) (start .args .basis .now) (start .args .values .now) ≡ cond b (seated (c .seat-all .last .0)) far
+      → whole start (start .args .values .now) ≡ cond b (seated (c .seat-all .last .0)) far
   answered b e = sym outcome ∙ ap (λ (t : Bool). cond t (seated (c .seat-all .last .0)) far) e
 
 array-borrow-prefix-held : tie.Need-array-borrow-prefix-held
@@ -68,7 +73,7 @@ slice-aggregate-seat-all c = let s = c .before .before .before .before .before i
 seat-all-requires : tie.Need-seat-all-requires
 seat-all-requires c κs =
     let s = c .before .before .before .before .before in
-    subst (λ (v : List ℤ). Seatable (s .args .view) v (s .args .lower .now) (s .args .upper .now) (s .args .goals .now) (s .args .basis .now)) (sym (held (c .before) _)) (s .pre)
+    subst (λ (v : List ℤ). Seatable (s .args .view) v (s .args .columns .now) (s .args .basis .now)) (sym (held (c .before) _)) (s .pre)
 
 same-length : tie.Need-same-length
 same-length c = search needs
@@ -77,7 +82,7 @@ returns : tie.Need-returns
 returns c =
     let s = c .before .before .before .before .before .before .before .before in
     let e = answered (c .before .before) false (not-true _ (c .if1 .taken)) in
-    (sym (ap isSeated e), sym (ap (λ (z : Seated). valuesAfter z (s .args .values .now)) e))
+    sym (ap (λ (z : Seated). leaves z (s .args .values .now)) e)
 
 array-share-prefix-held : tie.Need-array-share-prefix-held
 array-share-prefix-held c = part-fits (n (c .before .before .before .before .before .before .before .before .before)) (c .before .before .before .seat-all .last .0) _ (seated-long (c .before .before .before))
@@ -97,7 +102,8 @@ returns-2 : tie.Need-returns-2
 returns-2 c =
     let s = c .before .before .before .before .before .before .before .before .before .before .before .before in
     let e = answered (c .before .before .before .before .before .before) true (not-false _ (c .before .before .before .before .if1 .left)) in
-    (sym (ap isSeated e), c .before .copy2 .ensures ∙ part-back (n s) (c .before .before .before .before .before .before .seat-all .last .0) _ (seated-long (c .before .before .before .before .before .before)) ∙ sym (ap (λ (z : Seated). valuesAfter z (s .args .values .now)) e))
+    ap (seatDone true) (c .before .copy2 .ensures ∙ part-back (n s) (c .before .before .before .before .before .before .seat-all .last .0) _ (seated-long (c .before .before .before .before .before .before)))
+    ∙ sym (ap (λ (z : Seated). leaves z (s .args .values .now)) e)
 
 pub seat-spec : {M : Type 1} → statement M
 seat-spec =

@@ -4,6 +4,7 @@ use Prim.Native.Nat.{ℕ, _+_, _≤_}
 use native.Mathlib.Omega.{arith}
 use borrow.Author.Needs.{needs}
 use lib.IntN.{ℤ, natAbs}
+use lib.ListN.{length}
 use mir.Syntax.{w64}
 use mir.Val.{toZ, ofZ}
 use Rattle.whole.specs.Lists.{entry}
@@ -11,15 +12,15 @@ use Rattle.whole.specs.Quotient.{nearestQuotient}
 use Rattle.whole.proofs.Signed.{back}
 use Rattle.lattice.specs.Rows as Rows
 use Rattle.problem.specs.Limits.{M, maxBound}
-use Rattle.settling.specs.Columns.{Columns}
-use Rattle.settling.specs.Seating.{seatOne}
-use Rattle.settling.specs.Seats.{listed, gapAt, gap-small, quotient-small}
+use Rattle.settling.specs.Columns.{Columns, columnsIn}
+use Rattle.settling.specs.Seating.{gapAt, seatOne}
+use Rattle.settling.specs.Seats.{gap-small, quotient-small}
 use Rattle.settling.proofs.seating.seat_one.Statement.{statement}
 use Rattle.settling.proofs.seating.seat_one.Tie as tie
 
 module _ (s : tie.Start) where
   abbrev C : Columns
-  C = listed (s .args .lower .now) (s .args .upper .now) (s .args .goals .now)
+  C = columnsIn (length (s .args .values .now)) (s .args .columns .now)
 
   abbrev k : ℕ
   k = Rows.lead (s .args .row .now)
@@ -31,7 +32,7 @@ module _ (s : tie.Start) where
   pivot = entry k (s .args .row .now)
 
   small : natAbs gap ≤ M + maxBound
-  small = gap-small C (s .args .values .now) k (s .pre .0 .lower-small k) (s .pre .0 .upper-small k) (s .pre .0 .values-small k)
+  small = gap-small C (s .args .values .now) k (s .pre .0 .columns k) (s .pre .0 .values-small k)
 
 -- what the machine reads back
 read-gap : (c : tie.After-gap-at) → toZ w64 (ofZ w64 (c .gap-at .result)) ≡ gap (c .before .before .before)

@@ -1,0 +1,4 @@
+-- The root of the laws that the proofs cite.
+pub mod Numbers
+pub mod Parts
+pub mod Storage

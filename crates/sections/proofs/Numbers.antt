@@ -1,0 +1,78 @@
+-- Laws of numbers read in a range, and of what a range says of them. Assumes nothing.
+-- ---- outcomes
+use mathlib.Core.Path.{_≡_, refl, sym, subst}
+use mathlib.Core.Bool.{Bool, true, false, cond, _&&_}
+use mathlib.Core.List.{List}
+use Prim.Native.Nat.{ℕ, _≤_}
+use native.Mathlib.Omega.{arith}
+use borrow.Author.Tests.{leb-true, eq-eqb, ne-eqb}
+use lib.Dec.{T}
+use lib.IntN.{ℤ, pos, negsuc, natAbs}
+use lib.Signed.{leZ}
+use Rattle.text.specs.declared.Token.the-variants.{Number, Bad}
+use Rattle.text.specs.declared.Next.{Next}
+use Rattle.text.specs.declared.Next.the-variants.{Found, End}
+use Rattle.text.specs.Positions.{nextAt}
+use Rattle.problem.specs.declared.Refusal.{Refusal}
+use Rattle.problem.specs.declared.Refusal.the-variants.{Layout, Coefficient, Term as WrongTerm}
+use Rattle.problem.specs.Limits.{maxCoefficient}
+use Rattle.sections.specs.Rules.{ok, no, inside, onNext, within}
+use Rattle.sections.specs.Sections.{spanning, coefficient}
+
+pub same-ok : {A : Type 0} {a b : A} {p q : ℕ} → ok a p ≡ ok b q → a ≡ b
+same-ok h = cc
+
+pub ok-not-no : {A : Type 0} {a : A} {p : ℕ} {why : Refusal} → no why ≡ ok a p → ⊥
+ok-not-no h = let z : _≡_ {A = ℕ} 0 1 = cc in omega arith
+
+-- ---- a number in its range, at a place
+module _ (s : List ℕ) (at : ℕ) (a b : ℤ) (why : Refusal) where
+  pub within-number : (v : ℤ) (e : ℕ) → nextAt s at ≡ Found (Number v) e → within s a b why at ≡ inside a b why v e
+  within-number v e h = rw h
+
+  pub within-bad : (e : ℕ) → nextAt s at ≡ Found Bad e → within s a b why at ≡ no Layout
+  within-bad e h = rw h
+
+  pub within-end : nextAt s at ≡ End → within s a b why at ≡ no Layout
+  within-end h = rw h
+
+-- ---- what a range says of the number that was read
+module _ (a b : ℤ) (why : Refusal) (v : ℤ) (q : ℕ) where
+  both : (t u : Bool) (w : ℤ) (p : ℕ) → leZ a w ≡ t → leZ w b ≡ u → cond (t && u) (ok w p) (no why) ≡ ok v q
+      → (leZ a v ≡ true) × (leZ v b ≡ true)
+  both true true w p e f h = let s : w ≡ v = same-ok h in (rw s at e, rw s at f)
+  both true false w p e f h = absurd (ok-not-no h)
+  both false u w p e f h = absurd (ok-not-no h)
+
+  next-in : (n : Next) → onNext a b why n ≡ ok v q → (leZ a v ≡ true) × (leZ v b ≡ true)
+  next-in (Found (Number w) p) h = both (leZ a w) (leZ w b) w p refl refl h
+  next-in (Found Bad p) h = absurd (ok-not-no h)
+  next-in End h = absurd (ok-not-no h)
+
+  pub within-in : (s : List ℕ) (at : ℕ) → within s a b why at ≡ ok v q → (leZ a v ≡ true) × (leZ v b ≡ true)
+  within-in s at h = next-in (nextAt s at) h
+
+pub abs-between : (a b : ℕ) (v : ℤ) → leZ (pos a) v ≡ true → leZ v (pos b) ≡ true → (a ≤ natAbs v) × (natAbs v ≤ b)
+abs-between a b (pos n) h k = (leb-true a n h, leb-true n b k)
+abs-between a b (negsuc n) h k = absurd (subst T (sym h) tt)
+
+-- the magnitude of a number from lo to k, where lo is −k or 0
+pub abs-within : (lo : ℤ) (k : ℕ) (v : ℤ) → natAbs lo ≤ k → leZ lo v ≡ true → leZ v (pos k) ≡ true → natAbs v ≤ k
+abs-within lo k (pos n) l h e = leb-true n k e
+abs-within (pos m) k (negsuc n) l h e = absurd (subst T (sym h) tt)
+abs-within (negsuc m) k (negsuc n) l h e = omega (arith, leb-true n m h)
+
+-- a count that was read
+pub count-in : (s : List ℕ) (lo hi : ℕ) (why : Refusal) (v : ℤ) (p q : ℕ) → within s (pos lo) (pos hi) why p ≡ ok v q → (lo ≤ natAbs v) × (natAbs v ≤ hi)
+count-in s lo hi why v p q h = let w = within-in (pos lo) (pos hi) why v q s p h in abs-between lo hi v (w .0) (w .1)
+
+-- ---- a coefficient
+module _ (s : List ℕ) (p q : ℕ) (v : ℤ) where
+  pub coefficient-zero : spanning s maxCoefficient Coefficient p ≡ ok v q → natAbs v ≡ 0 → coefficient s p ≡ no WrongTerm
+  coefficient-zero h e = rw h (rw (eq-eqb (natAbs v) 0 e))
+
+  pub coefficient-read : spanning s maxCoefficient Coefficient p ≡ ok v q → (natAbs v ≡ 0 → ⊥) → coefficient s p ≡ ok v q
+  coefficient-read h e = rw h (rw (ne-eqb (natAbs v) 0 e))
+
+  pub coefficient-no : (why : Refusal) → spanning s maxCoefficient Coefficient p ≡ no why → coefficient s p ≡ no why
+  coefficient-no why h = rw h

@@ -1,0 +1,183 @@
+-- Laws of what is stored: buffers filled from the front, columns side by side, rows as wide as the largest. Assumes nothing.
+-- ---- lists
+use mathlib.Core.Path.{_≡_, refl, sym, ap, _∙_}
+use mathlib.Core.List.{List, [], _∷_, _++_, map, append-nil, append-assoc}
+use Prim.Native.Nat.{ℕ, zero, suc, _+_, _-_, _*_, _≤_, _<_}
+use native.Mathlib.Omega.{arith}
+use lib.IntN.{ℤ, pos}
+use lib.ListN.{length, take, drop, set, replicate, length-append, length-map, length-replicate, length-set}
+use lib.Seq.{take-at, drop-at, drop-drop}
+use Rattle.whole.specs.Lists.{zeros}
+use Rattle.text.specs.Buffers.{written}
+use Rattle.problem.specs.Kinds.{Slack, none, slack, slackOf, slackCount}
+use Rattle.problem.specs.Kinds as kinds
+use Rattle.sections.specs.Sections.{deckColumns, Line}
+use Rattle.sections.specs.Columns.{rightOf, placed, withSlack, slackColumn, slackColumns, coefficientRow, coefficientRows}
+use Rattle.sections.specs.Columns.{columnWidth, columnCells, cell, cells, padded, blank}
+use Rattle.sections.specs.declared.Interval.{Interval}
+use Rattle.sections.specs.declared.Term.{Term}
+use Rattle.text.proofs.Copying.{written-all, written-then}
+
+pub map-two : {A B : Type 0} (f : A → B) (u v : List A) → map f (u ++ v) ≡ map f u ++ map f v
+map-two f [] v = refl
+map-two f (x ∷ u) v = ap (λ (t : List _). f x ∷ t) (map-two f u v)
+
+pub length-snoc : {A : Type 0} (done : List A) (a : A) (i : ℕ) → length done ≡ i → length (done ++ (a ∷ [])) ≡ i + 1
+length-snoc done a i h = rw (length-append done (a ∷ [])) (omega arith)
+
+pub blank-is : (n : ℕ) → blank n ≡ zeros n
+unfolding blank
+blank-is n = refl
+
+pub length-blank : (n : ℕ) → length (blank n) ≡ n
+unfolding blank
+length-blank n = length-replicate n (pos 0)
+
+-- ---- a buffer of 0 that is filled from the front
+pub padded-none : (size : ℕ) → blank size ≡ padded size []
+unfolding blank
+padded-none size = let e : size - 0 ≡ size = omega arith in rw e
+
+pub drop-zeros : (k n : ℕ) → drop k (replicate n (pos 0)) ≡ replicate (n - k) (pos 0)
+drop-zeros zero n = let e : n - 0 ≡ n = omega arith in rw e
+drop-zeros (suc k) zero = let e : 0 - suc k ≡ 0 = omega arith in rw e
+drop-zeros (suc k) (suc n) = drop-zeros k n ∙ ap (λ (j : ℕ). replicate j (pos 0)) (let e : n - k ≡ suc n - suc k = omega arith in e)
+
+pub padded-written : (size c : ℕ) (u w : List ℤ) → length u ≡ c → c + length w ≤ size → written (padded size u) c w ≡ padded size (u ++ w)
+padded-written size c u w e h =
+    let z : List ℤ = replicate (size - length u) (pos 0) in
+    let t : take c (padded size u) ≡ u = take-at u z c e in
+    let d : drop (c + length w) (padded size u) ≡ replicate (size - length (u ++ w)) (pos 0) =
+    sym (drop-drop (length w) c (padded size u)) ∙ ap (drop (length w)) (drop-at u z c e) ∙ drop-zeros (length w) (size - length u) ∙
+    ap (λ (j : ℕ). replicate j (pos 0)) (two u w) in
+    rw (t, d) (sym (append-assoc u w (replicate (size - length (u ++ w)) (pos 0))))
+  where
+    two : (u w : List ℤ) → size - length u - length w ≡ size - length (u ++ w)
+    two u w = rw (length-append u w) (omega arith)
+
+pub from-blank : (size : ℕ) (o u w : List ℤ) → length w ≤ size → o ≡ blank size → u ≡ written o 0 w → u ≡ padded size w
+from-blank size o u w h e f = f ∙ (rw (e, padded-none size) (padded-written size 0 [] w refl (omega arith)))
+
+-- a buffer that is set to 0 from end to end
+pub wiped : (size : ℕ) (o u : List ℤ) → length o ≡ size → u ≡ written o 0 (replicate (size - 0) (pos 0)) → u ≡ blank size
+wiped size o u h e =
+    let z : size - 0 ≡ size = omega arith in
+    e ∙ (rw z (written-all o (replicate size (pos 0)) (length-replicate size (pos 0) ∙ sym h) ∙ sym (blank-is size)))
+
+-- ---- columns side by side in their table
+pub cells-two : (u v : List Interval) → cells (u ++ v) ≡ cells u ++ cells v
+unfolding cells
+cells-two [] v = refl
+cells-two (i ∷ u) v = ap (λ (x : List ℤ). cell i ++ x) (cells-two u v) ∙ sym (append-assoc (cell i) (cells u) (cells v))
+
+pub cells-one : (i : Interval) → cells (i ∷ []) ≡ cell i
+unfolding cells
+cells-one i = append-nil (cell i)
+
+pub length-cells : (is : List Interval) → length (cells is) ≡ length is * columnWidth
+unfolding cells
+length-cells [] = omega arith
+length-cells (i ∷ is) = length-append (cell i) (cells is) ∙ (rw (length-cells is) (omega arith))
+
+pub cells-more : (i : ℕ) (done : List Interval) (a : Interval) (o k : List ℤ) → length done ≡ i → i < deckColumns → o ≡ padded columnCells (cells done)
+    → k ≡ written o (i * columnWidth) (cell a) → k ≡ padded columnCells (cells (done ++ (a ∷ [])))
+cells-more i done a o k c h e f =
+    let m : length (cells done) ≡ i * columnWidth = length-cells done ∙ ap (λ (j : ℕ). j * columnWidth) c in
+    f ∙
+    (rw e
+    (padded-written columnCells (i * columnWidth) (cells done) (cell a) m (omega arith) ∙
+    ap (padded columnCells) (ap (λ (x : List ℤ). cells done ++ x) (sym (cells-one a)) ∙ sym (cells-two done (a ∷ [])))))
+
+-- ---- the y's of rows
+pub length-slack : (y : Slack) → length (slackColumn y) ≡ kinds.slackColumns y
+length-slack none = refl
+length-slack (slack k lo) = refl
+
+pub slacks-more : (done : List Line) (l : Line) → slackColumns (done ++ (l ∷ [])) ≡ slackColumns done ++ slackColumn (slackOf (l .row .kind))
+unfolding slackColumns
+slacks-more [] l = append-nil (slackColumn (slackOf (l .row .kind)))
+slacks-more (d ∷ done) l =
+    ap (λ (x : List Interval). slackColumn (slackOf (d .row .kind)) ++ x) (slacks-more done l) ∙
+    sym (append-assoc (slackColumn (slackOf (d .row .kind))) (slackColumns done) (slackColumn (slackOf (l .row .kind))))
+
+-- ---- a row's coefficients
+pub placed-none : (u : List ℤ) → u ≡ placed [] u
+unfolding placed
+placed-none u = refl
+
+pub placed-more : (done : List Term) (t : Term) (u : List ℤ) → set (placed done u) (t .index - 1) (t .coefficient) ≡ placed (done ++ (t ∷ [])) u
+unfolding placed
+placed-more [] t u = refl
+placed-more (d ∷ done) t u = placed-more done t (set u (d .index - 1) (d .coefficient))
+
+length-placed : (done : List Term) (u : List ℤ) → length (placed done u) ≡ length u
+unfolding placed
+length-placed [] u = refl
+length-placed (d ∷ done) u = length-placed done (set u (d .index - 1) (d .coefficient)) ∙ length-set u (d .index - 1) (d .coefficient)
+
+pub length-withSlack : (y : Slack) (c : ℕ) (u : List ℤ) → length (withSlack y c u) ≡ length u
+length-withSlack none c u = refl
+length-withSlack (slack k lo) c u = length-set u c k
+
+pub length-row : (n c : ℕ) (l : Line) → length (coefficientRow n c l) ≡ n
+length-row n c l =
+    length-withSlack (slackOf (l .row .kind)) c (placed (l .terms) (zeros n)) ∙ (length-placed (l .terms) (zeros n) ∙ length-replicate n (pos 0))
+
+-- ---- rows one after the other
+pub rows-more : (n c : ℕ) (done : List Line) (l : Line)
+    → coefficientRows n c (done ++ (l ∷ [])) ≡ coefficientRows n c done ++ coefficientRow n (c + length (slackColumns done)) l
+unfolding coefficientRows slackColumns
+rows-more n c [] l = let z : c + 0 ≡ c = omega arith in append-nil (coefficientRow n c l) ∙ (rw z)
+rows-more n c (d ∷ done) l =
+    let y = slackColumn (slackOf (d .row .kind)) in
+    let k = slackCount (d .row .kind) in
+    let z : c + k + length (slackColumns done) ≡ c + length (y ++ slackColumns done) =
+    rw (length-append y (slackColumns done)) (omega (arith, length-slack (slackOf (d .row .kind)))) in
+    ap (λ (x : List ℤ). coefficientRow n c d ++ x) (rows-more n (c + k) done l) ∙
+    (sym (append-assoc (coefficientRow n c d) (coefficientRows n (c + k) done) (coefficientRow n (c + k + length (slackColumns done)) l)) ∙
+    ap (λ (j : ℕ). (coefficientRow n c d ++ coefficientRows n (c + k) done) ++ coefficientRow n j l) z)
+
+pub length-rows : (n c : ℕ) (ls : List Line) → length (coefficientRows n c ls) ≡ length ls * n
+unfolding coefficientRows
+length-rows n c [] = omega arith
+length-rows n c (d ∷ ls) =
+    length-append (coefficientRow n c d) (coefficientRows n (c + slackCount (d .row .kind)) ls) ∙
+    (rw (length-row n c d, length-rows n (c + slackCount (d .row .kind)) ls) (omega arith))
+
+-- ---- the next row's column, right side and coefficients
+module _ (c : ℕ) (done : List Line) (l : Line) where
+  pub columns-more : (n : ℕ) (o u v : List ℤ) → n ≡ c + length (slackColumns done) → n + slackCount (l .row .kind) ≤ deckColumns
+      → length o ≡ columnCells → u ≡ written o (c * columnWidth) (cells (slackColumns done))
+      → v ≡ written u (n * columnWidth) (cells (slackColumn (slackOf (l .row .kind))))
+      → v ≡ written o (c * columnWidth) (cells (slackColumns (done ++ (l ∷ []))))
+  columns-more n o u v e h s p q =
+      let y : List Interval = slackColumn (slackOf (l .row .kind)) in
+      let m = length-cells (slackColumns done) in
+      let j = length-cells y in
+      let w = length-slack (slackOf (l .row .kind)) in
+      let a : n * columnWidth ≡ c * columnWidth + length (cells (slackColumns done)) = omega arith in
+      q ∙
+      (rw (p, a)
+      (written-then o (c * columnWidth) (cells (slackColumns done)) (cells y) (omega arith) ∙
+      ap (written o (c * columnWidth)) (sym (cells-two (slackColumns done) y) ∙ ap cells (sym (slacks-more done l)))))
+
+  pub rights-more : (i : ℕ) (o u v : List ℤ) → length done ≡ i → i < length o → u ≡ written o 0 (map rightOf done) → v ≡ written u i (l .row .right ∷ [])
+      → v ≡ written o 0 (map rightOf (done ++ (l ∷ [])))
+  rights-more i o u v e h p q =
+      let m : length (map rightOf done) ≡ length done = length-map done rightOf in
+      let a : i ≡ 0 + length (map rightOf done) = omega arith in
+      q ∙
+      (rw (p, a)
+      (written-then o 0 (map rightOf done) (l .row .right ∷ []) (omega arith) ∙ ap (written o 0) (sym (map-two rightOf done (l ∷ [])))))
+
+  pub table-more : (i n : ℕ) (o u v : List ℤ) → length done ≡ i → i * deckColumns + deckColumns ≤ length o → n ≡ c + length (slackColumns done)
+      → u ≡ written o 0 (coefficientRows deckColumns c done) → v ≡ written u (i * deckColumns) (coefficientRow deckColumns n l)
+      → v ≡ written o 0 (coefficientRows deckColumns c (done ++ (l ∷ [])))
+  table-more i n o u v e h k p q =
+      let m = length-rows deckColumns c done in
+      let w = length-row deckColumns n l in
+      let a : i * deckColumns ≡ 0 + length (coefficientRows deckColumns c done) = omega arith in
+      q ∙
+      (rw (p, a)
+      (written-then o 0 (coefficientRows deckColumns c done) (coefficientRow deckColumns n l) (omega arith) ∙
+      ap (written o 0) (ap (λ (x : ℕ). coefficientRows deckColumns c done ++ coefficientRow deckColumns x l) k ∙ sym (rows-more deckColumns c done l))))

@@ -1,0 +1,110 @@
+-- `sections::rows::next_row` meets its contract: the row is stored at the cursor, and has room for its column. Assumes nothing.
+use mathlib.Core.List.{List}
+use mathlib.Core.Path.{_≡_, refl, ap, _∙_}
+use Prim.Native.Nat.{ℕ, _+_, _*_}
+use native.Mathlib.Omega.{arith}
+use borrow.Author.Needs.{needs}
+use lib.IntN.{ℤ}
+use Rattle.sections.specs.Columns.{placed, withSlack, blank}
+use Rattle.text.specs.Buffers.{written}
+use Rattle.problem.specs.Kinds.{slackOf, slackCount}
+use Rattle.problem.specs.declared.Row.{Row}
+use Rattle.sections.specs.Sections.{deckColumns, line}
+use Rattle.sections.specs.Steps.{LineStored}
+use Rattle.sections.proofs.Storage.{blank-is}
+use Rattle.sections.proofs.Parts.{line-room}
+use Rattle.sections.proofs.rows.next_row.Statement.{statement}
+use Rattle.sections.proofs.rows.next_row.Tie as tie
+
+slice-aggregate-read-line : tie.Need-slice-aggregate-read-line
+slice-aggregate-read-line c = search needs
+
+read-line-requires : tie.Need-read-line-requires
+unfolding blank
+read-line-requires c κs = ((c .before .before .pre .0 .0, c .before .before .pre .0 .1), refl)
+
+enum-known-g : tie.Need-enum-known-g
+enum-known-g c = search needs
+
+slice-aggregate-store-row : tie.Need-slice-aggregate-store-row
+slice-aggregate-store-row c = search needs
+
+store-row-requires : tie.Need-store-row-requires
+store-row-requires c κs =
+    let x = c .before .before .before .before .before .before .before .before .before .before .before .args in
+    let s = x .s .now in
+    let st : LineStored (line s (x .c .intervals) (x .c .columns) (x .c .at)) (c .before .before .before .before .before .g .given .0 .0) (c .before .before .before .before .before .g .given .0 .1 .0) (c .before .before .before .before .before .before .before .before .read-line .last .1 .1 .0) = rw (c .before .before .before .before .before .g .given .1) at (c .before .before .before .before .before .before .before .before .read-line .ensures) in
+    let room = line-room s (x .c .intervals) (x .c .columns) (x .c .at) _ _ (st .read) in
+    ((room, c .before .before .before .before .before .before .before .before .before .before .before .pre .0 .2), (c .before .before .before .before .before .before .before .before .read-line .kept .1 .1 .0, c .before .before .before .before .before .before .before .before .before .before .before .pre .1))
+
+slacks-requires : tie.Need-slacks-requires
+slacks-requires c κs = search needs
+
+add-t25 : tie.Need-add-t25
+add-t25 c =
+    let x = c .before .before .before .before .before .before .before .before .before .before .before .before .before .before .before .before .before .before .args in
+    let s = x .s .now in
+    let st : LineStored (line s (x .c .intervals) (x .c .columns) (x .c .at)) (c .before .before .before .before .before .before .before .before .before .before .before .before .g .given .0 .0) (c .before .before .before .before .before .before .before .before .before .before .before .before .g .given .0 .1 .0) (c .before .before .before .before .before .before .before .before .before .before .before .before .before .before .before .read-line .last .1 .1 .0) = rw (c .before .before .before .before .before .before .before .before .before .before .before .before .g .given .1) at (c .before .before .before .before .before .before .before .before .before .before .before .before .before .before .before .read-line .ensures) in
+    let room = line-room s (x .c .intervals) (x .c .columns) (x .c .at) _ _ (st .read) in
+    omega (arith, room, c .before .slacks .ensures)
+
+add-t26 : tie.Need-add-t26
+add-t26 c = search needs
+
+enum-known-g-2 : tie.Need-enum-known-g-2
+enum-known-g-2 c = search needs
+
+same-length : tie.Need-same-length
+same-length c = search needs
+
+same-length-2 : tie.Need-same-length-2
+same-length-2 c = search needs
+
+same-length-3 : tie.Need-same-length-3
+same-length-3 c = search needs
+
+returns : tie.Need-returns
+returns c =
+    let x = c .before .before .before .before .before .before .before .before .before .before .before .before .before .before .before .before .before .before .before .args in
+    let s = x .s .now in
+    let r : Row = c .before .before .before .before .before .before .before .before .before .before .before .before .before .g .given .0 .0 in
+    let w = c .before .before .before .before .before .before .before .store-row .ensures in
+    let st : LineStored (line s (x .c .intervals) (x .c .columns) (x .c .at)) r (c .before .before .before .before .before .before .before .before .before .before .before .before .before .g .given .0 .1 .0) (c .before .before .before .before .before .before .before .before .before .before .before .before .before .before .before .before .read-line .last .1 .1 .0) = rw (c .before .before .before .before .before .before .before .before .before .before .before .before .before .g .given .1) at (c .before .before .before .before .before .before .before .before .before .before .before .before .before .before .before .before .read-line .ensures) in
+    let room = line-room s (x .c .intervals) (x .c .columns) (x .c .at) _ _ (st .read) in
+    let k : c .before .before .slacks .result ≡ slackCount (r .kind) = c .before .before .slacks .ensures in
+    record {
+      line = record { row = r; terms = st .terms };
+      read = st .read;
+      intervals = refl;
+      columns = ap (λ (j : ℕ). x .c .columns + j) k;
+      rows = refl;
+      room = omega (arith, room, k);
+      columns-is = w .columns-is;
+      rights-is = w .rights-is;
+      table-is =
+          w .table-is ∙
+          ap (λ (u : List ℤ). written (x .table .now) (x .c .rows * deckColumns) (withSlack (slackOf (r .kind)) (x .c .columns) u))
+          (st .line ∙ ap (placed (st .terms)) (blank-is deckColumns));
+    }
+
+returns-2 : tie.Need-returns-2
+returns-2 c = rw (c .before .g2 .given .1) at (c .before .before .before .before .read-line .ensures)
+
+pub next-row-spec : {M : Type 1} → statement M
+next-row-spec =
+    tie.close
+    (tie.spec
+    slice-aggregate-read-line
+    read-line-requires
+    enum-known-g
+    slice-aggregate-store-row
+    store-row-requires
+    slacks-requires
+    add-t25
+    add-t26
+    enum-known-g-2
+    same-length
+    same-length-2
+    same-length-3
+    returns
+    returns-2)

@@ -1,0 +1,130 @@
+-- `sections::rows::read_line` meets its contract: the row, the count of its terms, and then the terms. Assumes nothing.
+use mathlib.Core.Path.{_≡_, ap, _∙_}
+use mathlib.Core.List.{[]}
+use Prim.Native.Nat.{ℕ}
+use borrow.Author.Needs.{sfits-of, needs}
+use lib.IntN.{ℤ, pos, natAbs}
+use lib.ListN.{length}
+use mir.Syntax.{w64}
+use mir.Val.{toZ, ofZ}
+use mir.Facts.{toZ-ofZ}
+use Rattle.problem.specs.declared.Refusal.the-variants.{Term as WrongTerm}
+use Rattle.sections.specs.Rules.{within, no}
+use Rattle.sections.specs.Sections.{deckColumns, rowOf, terms}
+use Rattle.sections.specs.Columns.{placed}
+use Rattle.sections.specs.Steps.{gotOf, rowGotOf, TermsStored}
+use Rattle.sections.proofs.Parts.{line-read, line-row, line-count, line-terms}
+use Rattle.sections.proofs.Storage.{length-blank}
+use Rattle.sections.proofs.rows.read_line.Statement.{statement}
+use Rattle.sections.proofs.rows.read_line.Tie as tie
+
+read-row-requires : tie.Need-read-row-requires
+read-row-requires c κs = search needs
+
+enum-known-g : tie.Need-enum-known-g
+enum-known-g c = search needs
+
+signed-requires : tie.Need-signed-requires
+signed-requires c κs = search needs
+
+within-requires : tie.Need-within-requires
+within-requires c κs = search needs
+
+enum-known-b : tie.Need-enum-known-b
+enum-known-b c = search needs
+
+natural-requires : tie.Need-natural-requires
+natural-requires c κs = search needs
+
+read-terms-requires : tie.Need-read-terms-requires
+read-terms-requires c κs = (c .before .before .before .before .before .before .before .before .before .before .before .before .pre .0 .0, ap length (c .before .before .before .before .before .before .before .before .before .before .before .before .pre .1) ∙ length-blank deckColumns)
+
+enum-known-u : tie.Need-enum-known-u
+enum-known-u c = search needs
+
+enum-known-u-2 : tie.Need-enum-known-u-2
+enum-known-u-2 c = search needs
+
+enum-known-b-2 : tie.Need-enum-known-b-2
+enum-known-b-2 c = search needs
+
+enum-known-g-2 : tie.Need-enum-known-g-2
+enum-known-g-2 c = search needs
+
+same-length : tie.Need-same-length
+same-length c = search needs
+
+returns : tie.Need-returns
+returns c =
+    let x = c .before .before .before .before .before .before .before .before .before .before .before .before .before .before .before .before .before .args in
+    let s = x .s .now in
+    let n : ℕ = x .c .intervals in
+    let g = c .before .before .before .before .before .before .before .before .before .before .before .before .before .g .given in
+    let b = c .before .before .before .before .before .before .before .before .b .given in
+    let k : ℤ = b .0 .0 in
+    let f : toZ w64 (ofZ w64 k) ≡ k = search needs in
+    let h : toZ w64 (ofZ w64 (c .before .before .before .before .before .before .before .before .before .before .before .signed .result)) ≡ pos n = toZ-ofZ (sfits-of (c .before .before .before .before .before .before .before .before .before .before .before .signed .ok)) ∙ c .before .before .before .before .before .before .before .before .before .before .before .signed .ensures in
+    let p : within s (pos 0) (pos n) WrongTerm (g .0 .1 .0) ≡ gotOf (c .before .before .before .before .before .before .before .before .before .before .within .result) = rw h at (c .before .before .before .before .before .before .before .before .before .before .within .ensures) in
+    let i : c .before .before .before .before .before .before .natural .result ≡ natAbs k = rw f at (c .before .before .before .before .before .before .natural .ensures) in
+    let st : TermsStored (terms s (natAbs k) 0 n [] (b .0 .1 .0)) (c .before .u .given .0 .0) (x .line .now) (c .before .before .before .before .read-terms .last .1 .1 .1 .1 .0) = rw (c .before .u .given .1, i) at (c .before .before .before .before .read-terms .ensures) in
+    record {
+      terms = st .terms;
+      read = line-read s n (x .c .columns) (x .c .at) _ _ _ (g .0 .0) k (st .terms) (c .before .before .before .before .before .before .before .before .before .before .before .before .before .before .before .read-row .ensures ∙ ap rowGotOf (g .1)) (p ∙ ap gotOf (b .1)) (st .read);
+      line = st .line ∙ ap (placed (st .terms)) (c .before .before .before .before .before .before .before .before .before .before .before .before .before .before .before .before .before .pre .1);
+    }
+
+same-length-2 : tie.Need-same-length-2
+same-length-2 c = search needs
+
+returns-2 : tie.Need-returns-2
+returns-2 c =
+    let x = c .before .before .before .before .before .before .before .before .before .before .before .before .before .before .before .before .before .args in
+    let s = x .s .now in
+    let n : ℕ = x .c .intervals in
+    let g = c .before .before .before .before .before .before .before .before .before .before .before .before .before .g .given in
+    let b = c .before .before .before .before .before .before .before .before .b .given in
+    let k : ℤ = b .0 .0 in
+    let f : toZ w64 (ofZ w64 k) ≡ k = search needs in
+    let h : toZ w64 (ofZ w64 (c .before .before .before .before .before .before .before .before .before .before .before .signed .result)) ≡ pos n = toZ-ofZ (sfits-of (c .before .before .before .before .before .before .before .before .before .before .before .signed .ok)) ∙ c .before .before .before .before .before .before .before .before .before .before .before .signed .ensures in
+    let p : within s (pos 0) (pos n) WrongTerm (g .0 .1 .0) ≡ gotOf (c .before .before .before .before .before .before .before .before .before .before .within .result) = rw h at (c .before .before .before .before .before .before .before .before .before .before .within .ensures) in
+    let i : c .before .before .before .before .before .before .natural .result ≡ natAbs k = rw f at (c .before .before .before .before .before .before .natural .ensures) in
+    let st : terms s (natAbs k) 0 n [] (b .0 .1 .0) ≡ no (c .before .u2 .given .0 .0) = rw (c .before .u2 .given .1, i) at (c .before .before .before .before .read-terms .ensures) in
+    line-terms s n (x .c .columns) (x .c .at) _ _ 0 (g .0 .0) k [] _ (c .before .before .before .before .before .before .before .before .before .before .before .before .before .before .before .read-row .ensures ∙ ap rowGotOf (g .1)) (p ∙ ap gotOf (b .1)) st
+
+returns-3 : tie.Need-returns-3
+returns-3 c =
+    let x = c .before .before .before .before .before .before .before .before .before .before .args in
+    let s = x .s .now in
+    let n : ℕ = x .c .intervals in
+    let g = c .before .before .before .before .before .before .g .given in
+    let h : toZ w64 (ofZ w64 (c .before .before .before .before .signed .result)) ≡ pos n = toZ-ofZ (sfits-of (c .before .before .before .before .signed .ok)) ∙ c .before .before .before .before .signed .ensures in
+    let p : within s (pos 0) (pos n) WrongTerm (g .0 .1 .0) ≡ gotOf (c .before .before .before .within .result) = rw h at (c .before .before .before .within .ensures) in
+    line-count s n (x .c .columns) (x .c .at) _ 0 0 (g .0 .0) (pos 0) [] _ (c .before .before .before .before .before .before .before .before .read-row .ensures ∙ ap rowGotOf (g .1)) (p ∙ ap gotOf (c .before .b2 .given .1))
+
+returns-4 : tie.Need-returns-4
+returns-4 c =
+    let x = c .before .before .before .before .before .args in
+    let s = x .s .now in
+    line-row s (x .c .intervals) (x .c .columns) (x .c .at) 0 0 0 (rowOf 0 (pos 0)) (pos 0) [] _ (c .before .before .before .read-row .ensures ∙ ap rowGotOf (c .before .g2 .given .1))
+
+pub read-line-spec : {M : Type 1} → statement M
+read-line-spec =
+    tie.close
+    (tie.spec
+    read-row-requires
+    enum-known-g
+    signed-requires
+    within-requires
+    enum-known-b
+    natural-requires
+    read-terms-requires
+    enum-known-u
+    enum-known-u-2
+    enum-known-b-2
+    enum-known-g-2
+    same-length
+    returns
+    same-length-2
+    returns-2
+    returns-3
+    returns-4)

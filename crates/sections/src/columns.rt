@@ -1,0 +1,19 @@
+// The reader's table of columns.
+use crate::Interval;
+use crate::Sizes;
+use text::buffers::copy;
+ghost use mathlib.Core.Path.{_≡_};
+ghost use Prim.Native.Nat.{_*_, _<_};
+ghost use lib.ListN.{length};
+ghost use Rattle.text.specs.Buffers.{written};
+ghost use Rattle.sections.specs.Sections.{deckColumns};
+ghost use Rattle.sections.specs.Columns.{columnWidth, columnCells, cell};
+
+// Puts a column's numbers side by side.
+pub fn put_column(columns: &mut [i64], i: usize, v: Interval)
+    requires { ⌜ (i < deckColumns) × (length (now columns) ≡ columnCells) ⌝ }
+    ensures { λ _. ⌜ now (columns .exit) ≡ written (now (columns .entry)) (i * columnWidth) (cell v) ⌝ }
+{
+    let numbers = [v.lower, v.upper, v.goal];
+    copy(columns, i * Sizes::WIDTH, &numbers);
+}

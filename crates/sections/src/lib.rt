@@ -1,0 +1,84 @@
+// The sections of a text. Each takes the cursor that the one before left, and hands one on; a refused one leaves its buffers 0.
+mod columns;
+pub mod intervals;
+pub mod rows;
+mod rules;
+
+use problem::Refusal;
+ghost use mathlib.Core.Path.{_≡_};
+ghost use Rattle.sections.specs.Sections.{deckSizes};
+
+// The limits of a text: columns, rows and bytes.
+pub struct Sizes {
+    pub columns: usize,
+    pub rows: usize,
+    pub text: usize,
+}
+
+impl Sizes {
+    pub const COLUMNS: usize = 48;
+
+    pub const ROWS: usize = 48;
+
+    pub const COEFFICIENTS: usize = Sizes::ROWS * Sizes::COLUMNS;
+
+    pub const TEXT: usize = 32768;
+
+    // The numbers of a column in the reader's table of columns: its lower bound, its upper bound and its goal.
+    pub const WIDTH: usize = 3;
+
+    pub const CELLS: usize = Sizes::COLUMNS * Sizes::WIDTH;
+
+    // All of them, so that the definitions' numbers are held to these.
+    pub fn limits() -> Self
+        ensures { λ r. ⌜ r ≡ deckSizes ⌝ }
+    {
+        Sizes {
+            columns: Sizes::COLUMNS,
+            rows: Sizes::ROWS,
+            text: Sizes::TEXT,
+        }
+    }
+}
+
+// An interval's line: its bounds and its goal.
+pub struct Interval {
+    pub lower: i64,
+    pub upper: i64,
+    pub goal: i64,
+}
+
+// The places of a column's numbers in the reader's table.
+impl Interval {
+    pub const LOWER: usize = 0;
+
+    pub const UPPER: usize = 1;
+
+    pub const GOAL: usize = 2;
+}
+
+// A term of a row: the interval's index, from 1, and its coefficient.
+pub struct Term {
+    pub index: usize,
+    pub coefficient: i64,
+}
+
+// Where reading has come to: the place, the count of intervals, and the columns and rows so far.
+pub struct Cursor {
+    pub at: usize,
+    pub intervals: usize,
+    pub columns: usize,
+    pub rows: usize,
+}
+
+// A section, or a line of one, that was read up to a cursor.
+pub enum Section {
+    Read(Cursor),
+    Refused(Refusal),
+}
+
+// A number and the place after it.
+enum Got {
+    Value(i64, usize),
+    Refused(Refusal),
+}

@@ -1,0 +1,98 @@
+// The table of a problem's columns: a record of six numbers for each, packed once from the lists that a caller lends.
+ghost use mathlib.Core.Path.{_≡_};
+ghost use Prim.Native.Nat.{ℕ, _+_, _*_, _<_, _≤_};
+ghost use lib.IntN.{natAbs};
+ghost use lib.ListN.{length};
+ghost use Rattle.whole.specs.Lists.{entry};
+ghost use Rattle.problem.specs.Limits.{maxGoal};
+ghost use Rattle.settling.specs.Columns.{width, valued, columnAt, withGoal, listed, packed};
+ghost use Rattle.settling.specs.Packing.{putWish, put, Packable};
+use crate::Cell;
+use crate::Wish;
+use crate::goal_wish;
+use crate::measures::is_zero;
+
+// How many numbers a record has.
+pub const WIDTH: usize = 6;
+
+// Where they stand in it.
+const LOWER: usize = 0;
+
+const UPPER: usize = 1;
+
+const LOW: usize = 2;
+
+const HIGH: usize = 3;
+
+// Whether a wish is set, and which.
+const GIVEN: usize = 4;
+
+const WISH: usize = 5;
+
+// Column j with its value.
+pub fn cell_at(columns: &[i64], values: &[i64], j: usize) -> Cell
+    requires { ⌜ (width * j + width ≤ length (now columns)) × (j < length (now values)) ⌝ }
+    ensures { λ r. ⌜ r ≡ valued (columnAt (now (columns .entry)) j) (entry j (now (values .entry))) ⌝ }
+{
+    let at = WIDTH * j;
+    Cell {
+        lower: columns[at + LOWER],
+        upper: columns[at + UPPER],
+        low: columns[at + LOW],
+        high: columns[at + HIGH],
+        value: values[j],
+    }
+}
+
+// The wish of column j.
+pub fn wish_at(columns: &[i64], j: usize) -> Wish
+    requires { ⌜ width * j + width ≤ length (now columns) ⌝ }
+    ensures { λ r. ⌜ r ≡ columnAt (now (columns .entry)) j .wish ⌝ }
+{
+    let at = WIDTH * j;
+    if is_zero(columns[at + GIVEN]) {
+        return Wish::Unset;
+    }
+    Wish::Set(columns[at + WISH])
+}
+
+// Writes a wish into the record at a place.
+fn put_wish(columns: &mut [i64], at: usize, wish: Wish)
+    requires { ⌜ at + width ≤ length (now columns) ⌝ }
+    ensures { λ _. ⌜ now (columns .exit) ≡ putWish at wish (now (columns .entry)) ⌝ }
+{
+    match wish {
+        Wish::Unset => {
+            columns[at + GIVEN] = 0;
+            columns[at + WISH] = 0;
+        }
+        Wish::Set(x) => {
+            columns[at + GIVEN] = 1;
+            columns[at + WISH] = x;
+        }
+    }
+}
+
+// Writes the record of a column with one goal at a place.
+fn put_column(columns: &mut [i64], at: usize, lower: i64, upper: i64, goal: i64)
+    requires { ⌜ (at + width ≤ length (now columns)) × (natAbs goal ≤ maxGoal) ⌝ }
+    ensures { λ _. ⌜ now (columns .exit) ≡ put at (withGoal lower upper goal) (now (columns .entry)) ⌝ }
+{
+    columns[at + LOWER] = lower;
+    columns[at + UPPER] = upper;
+    columns[at + LOW] = goal;
+    columns[at + HIGH] = goal;
+    put_wish(columns, at, goal_wish(goal));
+}
+
+// Packs the columns of three lists into a table.
+pub fn pack(columns: &mut [i64], lower: &[i64], upper: &[i64], goals: &[i64])
+    requires { ⌜ Packable (now columns) (now lower) (now upper) (now goals) ⌝ }
+    ensures { λ _. ⌜ now (columns .exit) ≡ packed (listed (length (now (lower .entry))) (now (lower .entry)) (now (upper .entry)) (now (goals .entry))) ⌝ }
+{
+    let mut j = 0;
+    while j < lower.len() {
+        put_column(columns, WIDTH * j, lower[j], upper[j], goals[j]);
+        j += 1;
+    }
+}

@@ -1,0 +1,64 @@
+-- `tableau::eliminate` meets its contract: it lends a row to work with, and wipes a table in which a number beyond M was met. Assumes nothing.
+use mathlib.Core.Path.{sym, _∙_, ap}
+use lib.Seq.{length-take-le}
+use Rattle.whole.specs.Lists.{zeros}
+use Rattle.tableau.specs.Elimination.{Run}
+use Rattle.tableau.specs.Steps.{StopsRun}
+use Rattle.tableau.specs.Buffers.{eliminatedOf}
+use Rattle.tableau.proofs.Forms.{outcome-by}
+use borrow.Author.Needs.{needs}
+use Rattle.tableau.proofs.eliminate.Statement.{statement}
+use Rattle.tableau.proofs.eliminate.Tie as tie
+
+-- the elimination that the definition gives
+abbrev goal : tie.Start → Run
+goal s = eliminatedOf (s .args .rows) (s .args .w) (s .args .t .now)
+
+-- what all columns answer and leave
+ran :
+    (c : tie.After-pass-all) →
+    StopsRun (goal (c .before .before .before)) (c .pass-all .result) (c .pass-all .last .0)
+ran c =
+    let s = c .before .before .before in
+    rw (length-take-le (s .args .w) _ (s .pre .0 .1)) at (c .pass-all .ensures)
+
+array-borrow-prefix-pivot : tie.Need-array-borrow-prefix-pivot
+array-borrow-prefix-pivot c = search needs
+
+slice-aggregate-pass-all : tie.Need-slice-aggregate-pass-all
+slice-aggregate-pass-all c = sym (length-take-le (c .before .before .args .w) _ (c .before .before .pre .0 .1))
+
+pass-all-requires : tie.Need-pass-all-requires
+pass-all-requires c κs = rw (length-take-le (c .before .before .args .w) _ (c .before .before .pre .0 .1)) (c .before .before .pre .0 .0, (c .before .before .pre .0 .1, c .before .before .pre .1))
+
+wipe-requires : tie.Need-wipe-requires
+wipe-requires c κs = search needs
+
+same-length : tie.Need-same-length
+same-length c = search needs
+
+returns : tie.Need-returns
+returns c =
+    let n = c .before .before .before .before .before .before in
+    outcome-by (goal (n .before .before .before)) (c .before .before .before .before .before .before .before .before .before .args .t .now) (sym (c .before .before .before .if1 .taken) ∙ ran n .answer) (c .before .wipe .ensures ∙ ap zeros (c .before .before .before .before .before .before .pass-all .kept .0))
+
+same-length-2 : tie.Need-same-length-2
+same-length-2 c = search needs
+
+returns-2 : tie.Need-returns-2
+returns-2 c =
+    let n = c .before .before .before in
+    outcome-by (goal (n .before .before .before)) (c .before .before .before .before .before .before .args .t .now) (sym (c .if1 .left) ∙ ran n .answer) (ran n .left (c .if1 .left))
+
+pub eliminate-spec : {M : Type 1} → statement M
+eliminate-spec =
+    tie.close
+    (tie.spec
+    array-borrow-prefix-pivot
+    slice-aggregate-pass-all
+    pass-all-requires
+    wipe-requires
+    same-length
+    returns
+    same-length-2
+    returns-2)
