@@ -10,7 +10,6 @@ use mathlib.Core.Path.{_≡_, refl, sym, _∙_, ap, ap₂, subst}
 use mathlib.Core.Bool.{Bool, true, false, cond, _||_, true≢false}
 use mathlib.Core.List.{List}
 use Prim.Native.Nat.{ℕ}
-use native.Mathlib.Omega.{arith}
 use lib.IntN.{ℤ}
 use lib.ListN.{length, take}
 use Rattle.lattice.specs.Rows.{allZero, flat}
@@ -29,6 +28,7 @@ use Rattle.rightside.specs.Solutions.{answerOf, solutionOf}
 use Rattle.rightside.specs.declared.Solution.the-variants.{Over, None, Found as Met}
 use Rattle.rightside.proofs.Answers.{solution-over, solution-none}
 use Rattle.settling.specs.Seating.{Seated, seated, far, seat}
+use Rattle.settling.proofs.Keeping.{never}
 use Rattle.engine.specs.Assign.{Buffers, Done, done, n, m, matrix, columns, lentOf, refused, overLimit, settleOn, onSeated, solved, assignFit, assign, stands, formed, continueFit, continue}
 use Rattle.engine.specs.Demand.{Within, within-sized}
 use Rattle.engine.specs.Satisfied.{found-basis}
@@ -41,9 +41,6 @@ abbrev pub doneWith : List ℤ → Finished → Done
 doneWith t x = done (x .answer) t (x .values) (x .strides)
 
 -- ---- what the tableau answers
-never : {A : Type 0} → _≡_ {A = ℕ} 0 1 → A
-never e = absurd (omega arith)
-
 none-is : (x : Solved) → None ≡ solutionOf x → x .found ≡ none
 none-is x e = go (x .over) (x .found) e
   where

@@ -39,13 +39,10 @@ use Rattle.tableau.specs.Theorems.{solve-tells, solve-none}
 use Rattle.settling.specs.Seating.{Seated, seated, far, seat}
 use Rattle.settling.specs.Steps.{inBounds}
 use Rattle.settling.specs.Settle.{settle}
-use Rattle.settling.proofs.Keeping.{Keeps, seat-keeps, settle-keeps, settle-fitted}
-use Rattle.engine.specs.Assign.{Buffers, Done, n, m, matrix, columns, lentOf, refused, overLimit, settleOn, onCheck, onSeated, onFound, solved, assign, stands, formed, continue}
+use Rattle.settling.proofs.Keeping.{never, Keeps, seat-keeps, settle-keeps, settle-fitted}
+use Rattle.engine.specs.Assign.{Buffers, Done, n, m, matrix, columns, lentOf, refused, overLimit, settleOn, onCheck, onSeated, onFound}
+use Rattle.engine.specs.Assign.{solved, assign, stands, formed, continue}
 use Rattle.engine.specs.Demand.{Within, SatisfiesRows, within-sized, assign-is}
-
--- two constructors are never equal: `cc` then has 0 equal to 1
-never : {A : Type 0} → _≡_ {A = ℕ} 0 1 → A
-never e = absurd (omega arith)
 
 -- ---- the vectors of a description
 span-rows : (T : List (List ℤ)) → All (Span T) T

@@ -65,7 +65,8 @@ pub fn assign(
     }
 }
 
-// Document 01's Continue: settles the lent list, which has to satisfy the rows (10). It takes the tableau (7), but neither the right side nor seating.
+// Document 01's Continue: settles the lent list, which has to satisfy the rows (10). It forms the tableau (7), but takes neither the right side nor
+// seating.
 pub fn continue_from(
     p: Problem,
     coefficients: &[i64],

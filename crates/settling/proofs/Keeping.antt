@@ -3,6 +3,7 @@
 --   seat-keeps      seating keeps such a property
 --   settle-keeps    and so do the steps of settling
 --   settle-fitted   FITTED is said of lists within the bounds only
+--   never           what follows where two constructors are told to be equal
 -- Assumes nothing.
 use mathlib.Core.Path.{_≡_, refl, subst}
 use mathlib.Core.Bool.{Bool, true, false, cond}
@@ -26,7 +27,7 @@ use Rattle.settling.specs.Steps.{inBounds, partIf, partOf, nextStep}
 use Rattle.settling.specs.Settle.{ended, atRest, counted, onStep, settleFrom}
 
 -- two constructors are never equal: `cc` then has 0 equal to 1
-never : {A : Type 0} → _≡_ {A = ℕ} 0 1 → A
+pub never : {A : Type 0} → _≡_ {A = ℕ} 0 1 → A
 never e = absurd (omega arith)
 
 -- ---- what sums of vectors keep

@@ -6,7 +6,8 @@
 --   cell C v j         column j with its value in the list v
 --   withGoal lo hi g   the column with the bounds lo and hi and the one goal g, which also gives its wish
 --   listed n lo hi gs  the n columns of a list of lower bounds, one of upper bounds and one of goals
---   width              how many numbers the record of a column has in a table: lower bound, upper bound, low goal, high goal, whether a wish is set, wish
+--   width              how many numbers the record of a column has in a table: lower bound, upper bound, low goal, high goal, whether a wish is set,
+--                      wish
 --   columnAt t j       the column whose record is the j-th of the table t
 --   columnsIn n t      the n columns of a table
 --   recordOf c         the record of a column

@@ -97,7 +97,8 @@ above-under lo hi (negsuc k) a d = omega arith
 above-under (negsuc k) hi (pos zero) a d = absurd (false≢true a)
 above-under (pos zero) hi (pos zero) a d = absurd (false≢true a)
 above-under (pos (suc k)) hi (pos zero) a d =
-    absurd (omega (arith, sym (ap (λ (t : Bool). cond t (natAbs (pos (suc k) -ℤ pos 0)) (cond (ltZ hi (pos 0)) (natAbs (pos 0 -ℤ hi)) 0)) (lt-ltb 0 (suc k) (omega arith))) ∙ d))
+    let e : ltZ (pos 0) (pos (suc k)) ≡ true = lt-ltb 0 (suc k) (omega arith) in
+    absurd (omega (arith, sym (ap (λ (t : Bool). cond t (natAbs (pos (suc k) -ℤ pos 0)) (cond (ltZ hi (pos 0)) (natAbs (pos 0 -ℤ hi)) 0)) e) ∙ d))
 
 pub inside-above : (c : Cell) → leZ (pos 1) (c .lower) ≡ true → distance c ≡ 0 → 0 < natAbs (c .value)
 inside-above c a d = above-under (c .lower) (c .upper) (c .value) a d
@@ -118,7 +119,13 @@ measure-room Goals c s = ratio-room (natAbs (c .low)) (natAbs (c .high)) (natAbs
 pub allowed-sized : (p : Part) (c : Cell) → Sized Bounds c → isAllowed p c ≡ true → Sized p c
 allowed-sized Bounds c s e = s
 allowed-sized Goals c s e =
-    record { lower = s .lower; upper = s .upper; low = s .low; high = s .high; value = inside-small maxBound c (s .lower) (s .upper) (eqb-true (distance c) 0 e) }
+    record {
+      lower = s .lower;
+      upper = s .upper;
+      low = s .low;
+      high = s .high;
+      value = inside-small maxBound c (s .lower) (s .upper) (eqb-true (distance c) 0 e);
+    }
 
 -- and any measured value is near
 pub sized-near : (p : Part) (c : Cell) → Sized p c → Sized Bounds c

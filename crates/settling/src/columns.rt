@@ -88,7 +88,8 @@ fn put_column(columns: &mut [i64], at: usize, lower: i64, upper: i64, goal: i64)
 // Packs the columns of three lists into a table.
 pub fn pack(columns: &mut [i64], lower: &[i64], upper: &[i64], goals: &[i64])
     requires { ⌜ Packable (now columns) (now lower) (now upper) (now goals) ⌝ }
-    ensures { λ _. ⌜ now (columns .exit) ≡ packed (listed (length (now (lower .entry))) (now (lower .entry)) (now (upper .entry)) (now (goals .entry))) ⌝ }
+    ensures { λ _. ⌜ now (columns .exit)
+        ≡ packed (listed (length (now (lower .entry))) (now (lower .entry)) (now (upper .entry)) (now (goals .entry))) ⌝ }
 {
     let mut j = 0;
     while j < lower.len() {

@@ -78,7 +78,8 @@ fn gap_at(values: &[i64], columns: &[i64], c: usize) -> i64
 // Adds a row so often that its lead column comes nearest to its ideal.
 fn seat_one(values: &mut [i64], columns: &[i64], row: &[i64])
     requires { ⌜ Placeable (now values) (now columns) × Addable (now values) (now row) × Led (now row) ⌝ }
-    ensures { λ _. ⌜ now (values .exit) ≡ seatOne (columnsIn (length (now (values .entry))) (now (columns .entry))) (now (row .entry)) (now (values .entry)) ⌝ }
+    ensures { λ _. ⌜ now (values .exit)
+        ≡ seatOne (columnsIn (length (now (values .entry))) (now (columns .entry))) (now (row .entry)) (now (values .entry)) ⌝ }
 {
     let c = lead(row);
     let d = gap_at(values, columns, c);
@@ -112,7 +113,8 @@ fn seat_all(values: &mut [i64], columns: &[i64], basis: &[i64], view: Basis) -> 
 pub fn seat(values: &mut [i64], columns: &[i64], basis: &[i64], view: Basis) -> bool
     requires { ⌜ Seatable view (now values) (now columns) (now basis) ⌝ }
     ensures { λ r. ⌜ seatDone r (now (values .exit))
-        ≡ leaves (Seating.seat (columnsIn (view .columns) (now (columns .entry))) (vectors view (now (basis .entry))) (now (values .entry))) (now (values .entry)) ⌝ }
+        ≡ leaves (Seating.seat (columnsIn (view .columns) (now (columns .entry))) (vectors view (now (basis .entry))) (now (values .entry)))
+        (now (values .entry)) ⌝ }
 {
     let mut held = [0i64; Problem::MAX_COLUMNS];
     let n = view.columns;
