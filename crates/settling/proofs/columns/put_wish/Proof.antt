@@ -1,8 +1,6 @@
 -- `settling::columns::put_wish` meets its contract: the two numbers are those of the wish. Assumes nothing.
 use mathlib.Core.Path.{_≡_}
-use Prim.Native.Nat.{_+_}
 use native.Mathlib.Omega.{arith}
-use lib.IntN.{pos}
 use lib.ListN.{length-set}
 use mir.Syntax.{w64}
 use mir.Val.{toZ, ofZ}
@@ -29,7 +27,7 @@ mul-columns-2 : tie.Need-mul-columns-2
 mul-columns-2 c = search needs
 
 slice-set-of-columns-2 : tie.Need-slice-set-of-columns-2
-slice-set-of-columns-2 c = omega (arith, length-set (c .before .before .args .columns .now) (c .before .before .args .at + 4) (pos 0), c .before .before .pre)
+slice-set-of-columns-2 c = rw length-set (omega (arith, c .before .before .pre))
 
 enum-known-wish : tie.Need-enum-known-wish
 enum-known-wish c = search needs
@@ -50,7 +48,7 @@ mul-x : tie.Need-mul-x
 mul-x c = search needs
 
 slice-set-from-x : tie.Need-slice-set-from-x
-slice-set-from-x c = omega (arith, length-set (c .before .before .before .args .columns .now) (c .before .before .before .args .at + 4) (pos 1), c .before .before .before .pre)
+slice-set-from-x c = rw length-set (omega (arith, c .before .before .before .pre))
 
 same-length : tie.Need-same-length
 same-length c = search needs
