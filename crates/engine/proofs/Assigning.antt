@@ -14,7 +14,7 @@ use lib.IntN.{ℤ}
 use lib.ListN.{length, take}
 use Rattle.lattice.specs.Rows.{allZero, flat}
 use Rattle.lattice.specs.Span.{All}
-use Rattle.lattice.specs.Hermite.{Led}
+use Rattle.lattice.specs.Hermite.{Led, Rising}
 use Rattle.lattice.specs.FlatLaws.{length-chop}
 use Rattle.problem.specs.Checks.{Posed, firstCause}
 use Rattle.problem.specs.CheckLaws.{Passes, passes, fits}
@@ -23,7 +23,7 @@ use Rattle.problem.specs.declared.Check.the-variants.{Passed, Failed}
 use Rattle.problem.specs.declared.Refusal.{Refusal}
 use Rattle.problem.specs.declared.Refusal.the-variants.{NoWholeNumbers, Standing}
 use Rattle.tableau.specs.RightSide.{basis, Found, none, some, Solved, rightSide, form, solve}
-use Rattle.tableau.specs.Theorems.{problem-basis, solve-tells}
+use Rattle.tableau.specs.Theorems.{problem-basis, basis-rising, solve-tells}
 use Rattle.rightside.specs.Solutions.{answerOf, solutionOf}
 use Rattle.rightside.specs.declared.Solution.the-variants.{Over, None, Found as Met}
 use Rattle.rightside.proofs.Answers.{solution-over, solution-none}
@@ -125,6 +125,9 @@ module _ (P : Posed) (B : Buffers) (w : Within P B) where
       placed = laid-placed P (lentOf B) q a s (ap length e ∙ start-long) (λ j. rw e (start-small P (lentOf B) q (x .start) (x .vectors) o (x .is) j));
       led = record {
         led = rw (laid-basis P (lentOf B) q a) (subst (λ (k : ℕ). All (Led (n P)) (basis k (formed P .table))) (length-chop (m P) (n P) (P .coefficients)) (problem-basis (n P) (matrix P)));
+        rises =
+            rw (laid-basis P (lentOf B) q a)
+            (subst (λ (k : ℕ). Rising 0 (basis k (formed P .table))) (length-chop (m P) (n P) (P .coefficients)) (basis-rising (n P) (matrix P)));
       };
       values = fits P (lentOf B) q .values-long;
       strides = record { long = fits P (lentOf B) q .strides-long };

@@ -16,6 +16,7 @@ use lib.ListN.{length, take, drop, length-replicate}
 use Rattle.whole.specs.Lists.{entry, zeros}
 use Rattle.lattice.specs.Rows.{neg, allZero, flat, chop}
 use Rattle.lattice.specs.Span.{All, Len}
+use Rattle.lattice.specs.Hermite.{Rising}
 use Rattle.lattice.specs.FlatLaws.{length-chop, chop-flat}
 use Rattle.problem.specs.Limits.{M, maxCoefficient, maxRight}
 use Rattle.problem.specs.Checks.{Posed, allSpan}
@@ -24,7 +25,7 @@ use Rattle.problem.specs.declared.Lent.{Lent}
 use Rattle.tableau.specs.Table.{tableau}
 use Rattle.tableau.specs.Elimination.{Left}
 use Rattle.tableau.specs.RightSide.{sweep, leading, remaining, basis, none, some, Solved, rightSide, form, solve}
-use Rattle.tableau.specs.Theorems.{problem-count, problem-wide, problem-split}
+use Rattle.tableau.specs.Theorems.{problem-count, problem-wide, problem-rising}
 use Rattle.tableau.specs.Within.{Within, within-append, within-neg, within-zeros, within-drop, within-entry}
 use Rattle.tableau.specs.Buffers.{Formable}
 use Rattle.rightside.specs.Solutions.{Solvable}
@@ -85,7 +86,7 @@ module _ (P : Posed) (L : Lent) (q : Passes P L) where
     laid-parted = record {
       long = ap length (a .is) ∙ flat-length (width (P .problem)) (formed P .table) wide ∙ ap (λ (k : ℕ). k * width (P .problem)) (problem-count (n P) (matrix P));
       small = λ i. within-entry t i laid-within;
-      split = rw laid-table (subst (λ (k : ℕ). leading k (formed P .table) ++ remaining k (formed P .table) ≡ formed P .table) count (problem-split (n P) (matrix P)));
+      rises = subst (Rising 0) (sym laid-table) (problem-rising (n P) (matrix P));
     }
 
     pub laid-placed : (v : List ℤ) → length v ≡ n P → ((j : ℕ) → natAbs (entry j v) ≤ M) → Placed (P .problem) t v (table P)

@@ -1,10 +1,9 @@
 -- What the code finds of the basis in the tableau: its place.
---   few-leading      no more rows lead than there are columns
 --   place-inside     the basis starts inside the tableau; tableau-small, which is small
 --   place-basis      the vectors that the code sees there are the basis
 --   place-over       so is what is made of them
 --   place-ready      so what is placed is ready for them
---   place-led        and a basis with leads above 0 can be seated
+--   place-led        and a basis with leads above 0 can be seated; place-rises, if they rise
 -- Assumes nothing.
 use mathlib.Core.Path.{_≡_, refl, sym, _∙_, ap, ap₂}
 use mathlib.Core.Bool.{Bool, true, false, cond}
@@ -18,10 +17,8 @@ use lib.IntN.{ℤ}
 use lib.ListN.{length, take, drop, length-drop}
 use lib.Seq.{take-all}
 use Rattle.whole.specs.Integers.{positive-above}
-use Rattle.lattice.specs.Rows.{chop}
-use Rattle.lattice.specs.FlatLaws.{length-chop}
 use Rattle.lattice.specs.Span.{all-at}
-use Rattle.lattice.specs.Hermite.{Led}
+use Rattle.lattice.specs.Hermite.{Led, Rising}
 use Rattle.problem.specs.Limits.{maxColumns, maxRows}
 use Rattle.problem.specs.declared.Problem.{Problem}
 use Rattle.tableau.specs.RightSide.{leading}
@@ -34,10 +31,7 @@ use Rattle.settling.specs.declared.Basis.{Basis}
 use Rattle.engine.specs.Views.{width, basisView, basisStart, tableOf, basisOf, placeOf, Parted, basis-in}
 use Rattle.engine.specs.Placed.{Placed, LedBasis}
 use Rattle.engine.specs.declared.views.Place.{Place}
-use Rattle.engine.proofs.Leading.{leading-few, maxTableau, product-small}
-
-pub few-leading : (n m : ℕ) (t : List ℤ) (h : ℕ) → h ≡ length (leading m (chop n (m + n) t)) → h ≤ n
-few-leading n m t h e = omega (arith, leading-few m (chop n (m + n) t), length-chop n (m + n) t)
+use Rattle.engine.proofs.Sizes.{maxTableau, product-small}
 
 start-inside : (p : Problem) (h : ℕ) → basisStart p h ≤ p .columns * width p
 start-inside p h = go (ltb h (p .columns)) refl
@@ -83,6 +77,9 @@ module _ (p : Problem) (t : List ℤ) (x : Place) (e : x ≡ placeOf p t) where
       ap length (sym (place-basis q)) ∙ rows-length (x .view .vectors) (x .view .columns) (x .view .stride) (take (length t - x .at) (drop (x .at) t)) in
       let d : Led (p .columns) (vector (basisOf p t) s) = all-at (Led (p .columns)) (basisOf p t) s [] (omega (arith, k)) (b .led) in
       rw (place-basis q) (record { inside = omega (arith, d .wide, d .inside); above = positive-above (d .above) })
+
+  pub place-rises : Parted p t → LedBasis p t → Rising 0 (vectors (x .view) (take (length t - x .at) (drop (x .at) t)))
+  place-rises q b = rw (place-basis q) (b .rises)
 
 pub tableau-small : (p : Problem) (t : List ℤ) → Parted p t → p .columns ≤ maxColumns → p .rows ≤ maxRows → length t ≤ maxTableau
 tableau-small p t q c r = omega (arith, q .long, product-small (p .columns) (width p) c (add-le-add r c))

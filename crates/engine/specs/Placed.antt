@@ -1,7 +1,7 @@
 -- What seating and settling need of a problem whose form lies in the tableau.
 --   Placed p t v c          the list t is parted into leading and remaining rows; wherever the basis starts in it, the values v and the table of
 --                           columns c are ready for it
---   LedBasis p t            each vector of the basis has a lead above 0
+--   LedBasis p t            each vector of the basis has a lead above 0, and the leads rise
 --   Stridable p d           the buffer of the strides has a number for each column
 -- Assumes nothing.
 use mathlib.Core.Path.{_≡_}
@@ -10,7 +10,7 @@ use Prim.Native.Nat.{ℕ, _≤_}
 use lib.IntN.{ℤ}
 use lib.ListN.{length, drop}
 use Rattle.lattice.specs.Span.{All}
-use Rattle.lattice.specs.Hermite.{Led}
+use Rattle.lattice.specs.Hermite.{Led, Rising}
 use Rattle.problem.specs.Limits.{maxRows}
 use Rattle.problem.specs.declared.Problem.{Problem}
 use Rattle.settling.specs.Ready.{Ready}
@@ -23,6 +23,7 @@ pub record Placed (p : Problem) (t v c : List ℤ) : Type 0 where
 
 pub record LedBasis (p : Problem) (t : List ℤ) : Type 0 where
   pub led : All (Led (p .columns)) (basisOf p t)
+  pub rises : Rising 0 (basisOf p t)
 
 pub record Stridable (p : Problem) (d : List ℕ) : Type 0 where
   pub long : length d ≡ p .columns

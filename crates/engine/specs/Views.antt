@@ -2,9 +2,8 @@
 --   basisView p h    how it lies there, where h rows lead in the first m columns
 --   basisStart p h   where its first number stands; the tableau's end where there is no vector
 --   Place            both together (declared in src/); placeOf p t, of the basis in the list t
---   leadsAt w i m t  row i leads in the first m columns
 --   tableOf p t      the rows of a list of the tableau's length; basisOf p t, the basis among them
---   Parted p t       the list has that length, no number beyond ±M, and its leading rows stand above the others
+--   Parted p t       the list has that length, no number beyond ±M, and leads that rise, so that its leading rows stand above the others
 --   basis-view       the vectors of the view are the basis
 --   basis-in         so they are in such a list
 -- Assumes nothing.
@@ -19,12 +18,14 @@ use lib.IntN.{ℤ, natAbs}
 use lib.ListN.{length, take, drop, length-append, length-drop}
 use lib.Seq.{drop-drop, take-at, drop-append-le, drop-append-add}
 use Rattle.whole.specs.Lists.{entry}
-use Rattle.lattice.specs.Rows.{flat, chop, lead}
+use Rattle.lattice.specs.Rows.{flat, chop}
 use Rattle.lattice.specs.Span.{All, Len, all-append}
+use Rattle.lattice.specs.Hermite.{Rising}
 use Rattle.lattice.specs.FlatLaws.{flat-append, flat-chop, chop-rows, length-chop}
 use Rattle.problem.specs.Limits.{M}
 use Rattle.problem.specs.declared.Problem.{Problem}
 use Rattle.tableau.specs.RightSide.{leading, remaining, basis}
+use Rattle.tableau.specs.RightLaws.{rising-split}
 use Rattle.settling.specs.Views.{rowsOf, vectors}
 use Rattle.settling.specs.declared.Basis.{Basis}
 use Rattle.engine.specs.declared.views.Place.{Place}
@@ -48,7 +49,7 @@ basisOf p t = basis (p .rows) (tableOf p t)
 pub record Parted (p : Problem) (t : List ℤ) : Type 0 where
   pub long : length t ≡ p .columns * width p
   pub small : (i : ℕ) → natAbs (entry i t) ≤ M
-  pub split : leading (p .rows) (tableOf p t) ++ remaining (p .rows) (tableOf p t) ≡ tableOf p t
+  pub rises : Rising 0 (tableOf p t)
 
 abbrev pub placeBehind : ℕ → ℕ → ℕ → Place
 placeBehind n m h = record {
@@ -58,10 +59,6 @@ placeBehind n m h = record {
 
 abbrev pub placeOf : Problem → List ℤ → Place
 placeOf p t = placeBehind (p .columns) (p .rows) (length (leading (p .rows) (tableOf p t)))
-
--- row i of a list of rows of w numbers leads in the first m columns
-abbrev pub leadsAt : ℕ → ℕ → ℕ → List ℤ → Bool
-leadsAt w i m t = ltb (lead (take w (drop (i * w) t))) m
 
 -- ---- rows in a list
 pub flat-length : (w : ℕ) (T : List (List ℤ)) → All (Len w) T → length (flat T) ≡ length T * w
@@ -125,4 +122,4 @@ basis-in p t a =
     let T : List (List ℤ) = tableOf p t in
     let h : ℕ = length (leading (p .rows) T) in
     ap (λ (l : List ℤ). vectors (basisView p h) (drop (basisStart p h) l)) (sym (flat-chop (p .columns) (width p) t (a .long)))
-    ∙ basis-view p T (chop-rows (p .columns) (width p) t (a .long)) (length-chop (p .columns) (width p) t) (a .split)
+    ∙ basis-view p T (chop-rows (p .columns) (width p) t (a .long)) (length-chop (p .columns) (width p) t) (rising-split (p .rows) 0 T (a .rises))

@@ -1,10 +1,11 @@
 -- Laws of a loop that writes a list of numbers from the left.
 --   Written t₀ g t i   the first i numbers of t are those of g, and the others are still those of t₀, which is as long
 --   starts, goes-on    it holds at 0 of t₀ itself, and at i + 1 once g's number is stored at i
+--   passes             and further on where t₀'s numbers are those of g
 --   ends               past the last number t is g
 --   unread             the number at i is still that of t₀
 -- Assumes nothing.
-use mathlib.Core.Path.{_≡_, refl, _∙_, ap}
+use mathlib.Core.Path.{_≡_, refl, _∙_, ap, ap₂}
 use mathlib.Core.List.{List, [], _∷_, _++_, append-nil}
 use Prim.Native.Nat.{ℕ, zero, suc, _+_, _<_, _≤_}
 use native.Mathlib.Numerals.{add-one}
@@ -39,6 +40,23 @@ goes-on {t₀} {g} {t} {i} {x} w l e =
       same = length-set t i x ∙ w .same;
       is = ap (λ (r : List ℤ). set r i x) (w .is) ∙ rw (add-one) (store t₀ g i x (w .alike) l e);
     }
+
+past : (t₀ g : List ℤ) (i k : ℕ) → length t₀ ≡ length g → i ≤ k → k ≤ length g → ((x : ℕ) → i ≤ x → x < k → entry x t₀ ≡ entry x g)
+    → take i g ++ drop i t₀ ≡ take k g ++ drop k t₀
+past t₀ g zero zero h a b e = refl
+past t₀ g (suc i) zero h a b e = absurd (omega arith)
+past [] [] i (suc k) h a b e = absurd (omega arith)
+past [] (y ∷ g) i (suc k) h a b e = absurd (omega arith)
+past (z ∷ t) [] i (suc k) h a b e = absurd (omega arith)
+past (z ∷ t) (y ∷ g) zero (suc k) h a b e =
+    ap₂ (λ (v : ℤ) (r : List ℤ). v ∷ r) (e 0 (omega arith) (omega arith))
+    (past t g 0 k (omega arith) (omega arith) (omega arith) (λ x l m. e (suc x) (omega arith) (omega arith)))
+past (z ∷ t) (y ∷ g) (suc i) (suc k) h a b e =
+    ap (λ (r : List ℤ). y ∷ r) (past t g i k (omega arith) (omega arith) (omega arith) (λ x l m. e (suc x) (omega arith) (omega arith)))
+
+pub passes : {t₀ g t : List ℤ} {i : ℕ} (k : ℕ) → Written t₀ g t i → i ≤ k → k ≤ length g
+    → ((x : ℕ) → i ≤ x → x < k → entry x t₀ ≡ entry x g) → Written t₀ g t k
+passes {t₀} {g} {t} {i} k w a b e = record { alike = w .alike; most = b; same = w .same; is = w .is ∙ past t₀ g i k (w .alike) a b e }
 
 pub ends : {t₀ g t : List ℤ} {i : ℕ} → Written t₀ g t i → length g ≤ i → t ≡ g
 ends {t₀} {g} {t} {i} w l =

@@ -8,6 +8,9 @@
 --   Hermite H           the leads are above 0, and each row is reduced by the rows below it
 --   Led n r             r has n numbers, and a lead above 0
 --   rows-led            so has each row of a Hermite form
+--   Rising c T          T's leads rise: the first row's lies at column c or behind, each further row's behind the lead above it
+--   rows-rising         so they do in a Hermite form, from column 0 on
+--   rising-parts        and so they do in the rows of each of two parts
 --   span-indent, -pivot the span of a table behind a column of zeros, and below a pivot's row
 --   past-..             the rows past m columns: their width, their form, what is reduced by them, what they span
 --   reduced-unique      of the lists that differ by a list of the span at most one is reduced
@@ -17,7 +20,7 @@
 use mathlib.Core.Path.{_≡_, refl, sym, _∙_, ap, ap₂, subst}
 use mathlib.Core.Logic.{_↔_, Iff·trans}
 use mathlib.Core.List.{List, [], _∷_, _++_, map}
-use Prim.Native.Nat.{ℕ, zero, suc, _+_, _<_}
+use Prim.Native.Nat.{ℕ, zero, suc, _+_, _<_, _≤_}
 use native.Mathlib.Omega.{arith}
 use lib.ListN.{length}
 use lib.IntN.{ℤ, pos, negsuc, _+ℤ_, _*ℤ_}
@@ -50,6 +53,10 @@ pub record Led (n : ℕ) (r : List ℤ) : Type 0 where
   pub wide : length r ≡ n
   pub inside : lead r < n
   pub above : Positive (entry (lead r) r)
+
+abbrev pub Rising : ℕ → List (List ℤ) → Type 0
+Rising c [] = Unit {0}
+Rising c (r ∷ T) = (c ≤ lead r) × Rising (suc (lead r)) T
 
 abbrev pub past : ℕ → Echelon → Echelon
 past zero H = H
@@ -84,6 +91,31 @@ pub rows-led : (H : Echelon) → Hermite H → All (Led (width H)) (rows H)
 rows-led done h = tt
 rows-led (skip H) h = indent-led (width H) (rows H) (rows-led H h)
 rows-led (step p r H) h = (pivot-led (width H) p r (h .0) (h .1), indent-led (width H) (rows H) (rows-led H (h .3)))
+
+indent-rising : (c : ℕ) (T : List (List ℤ)) → Rising c T → Rising (suc c) (indent T)
+unfolding lead
+indent-rising c [] a = tt
+indent-rising c (r ∷ T) a = (omega (arith, a .0), indent-rising (suc (lead r)) T (a .1))
+
+pivot-lead : {p : ℤ} (r : List ℤ) → Positive p → lead (p ∷ r) ≡ 0
+unfolding lead
+pivot-lead r (positive k) = refl
+
+rising-sooner : (c : ℕ) (T : List (List ℤ)) → Rising c T → Rising 0 T
+rising-sooner c [] a = tt
+rising-sooner c (r ∷ T) a = (omega arith, a .1)
+
+pub rising-parts : (c : ℕ) (A B : List (List ℤ)) → Rising c (A ++ B) → Rising c A × Rising 0 B
+rising-parts c [] B a = (tt, rising-sooner c B a)
+rising-parts c (r ∷ A) B a =
+    let i : Rising (suc (lead r)) A × Rising 0 B = rising-parts (suc (lead r)) A B (a .1) in ((a .0, i .0), i .1)
+
+pub rows-rising : (H : Echelon) → Hermite H → Rising 0 (rows H)
+rows-rising done h = tt
+rows-rising (skip H) h = rising-sooner 1 (indent (rows H)) (indent-rising 0 (rows H) (rows-rising H h))
+rows-rising (step p r H) h =
+    let a : Rising 1 (indent (rows H)) = indent-rising 0 (rows H) (rows-rising H (h .3)) in
+    (omega arith, subst (λ (k : ℕ). Rising (suc k) (indent (rows H))) (sym (pivot-lead r (h .0))) a)
 
 -- ---- spans behind a column
 pub span-indent : (T : List (List ℤ)) (x : ℤ) (v : List ℤ) → Span (indent T) (x ∷ v) ↔ ((x ≡ pos 0) × Span T v)

@@ -6,6 +6,7 @@
 --   minus-..                u − v by way of w; turned round; of two sums; of a sum and one of its parts; behind m zeros
 --   Zero-.., ZeroTo-..      what zeros are, and what keeps them
 --   entry-..                the number at a place of a sum, a negated row, zeros, a unit list
+--   lead-behind             a lead at column c or behind, looked for from there on
 -- Assumes nothing.
 use mathlib.Core.Path.{_≡_, refl, sym, _∙_, ap, ap₂, subst}
 use mathlib.Core.Logic.{_↔_}
@@ -13,13 +14,13 @@ use mathlib.Core.Bool.{Bool, true, false, _&&_, false≢true}
 use mathlib.Core.List.{List, [], _∷_, _++_}
 use Prim.Native.Nat.{ℕ, zero, suc, _+_, _<_, _≤_}
 use native.Mathlib.Omega.{arith}
-use lib.ListN.{length, take, length-append, length-replicate}
+use lib.ListN.{length, take, drop, length-append, length-replicate}
 use lib.Seq.{take-all}
 use lib.IntN.{ℤ, pos, negsuc, negℤ, _+ℤ_, _*ℤ_, +ℤ-invr}
 use Rattle.whole.specs.Lists.{entry, zeros}
 use Rattle.whole.specs.Tests.{isZero}
 use Rattle.whole.specs.Integers.{rep, diff-rel, add-none, isZero-true}
-use Rattle.lattice.specs.Rows.{plus, minus, neg, unit, Zero, ZeroTo, allZero}
+use Rattle.lattice.specs.Rows.{plus, minus, neg, unit, Zero, ZeroTo, allZero, lead}
 
 -- ---- lengths
 pub length-plus : (c : ℤ) (r v : List ℤ) → length (plus c r v) ≡ length v
@@ -237,3 +238,12 @@ allZero-Zero (x ∷ v) = (
     go : (b : Bool) → (b ≡ true → x ≡ pos 0) → (allZero v ≡ true → Zero v) → (b && allZero v) ≡ true → (x ≡ pos 0) × Zero v
     go true f g t = (f refl, g t)
     go false f g t = absurd (false≢true t)
+
+-- ---- leads
+pub lead-behind : (c : ℕ) (r : List ℤ) → c ≤ lead r → c + lead (drop c r) ≡ lead r
+unfolding lead
+lead-behind zero r h = omega arith
+lead-behind (suc c) [] h = absurd (omega arith)
+lead-behind (suc c) (pos zero ∷ r) h = omega (arith, lead-behind c r (omega arith))
+lead-behind (suc c) (pos (suc n) ∷ r) h = absurd (omega arith)
+lead-behind (suc c) (negsuc n ∷ r) h = absurd (omega arith)

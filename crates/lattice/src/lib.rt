@@ -1,5 +1,6 @@
 ghost use mathlib.Core.Path.{_≡_};
-ghost use lib.ListN.{length};
+ghost use Prim.Native.Nat.{_+_};
+ghost use lib.ListN.{length, drop};
 ghost use Rattle.whole.specs.Lists.{zeros};
 ghost use Rattle.lattice.specs.Rows as Rows;
 
@@ -27,11 +28,11 @@ pub fn wipe(row: &mut [i64])
     }
 }
 
-// The column of the first number other than 0; the row's length if there is none.
-pub fn lead(row: &[i64]) -> usize
-    ensures { λ r. ⌜ r ≡ Rows.lead (now (row .entry)) ⌝ }
+// The column of the first number other than 0 at `from` or behind; the row's length if there is none, and `from` if that lies behind its end.
+pub fn lead_from(row: &[i64], from: usize) -> usize
+    ensures { λ r. ⌜ r ≡ from + Rows.lead (drop from (now (row .entry))) ⌝ }
 {
-    let mut i = 0;
+    let mut i = from;
     while i < row.len() {
         if whole::magnitude(row[i]) != 0 {
             return i;
@@ -39,6 +40,13 @@ pub fn lead(row: &[i64]) -> usize
         i += 1;
     }
     i
+}
+
+// The column of the first number other than 0; the row's length if there is none.
+pub fn lead(row: &[i64]) -> usize
+    ensures { λ r. ⌜ r ≡ Rows.lead (now (row .entry)) ⌝ }
+{
+    lead_from(row, 0)
 }
 
 // Whether every number is 0.

@@ -21,7 +21,7 @@ use Rattle.tableau.specs.RightSide as RightSide
 use Rattle.tableau.specs.RightSide.{none, some, Solved, sweep, leading, remaining, basis, rightSide, leftOf, listLeft}
 use Rattle.rightside.specs.Solutions.{answerOf, solutionOf, startOf, startAfter, Righted, righted}
 use Rattle.tableau.specs.Within.{Within, within-append, within-neg, within-zeros}
-use Rattle.rightside.specs.Halves.{Findable, foundOf}
+use Rattle.rightside.specs.Sweeps.{Findable, foundOf}
 use Rattle.rightside.specs.declared.Solution.{Solution}
 use Rattle.rightside.specs.declared.Solution.the-variants.{Over, None, Found}
 

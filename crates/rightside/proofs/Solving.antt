@@ -4,7 +4,7 @@
 --   table-.., answer-over, start-kept   what the answer and the buffers are, by the mark
 --   findable       what the right side asks of the form
 -- Assumes nothing.
-use mathlib.Core.Path.{_≡_, refl, sym, _∙_, ap, ap₂}
+use mathlib.Core.Path.{_≡_, refl, sym, _∙_, ap, ap₂, subst}
 use mathlib.Core.Bool.{Bool, true, false, cond}
 use mathlib.Core.List.{List, _∷_, _++_}
 use Prim.Native.Nat.{ℕ, zero, suc, _+_, _≤_}
@@ -14,13 +14,15 @@ use lib.IntN.{ℤ, pos}
 use lib.ListN.{length, take}
 use Rattle.whole.specs.Lists.{zeros}
 use Rattle.lattice.specs.Rows.{neg, allZero, flat}
+use Rattle.lattice.specs.Hermite.{Rising}
 use Rattle.problem.specs.Limits.{maxRight}
 use Rattle.problem.specs.declared.Problem.{Problem}
 use Rattle.tableau.specs.RightSide.{Solved, sweep, leading, rightSide, solve}
 use Rattle.tableau.specs.Buffers.{Formable, matrixOf, formOf}
+use Rattle.tableau.specs.Theorems.{problem-rising}
 use Rattle.tableau.proofs.Forms.{Formed, count, span-within}
 use Rattle.rightside.specs.Solutions.{Solvable, solvedOf, answerOf, solutionOf, tableauAfter, startOf, startAfter}
-use Rattle.rightside.specs.Halves.{Findable, foundOf}
+use Rattle.rightside.specs.Sweeps.{Findable, foundOf}
 use Rattle.rightside.specs.declared.Solution.the-variants.{Over}
 
 module _ {p : Problem} {t a : List ℤ} (h : Formable p t a) where
@@ -74,9 +76,12 @@ pub findable : {p : Problem} {t a b s u : List ℤ} (n : ℕ) → Solvable p t a
     → Findable p (take (p .rows + p .columns) (zeros n)) u b s
 findable {p} {t} {a} {b} {s} {u} n h l e f = record {
   zero = zeros-take (p .rows + p .columns) n l;
-  table = e ∙ h .form .table;
-  leads = f .leads;
-  within = f .small;
+  form = record {
+    long = e ∙ h .form .table;
+    leads = f .leads;
+    rises = subst (Rising 0) (sym (f .rows)) (problem-rising (p .columns) (matrixOf p a));
+    small = f .small;
+  };
   right = h .right;
   small = span-within maxRight b (lit≤ tt) (h .small);
   start = h .start;

@@ -1,3 +1,3 @@
 -- The root of the definitions.
 pub mod Solutions
-pub mod Halves
+pub mod Sweeps

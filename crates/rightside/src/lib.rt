@@ -5,13 +5,15 @@ ghost use Prim.Native.Nat.{_*_, _≤_};
 ghost use lib.ListN.{length, drop};
 ghost use Rattle.lattice.specs.Rows.{neg, chop};
 ghost use Rattle.lattice.specs.Span.{All};
-ghost use Rattle.rightside.specs.Halves.{wantedOf, ownStep, sweptOf, Swept, Findable, foundOf};
+ghost use Rattle.lattice.specs.Hermite.{Rising};
+ghost use Rattle.rightside.specs.Sweeps.{sweptOf, Swept, Sweepable, Findable, foundOf};
 ghost use Rattle.rightside.specs.Solutions.{Solvable, solvedOf, solutionOf, tableauAfter, startAfter, rightedOf};
+ghost use Rattle.tableau.specs.RightSide.{leading};
 ghost use Rattle.tableau.specs.Steps.{Leads};
 ghost use Rattle.tableau.specs.Within.{Within};
 use lattice::all_zero;
 use lattice::copy;
-use lattice::lead;
+use lattice::lead_from;
 use lattice::wipe;
 use problem::Problem;
 use tableau::MAX_WIDTH;
@@ -26,51 +28,46 @@ pub enum Solution {
     Found,
 }
 
-// Which rows are taken from the right side: those whose lead lies in the first m columns, or the others.
-enum Half {
-    Leading,
-    Remaining,
-}
-
-// Whether a row with its lead at c is of that half.
-fn wanted(c: usize, m: usize, half: Half) -> bool
-    ensures { λ r. ⌜ r ≡ wantedOf half m c ⌝ }
+// How many of the rows of w numbers lead in the first m columns. The leads rise, so these rows are the first ones, and each row's lead lies behind
+// the one above it.
+pub fn leading_rows(t: &[i64], rows: usize, w: usize, m: usize) -> usize
+    requires { ⌜ (length (now t) ≡ rows * w) × Rising 0 (chop rows w (now t)) ⌝ }
+    ensures { λ r. ⌜ r ≡ length (leading m (chop rows w (now (t .entry)))) ⌝ }
 {
-    match half {
-        Half::Leading => c < m,
-        Half::Remaining => m <= c,
+    let mut at = 0;
+    let mut left = rows;
+    let mut c = 0;
+    while 0 < left {
+        let next = at + w;
+        let l = lead_from(&t[at..next], c);
+        if m <= l {
+            return rows - left;
+        }
+        at = next;
+        left -= 1;
+        c = l + 1;
     }
+    rows
 }
 
-// Takes the row from v at its lead, if it is of that half. Where a number beyond M is left, the answer is true and v is all 0.
-fn sweep_row(v: &mut [i64], row: &[i64], m: usize, half: Half) -> bool
-    requires { ⌜ (length (now row) ≡ length (now v)) × Leads (now row) ⌝ }
-    requires { ⌜ Within (now row) × Within (now v) ⌝ }
-    ensures { λ r. ⌜ Swept (ownStep half m (now (row .entry)) (now (v .entry))) (now (v .entry)) r (now (v .exit)) ⌝ }
-{
-    let c = lead(row);
-    if wanted(c, m, half) {
-        return reduce(v, row, c);
-    }
-    false
-}
-
-// Takes each row of that half from v, top first, until a number beyond M is left.
-fn sweep(v: &mut [i64], t: &[i64], rows: usize, m: usize, half: Half) -> bool
-    requires { ⌜ (length (now t) ≡ rows * length (now v)) × All Leads (chop rows (length (now v)) (now t)) ⌝ }
-    requires { ⌜ Within (now t) × Within (now v) ⌝ }
-    ensures { λ r. ⌜ Swept (sweptOf half m rows (now (t .entry)) (now (v .entry))) (now (v .entry)) r (now (v .exit)) ⌝ }
+// Takes each row from v at its lead, top first, until a number beyond M is left: then the answer is true and v is all 0.
+fn sweep(v: &mut [i64], t: &[i64], rows: usize) -> bool
+    requires { ⌜ Sweepable (length (now v)) rows (now t) × Within (now v) ⌝ }
+    ensures { λ r. ⌜ Swept (sweptOf rows (now (t .entry)) (now (v .entry))) (now (v .entry)) r (now (v .exit)) ⌝ }
 {
     let w = v.len();
     let mut at = 0;
     let mut left = rows;
+    let mut c = 0;
     while 0 < left {
         let next = at + w;
-        if sweep_row(v, &t[at..next], m, half) {
+        let l = lead_from(&t[at..next], c);
+        if reduce(v, &t[at..next], l) {
             return true;
         }
         at = next;
         left -= 1;
+        c = l + 1;
     }
     false
 }
@@ -79,17 +76,21 @@ fn sweep(v: &mut [i64], t: &[i64], rows: usize, m: usize, half: Half) -> bool
 // starting list.
 pub fn right_side(v: &mut [i64], t: &[i64], rows: usize, m: usize) -> Solution
     requires { ⌜ (length (now t) ≡ rows * length (now v)) × All Leads (chop rows (length (now v)) (now t)) ⌝ }
+    requires { ⌜ Rising 0 (chop rows (length (now v)) (now t)) ⌝ }
     requires { ⌜ Within (now t) × Within (now v) ⌝ }
     requires { ⌜ m ≤ length (now v) ⌝ }
     ensures { λ r. ⌜ record { answer = r; list = now (v .exit) } ≡ rightedOf m rows (now (t .entry)) (now (v .entry)) ⌝ }
 {
-    if sweep(v, t, rows, m, Half::Leading) {
+    let w = v.len();
+    let h = leading_rows(t, rows, w, m);
+    let at = h * w;
+    if sweep(v, &t[..at], h) {
         return Solution::Over;
     }
     if !all_zero(&v[..m]) {
         return Solution::None;
     }
-    if sweep(v, t, rows, m, Half::Remaining) {
+    if sweep(v, &t[at..], rows - h) {
         return Solution::Over;
     }
     Solution::Found

@@ -1,12 +1,13 @@
 -- Seating, a vector at a time.
+--   within v                v as a seated list; or `far`, where a value of it lies beyond ±M
 --   Placeable, Addable      lists of fitting length, with numbers small enough for a gap and for an addition
 --   Led r                   the row has a lead above 0, and so a column for it
---   Seatable B v ..         what seating needs: lists that are ready, and a basis of such rows
+--   Seatable B v ..         what seating needs: lists that are ready, and a basis of such rows, whose leads rise
 --   ideal-small             an ideal lies in bounds
 --   gap-small, quotient-small, product-small   how large a gap is, how often a row is then added, and what that adds
 --   seat-end, -far, -on     seating from vector s on: no vector is left; an addition leaves a value beyond ±M; it does not
 --   placeable, row-..       the lists, and each row of the basis, can be used for an addition; `still-seatable` and again after it
---   none-beyond, beyond-..  a walk over a list that looks for a value beyond ±M
+--   none-beyond             where none is found beyond ±M, each number lies within
 -- Assumes nothing.
 use mathlib.Core.Path.{_≡_, refl, sym, _∙_, ap}
 use mathlib.Core.Logic.{⊎-elim}
@@ -20,24 +21,27 @@ use borrow.Author.Tests.{ltb-false, ltb-true}
 use lib.Dec.{ltb}
 use lib.IntN.{ℤ, pos, negsuc, natAbs, _+ℤ_, _*ℤ_}
 use lib.ListN.{length, take, drop, length-take, length-drop, drop-of-length-le, List·getD-eq-default}
-use lib.Seq.{drop-cons}
 use lib.Signed.{ltZ, _<ℤ_}
 use Rattle.whole.specs.Lists.{entry}
 use Rattle.whole.specs.Integers.{_⊖_, ⊖-pos, ⊖-negsuc, rep, diff-rel}
 use Rattle.whole.specs.Quotient.{floorQuotient, nearestQuotient}
 use Rattle.whole.proofs.Signed.{abs-add, abs-mul}
 use Rattle.lattice.specs.Rows.{lead}
+use Rattle.lattice.specs.Hermite.{Rising}
 use Rattle.problem.specs.Limits.{M, maxBound, beyond, anyBeyond}
 use Rattle.settling.specs.declared.Basis.{Basis}
 use Rattle.settling.specs.declared.Wish.{Wish}
 use Rattle.settling.specs.Columns.{Columns, width, columnAt}
 use Rattle.settling.specs.Ideals.{into, wished, ideal}
 use Rattle.settling.specs.Moves.{vector}
-use Rattle.settling.specs.Seating.{idealAt, gapAt, seatOne, seated, far, seat}
+use Rattle.settling.specs.Seating.{Seated, idealAt, gapAt, seatOne, seated, far, seat}
 use Rattle.settling.specs.Parts.{lt-or-ge}
 use Rattle.settling.specs.Sizes.{between, abs-less}
 use Rattle.settling.specs.Views.{vectors, rows-length, vectors-is, vectors-drop, vectors-at}
 use Rattle.settling.specs.Ready.{FitColumn, Ready}
+
+abbrev pub within : List ℤ → Seated
+within v = cond (anyBeyond v) far (seated v)
 
 pub record Placeable (v t : List ℤ) : Type 0 where
   pub table-long : length t ≡ width * length v
@@ -56,6 +60,7 @@ pub record Led (r : List ℤ) : Type 0 where
 pub record Seatable (B : Basis) (v t l : List ℤ) : Type 0 where
   pub ready : Ready B v t l
   pub led : (s : ℕ) → s < B .vectors → Led (vector (vectors B l) s)
+  pub rises : Rising 0 (vectors B l)
 
 -- ---- sizes
 pub ideal-small : (lo hi : ℤ) (w : Wish) (x : ℤ) → natAbs lo ≤ maxBound → natAbs hi ≤ maxBound → natAbs (ideal lo hi w x) ≤ maxBound
@@ -142,23 +147,7 @@ module _ (C : Columns) (B : Basis) (l v : List ℤ) (s : ℕ) where
       step h ∙ ap (λ (t : Bool). cond t far (seat C (drop (suc s) (vectors B l)) (seatOne C (vector (vectors B l) s) v))) e
       ∙ ap (λ (k : ℕ). seat C (drop k (vectors B l)) (seatOne C (vector (vectors B l) s) v)) (sym (add-one s))
 
--- ---- a walk over a list
-module _ (r : List ℤ) (i : ℕ) where
-  split : i < length r → anyBeyond (drop i r) ≡ (beyond (entry i r) || anyBeyond (drop (i + 1) r))
-  unfolding anyBeyond
-  split h = ap anyBeyond (drop-cons r i (pos 0) h) ∙ ap (λ (k : ℕ). beyond (entry i r) || anyBeyond (drop k r)) (sym (add-one i))
-
-  pub beyond-at : i < length r → beyond (entry i r) ≡ true → anyBeyond (drop i r) ≡ true
-  beyond-at h e = split h ∙ ap (λ (t : Bool). t || anyBeyond (drop (i + 1) r)) e
-
-  pub beyond-on : i < length r → beyond (entry i r) ≡ false → anyBeyond (drop i r) ≡ anyBeyond (drop (i + 1) r)
-  beyond-on h e = split h ∙ ap (λ (t : Bool). t || anyBeyond (drop (i + 1) r)) e
-
-  pub beyond-end : length r ≤ i → anyBeyond (drop i r) ≡ false
-  unfolding anyBeyond
-  beyond-end h = ap anyBeyond (drop-of-length-le r {i = i} h)
-
--- where none is found, each number lies within ±M
+-- ---- where none is found beyond ±M, each number lies within
 pub none-beyond : (r : List ℤ) → anyBeyond r ≡ false → (j : ℕ) → natAbs (entry j r) ≤ M
 unfolding anyBeyond
 none-beyond [] e j = omega arith
@@ -190,6 +179,7 @@ module _ (B : Basis) (v t l : List ℤ) (q : Seatable B v t l) where
           columns = r .columns;
         };
         led = q .led;
+        rises = q .rises;
       }
 
   module _ (s : ℕ) (h : s < B .vectors) where

@@ -1,7 +1,7 @@
 -- Laws of strides, for the loops.
 --   StridesReady B d l          a list d with a number for each column of the view B of the basis l
---   divisor-zero, -one          the divisor of 0 and a number, and of a number and 1
---   stride-none, -up, -all      the vectors from s on, where s counts down: none, one more, all
+--   stride-none, -past, -up     the vectors from s on, where s counts down: none, one more that leaves the column as it is, one more
+--   stride-one                  1 from some vector on is 1 from the first on
 --   Filled N d₀ d j             the first j numbers of d are strides, and it is as long as d₀
 --   filled-none, -on, -all      it holds at 0; at j + 1 once the stride is stored; and past the last column d is the list of strides
 -- Assumes nothing.
@@ -26,12 +26,12 @@ pub record StridesReady (B : Basis) (d : List ℕ) (l : List ℤ) : Type 0 where
   pub basis : Viewed B l
 
 -- ---- the divisor of 0, and of 1
-pub divisor-zero : (d : ℕ) → divisor 0 d ≡ d
+divisor-zero : (d : ℕ) → divisor 0 d ≡ d
 unfolding divisor divisorBy
 divisor-zero zero = refl
 divisor-zero (suc d) = ap (divisorBy (suc d) (suc d)) (zero-mod (suc d))
 
-pub divisor-one : (x : ℕ) → divisor x 1 ≡ 1
+divisor-one : (x : ℕ) → divisor x 1 ≡ 1
 unfolding divisor divisorBy
 divisor-one x = ap (divisorBy 1 1) (mod-one x)
 
@@ -43,16 +43,32 @@ module _ (B : Basis) (l : List ℤ) (j : ℕ) where
       ap (λ (N : List (List ℤ)). stride N j)
       (drop-of-length-le (vectors B l) {i = B .vectors} (omega (arith, rows-length (B .vectors) (B .columns) (B .stride) l)))
 
+  more :
+      (s : ℕ) → s < B .vectors
+      → stride (drop s (vectors B l)) j ≡ divisor (natAbs (entry j (vector (vectors B l) s))) (stride (drop (suc s) (vectors B l)) j)
+  unfolding stride
+  more s h = ap (λ (N : List (List ℤ)). stride N j) (vectors-drop B l s h)
+
   pub stride-up :
       (s : ℕ) → 0 < s → s ≤ B .vectors
       → divisor (natAbs (entry j (vector (vectors B l) (s - 1)))) (stride (drop s (vectors B l)) j) ≡ stride (drop (s - 1) (vectors B l)) j
-  unfolding stride
   stride-up s h k =
-      ap (λ (i : ℕ). divisor (natAbs (entry j (vector (vectors B l) (s - 1)))) (stride (drop i (vectors B l)) j)) up
-      ∙ sym (ap (λ (N : List (List ℤ)). stride N j) (vectors-drop B l (s - 1) (omega arith)))
+      ap (λ (i : ℕ). divisor (natAbs (entry j (vector (vectors B l) (s - 1)))) (stride (drop i (vectors B l)) j)) up ∙ sym (more (s - 1) (omega arith))
     where
       up : s ≡ suc (s - 1)
       up = omega arith
+
+  pub stride-past :
+      (s : ℕ) → 0 < s → s ≤ B .vectors → natAbs (entry j (vector (vectors B l) (s - 1))) ≡ 0
+      → stride (drop s (vectors B l)) j ≡ stride (drop (s - 1) (vectors B l)) j
+  stride-past s h k e =
+      sym (ap (λ (x : ℕ). divisor x (stride (drop s (vectors B l)) j)) e ∙ divisor-zero (stride (drop s (vectors B l)) j)) ∙ stride-up s h k
+
+  pub stride-one : (s : ℕ) → s ≤ B .vectors → stride (drop s (vectors B l)) j ≡ 1 → stride (vectors B l) j ≡ 1
+  stride-one zero k e = e
+  stride-one (suc s) k e =
+      let x = natAbs (entry j (vector (vectors B l) s)) in
+      stride-one s (omega arith) (more s (omega arith) ∙ ap (divisor x) e ∙ divisor-one x)
 
 -- ---- all columns
 pub record Filled (N : List (List ℤ)) (d₀ d : List ℕ) (j : ℕ) : Type 0 where

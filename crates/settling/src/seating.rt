@@ -5,19 +5,19 @@ ghost use lib.IntN.{pos, natAbs, _+ℤ_, _*ℤ_};
 ghost use lib.ListN.{length};
 ghost use lib.Signed.{_<ℤ_};
 ghost use Rattle.whole.specs.Quotient.{nearestQuotient};
-ghost use Rattle.lattice.specs.Rows.{plus};
-ghost use Rattle.problem.specs.Limits.{M, maxBound, anyBeyond};
+ghost use Rattle.lattice.specs.Rows.{plus, lead};
+ghost use Rattle.problem.specs.Limits.{M, maxBound};
 ghost use Rattle.settling.specs.Columns.{columnsIn};
 ghost use Rattle.settling.specs.Seating.{gapAt, seatOne, seated, far, seatDone, leaves};
 ghost use Rattle.settling.specs.Seating as Seating;
-ghost use Rattle.settling.specs.Seats.{Addable, Placeable, Led, Seatable};
+ghost use Rattle.settling.specs.Seats.{within, Addable, Placeable, Led, Seatable};
 ghost use Rattle.settling.specs.Views.{vectors};
 use crate::Basis;
 use crate::columns::cell_at;
 use crate::columns::wish_at;
 use crate::ideal;
 use lattice::copy;
-use lattice::lead;
+use lattice::lead_from;
 use problem::Problem;
 use whole::floor_quotient;
 use whole::magnitude;
@@ -38,31 +38,21 @@ fn plus_product(x: i64, q: i64, y: i64) -> i64
     x + q * y
 }
 
-// Adds q times a row to the values.
-fn add_row(values: &mut [i64], row: &[i64], q: i64)
-    requires { ⌜ Addable (now values) (now row) × (natAbs q ≤ M + maxBound + 1) ⌝ }
-    ensures { λ _. ⌜ now (values .exit) ≡ plus q (now (row .entry)) (now (values .entry)) ⌝ }
+// Adds q times a row to the values, at its numbers other than 0, of which c is the first; false as soon as a value comes to lie beyond ±M.
+fn add_row(values: &mut [i64], row: &[i64], q: i64, c: usize) -> bool
+    requires { ⌜ Addable (now values) (now row) × (natAbs q ≤ M + maxBound + 1) × (c ≡ lead (now row)) ⌝ }
+    ensures { λ r. ⌜ cond r (seated (now (values .exit))) far ≡ within (plus q (now (row .entry)) (now (values .entry))) ⌝ }
 {
-    let mut j = 0;
+    let mut j = c;
     while j < row.len() {
         let y = plus_product(values[j], q, row[j]);
-        values[j] = y;
-        j += 1;
-    }
-}
-
-// Whether some value lies beyond ±M.
-fn any_beyond(values: &[i64]) -> bool
-    ensures { λ r. ⌜ r ≡ anyBeyond (now (values .entry)) ⌝ }
-{
-    let mut j = 0;
-    while j < values.len() {
-        if Problem::MAX_NUMBER < magnitude(values[j]) {
-            return true;
+        if Problem::MAX_NUMBER < magnitude(y) {
+            return false;
         }
-        j += 1;
+        values[j] = y;
+        j = lead_from(row, j + 1);
     }
-    false
+    true
 }
 
 // The ideal of column c less the present value there.
@@ -75,19 +65,18 @@ fn gap_at(values: &[i64], columns: &[i64], c: usize) -> i64
     ideal(cell.lower, cell.upper, wish_at(columns, c), x) - x
 }
 
-// Adds a row so often that its lead column comes nearest to its ideal.
-fn seat_one(values: &mut [i64], columns: &[i64], row: &[i64])
-    requires { ⌜ Placeable (now values) (now columns) × Addable (now values) (now row) × Led (now row) ⌝ }
-    ensures { λ _. ⌜ now (values .exit)
-        ≡ seatOne (columnsIn (length (now (values .entry))) (now (columns .entry))) (now (row .entry)) (now (values .entry)) ⌝ }
+// Adds a row so often that its lead column c comes nearest to its ideal; false if a value comes to lie beyond ±M.
+fn seat_one(values: &mut [i64], columns: &[i64], row: &[i64], c: usize) -> bool
+    requires { ⌜ Placeable (now values) (now columns) × Addable (now values) (now row) × Led (now row) × (c ≡ lead (now row)) ⌝ }
+    ensures { λ r. ⌜ cond r (seated (now (values .exit))) far
+        ≡ within (seatOne (columnsIn (length (now (values .entry))) (now (columns .entry))) (now (row .entry)) (now (values .entry))) ⌝ }
 {
-    let c = lead(row);
     let d = gap_at(values, columns, c);
     let q = nearest_quotient(d, row[c]);
-    add_row(values, row, q);
+    add_row(values, row, q, c)
 }
 
-// Seats the values, vector by vector; false as soon as one lies beyond ±M.
+// Seats the values, vector by vector; false as soon as one lies beyond ±M. Leads rise, so each is looked for behind the last.
 fn seat_all(values: &mut [i64], columns: &[i64], basis: &[i64], view: Basis) -> bool
     requires { ⌜ Seatable view (now values) (now columns) (now basis) ⌝ }
     ensures { λ r. ⌜ cond r (seated (now (values .exit))) far
@@ -97,13 +86,15 @@ fn seat_all(values: &mut [i64], columns: &[i64], basis: &[i64], view: Basis) -> 
     let n = view.columns;
     let w = view.stride;
     let mut s = 0;
+    let mut from = 0;
     while s < r {
         let at = s * w;
         let end = at + n;
-        seat_one(values, columns, &basis[at..end]);
-        if any_beyond(values) {
+        let c = lead_from(&basis[at..end], from);
+        if !seat_one(values, columns, &basis[at..end], c) {
             return false;
         }
+        from = c + 1;
         s += 1;
     }
     true

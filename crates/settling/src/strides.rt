@@ -1,6 +1,5 @@
 ghost use mathlib.Core.Path.{_≡_};
 ghost use Prim.Native.Nat.{_<_};
-ghost use Rattle.whole.specs.Divisor as Divisor;
 ghost use Rattle.settling.specs.Strides as Strides;
 ghost use Rattle.settling.specs.StrideLaws.{StridesReady};
 ghost use Rattle.settling.specs.Views.{vectors, Viewed};
@@ -8,20 +7,7 @@ use crate::Basis;
 use whole::divisor;
 use whole::magnitude;
 
-// The divisor of x and d. Most numbers of a basis are 0, and most strides 1: neither needs a division.
-fn common(x: u64, d: u64) -> u64
-    ensures { λ r. ⌜ r ≡ Divisor.divisor x d ⌝ }
-{
-    if x == 0 {
-        return d;
-    }
-    if d == 1 {
-        return 1;
-    }
-    divisor(x, d)
-}
-
-// The stride of column j. From the last vector up, as the divisor of a number and those behind it.
+// The stride of column j: from the last vector up, the divisor of a number and those behind it. A 0 needs no division, and 1 stays 1.
 fn stride(basis: &[i64], view: Basis, j: usize) -> u64
     requires { ⌜ Viewed view (now basis) × (j < view .columns) ⌝ }
     ensures { λ r. ⌜ r ≡ Strides.stride (vectors view (now (basis .entry))) j ⌝ }
@@ -31,7 +17,13 @@ fn stride(basis: &[i64], view: Basis, j: usize) -> u64
     while 0 < s {
         s -= 1;
         let at = s * view.stride + j;
-        d = common(magnitude(basis[at]), d);
+        let x = magnitude(basis[at]);
+        if x != 0 {
+            d = divisor(x, d);
+            if d == 1 {
+                return 1;
+            }
+        }
     }
     d
 }

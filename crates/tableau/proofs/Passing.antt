@@ -22,7 +22,6 @@ use Rattle.lattice.specs.Rows.{ZeroTo, flat, chop}
 use Rattle.lattice.specs.RowLaws.{ZeroTo-next, ZeroTo-plus, ZeroTo-neg}
 use Rattle.lattice.specs.Span.{All, Len, all-both, all-append, steps-length, steps-all}
 use Rattle.lattice.specs.FlatLaws.{flat-append, flat-chop, chop-next, chop-rows, chop-take, chop-split, length-chop, front-rows, front-rest}
-use Rattle.tableau.specs.Table.{maxWidth}
 use Rattle.tableau.specs.Elimination.{Run, each, reduced, Choice, none, at, choose, Gathered, Passed, passColumn, passColumns, eliminate}
 use Rattle.tableau.specs.GatherLaws.{Stands, choose-stands, Alone, gather-steps, gather-alone, gathering-first}
 use Rattle.tableau.specs.Within.{Within, neither, within-append, within-take, within-drop}
@@ -78,7 +77,6 @@ split n k w h = let e : n ≡ k + (n - k) = omega arith in ap (λ (x : ℕ). x *
 pub tail-of : {n w c k : ℕ} {t : List ℤ} → Standing n w c k t → c < w → Tail (n - k) w c (drop (k * w) t)
 tail-of {n} {w} {c} {k} {t} h l = record {
   wide = omega (arith, length-drop (k * w) t, h .wide, split n k w (h .most));
-  narrow = h .narrow;
   column = l;
   small = within-drop (k * w) t (h .small);
   front = h .front;
@@ -213,7 +211,6 @@ module _ {n w c k j : ℕ} {t : List ℤ} (h : Standing n w c k t) (l : c < w) (
     pub passed-on : Standing n w (c + 1) (k + 1) u
     passed-on = record {
       wide = m ∙ h .wide;
-      narrow = h .narrow;
       most = some;
       small =
           subst Within (sym list-is)
@@ -230,7 +227,6 @@ skipped-on {n} {w} {c} {k} {t} h e =
     let B : List (List ℤ) = belowOf n w k t in
     record {
       wide = h .wide;
-      narrow = h .narrow;
       most = h .most;
       small = h .small;
       front =
@@ -239,8 +235,8 @@ skipped-on {n} {w} {c} {k} {t} h e =
     }
 
 -- ---- all columns
-pub starts : {n w : ℕ} {t : List ℤ} → length t ≡ n * w → w ≤ maxWidth → Within t → Standing n w 0 0 t
-starts {n} {w} {t} l m s = record { wide = l; narrow = m; most = omega arith; small = s; front = none-yet (belowOf n w 0 t) }
+pub starts : {n w : ℕ} {t : List ℤ} → length t ≡ n * w → Within t → Standing n w 0 0 t
+starts {n} {w} {t} l s = record { wide = l; most = omega arith; small = s; front = none-yet (belowOf n w 0 t) }
   where
     none-yet : (T : List (List ℤ)) → All (ZeroTo 0) T
     none-yet [] = tt

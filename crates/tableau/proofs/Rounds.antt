@@ -2,73 +2,54 @@
 --   swapped       the chosen row and the others, once they have changed places
 --   lifted-pivot  the chosen row at the top is a pivot
 --   below-wide, below-small   the rows below it
+--   lift-asks     what bringing it there asks for
 --   round-is      a round: this pivot, and the lower rows by it
 --   pivot-is ..   the same of what the code has then
 --   round-stops   and what it answers and leaves once it has taken the pivot from the lower rows
 -- Assumes nothing.
 use mathlib.Core.Path.{_≡_, refl, sym, _∙_, ap, ap₂, subst}
 use mathlib.Core.Bool.{Bool}
-use mathlib.Core.List.{List, [], _∷_, _++_, append-assoc}
+use mathlib.Core.List.{List, [], _∷_, _++_}
 use Prim.Native.Nat.{ℕ, zero, suc, _+_, _*_, _-_, _<_, _≤_}
-use native.Mathlib.Nat.{zero-mul, zero-add, suc-mul}
+use native.Mathlib.Nat.{zero-mul, suc-mul}
 use native.Mathlib.Omega.{arith}
 use lib.IntN.{ℤ, pos, negsuc}
 use lib.ListN.{length, take, drop, length-append, length-drop}
-use lib.Seq.{length-take-le, take-at, drop-at, drop-drop, take-add}
+use lib.Seq.{length-take-le, take-at, drop-at, drop-drop}
 use Rattle.whole.specs.Lists.{entry}
 use Rattle.whole.specs.Integers.{Positive, positive-of}
 use Rattle.lattice.specs.Rows.{ZeroTo, flat, chop}
 use Rattle.lattice.specs.RowLaws.{length-neg, ZeroTo-neg}
-use Rattle.lattice.specs.Span.{all-at}
-use Rattle.lattice.specs.FlatLaws.{chop-row, chop-set, length-chop, row-in-table, first-wide}
+use Rattle.lattice.specs.Span.{All, all-at}
+use Rattle.lattice.specs.FlatLaws.{chop-next, chop-row, chop-set, length-chop, row-in-table, first-wide}
 use Rattle.tableau.specs.Elimination.{Gathered, Choice, at, exchange, signed, clear, round}
 use Rattle.tableau.specs.GatherLaws.{chosen-stands, round-lead}
 use Rattle.tableau.specs.Within.{Within, within-take, within-drop, within-append}
 use Rattle.tableau.specs.Steps.{StopsRun, eachOf, Pivot}
 use Rattle.tableau.specs.Tails.{Tail, Picked, lowerFirst, liftedRow, Lifted, Gathers, roundOf}
 use Rattle.tableau.specs.declared.rows.Way.the-variants.{Below}
+use Rattle.tableau.proofs.Lifting.{one-less, lowered-first, lowered-next}
 use Rattle.tableau.proofs.Staying.{signed-all}
 
 -- ---- the exchange
-more : (j w : ℕ) → suc j * w ≡ w + j * w
-more j w = omega (arith, suc-mul j w)
-
-behind : (j w : ℕ) → suc j * w + w ≡ w + (j * w + w)
-behind j w = omega (arith, suc-mul j w)
-
--- the rows below the first
-pub one-less : (k w : ℕ) → 0 < k → k * w ≡ w + (k - 1) * w
-one-less zero w p = absurd (omega arith)
-one-less (suc k) w p = let e : suc k - 1 ≡ k = omega arith in rw e (more k w)
-
--- what lies behind the first row, once that has taken the place of row j
-lowered-first : (k w : ℕ) (t : List ℤ) → length t ≡ suc k * w → drop w (lowerFirst w 0 t) ≡ drop w t
-lowered-first k w t l =
-    ap₂ (λ (a b : ℕ). drop w (take a t ++ (take w t ++ drop b t))) (zero-mul w) (ap (λ (n : ℕ). n + w) (zero-mul w) ∙ zero-add w)
-    ∙ drop-at (take w t) (drop w t) w (first-wide k w t l)
-
-lowered-next : (k w j : ℕ) (t : List ℤ) → length t ≡ suc k * w
-    → drop w (lowerFirst w (suc j) t) ≡ take (j * w) (drop w t) ++ (take w t ++ drop (j * w + w) (drop w t))
-lowered-next k w j t l =
-    ap (drop w)
-    (ap₂ (λ (x y : List ℤ). x ++ (take w t ++ y))
-    (ap (λ (n : ℕ). take n t) (more j w) ∙ take-add w (j * w) t)
-    (ap (λ (n : ℕ). drop n t) (behind j w) ∙ sym (drop-drop (j * w + w) w t))
-    ∙ append-assoc (take w t) (take (j * w) (drop w t)) (take w t ++ drop (j * w + w) (drop w t)))
-    ∙ drop-at (take w t) _ w (first-wide k w t l)
-
 exchanged : (k w j p : ℕ) (t : List ℤ) → length t ≡ suc k * w → j < suc k
     → exchange (at j p) (take w t) (chop k w (drop w t)) ≡ (take w (drop (j * w) t), chop k w (drop w (lowerFirst w j t)))
 unfolding exchange
 exchanged k w zero p t l h =
     ap₂ (λ (a : List ℤ) (b : List (List ℤ)). (a, b)) (ap (λ (n : ℕ). take w (drop n t)) (sym (zero-mul w)))
-    (ap (chop k w) (sym (lowered-first k w t l)))
+    (ap (chop k w) (sym (lowered-first w t (omega (arith, suc-mul k w)))))
 exchanged k w (suc j) p t l h =
     let r : length (drop w t) ≡ k * w = omega (arith, length-drop w t, suc-mul k w) in
+    let m : suc j * w ≡ w + j * w = omega (arith, suc-mul j w) in
+    let e : suc j - 1 ≡ j = omega arith in
     ap₂ (λ (a : List ℤ) (b : List (List ℤ)). (a, b))
     (chop-row k w j (drop w t) (take w t) (omega arith)
-    ∙ ap (take w) (drop-drop (j * w) w t ∙ ap (λ (n : ℕ). drop n t) (sym (more j w))))
-    (sym (chop-set k w j (drop w t) (take w t) r (omega arith) (first-wide k w t l)) ∙ ap (chop k w) (sym (lowered-next k w j t l)))
+    ∙ ap (take w) (drop-drop (j * w) w t ∙ ap (λ (n : ℕ). drop n t) (sym m)))
+    (sym (chop-set k w j (drop w t) (take w t) r (omega arith) (first-wide k w t l))
+    ∙ ap (chop k w)
+    (sym
+    (lowered-next w (suc j) t (omega (arith, suc-mul k w)) (omega arith)
+    ∙ ap (λ (n : ℕ). take (n * w) (drop w t) ++ (take w t ++ drop (n * w + w) (drop w t))) e)))
 
 pub swapped : (k w j p : ℕ) (t : List ℤ) → length t ≡ k * w → j < k
     → exchange (at j p) (take w t) (chop (k - 1) w (drop w t)) ≡ (take w (drop (j * w) t), chop (k - 1) w (drop w (lowerFirst w j t)))
@@ -102,6 +83,10 @@ module _ {k w c j : ℕ} {t : List ℤ} (h : Tail k w c t) (g : Picked k w c t j
   row-front =
       subst (ZeroTo c) (chop-row k w j t [] chosen-low)
       (all-at (ZeroTo c) (chop k w t) j [] (omega (arith, chosen-low, length-chop k w t)) (h .front))
+
+  -- what bringing row j to the top asks for
+  pub lift-asks : ((c < w) × (j * w + w ≤ length t)) × ((ZeroTo c (take w t) × ZeroTo c row) × Within t)
+  lift-asks = ((h .column, ends-inside), ((subst (All (ZeroTo c)) (chop-next k w t (g .some)) (h .front) .0, row-front), h .small))
 
   pub round-is : roundOf k w c t ≡ clear c (liftedRow w c j t) (chop (k - 1) w (drop w (lowerFirst w j t)))
   unfolding round

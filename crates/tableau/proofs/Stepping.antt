@@ -1,6 +1,7 @@
 -- Laws of a row's step by a pivot.
 --   inside            the pivot's column lies in the row
 --   quotient-small    the quotient is no larger than the entry
+--   quotient-one      by 1 it is the entry
 --   step-none         a row with a 0 there stays
 --   step-idle         so does a row whose quotient is 0
 --   step-parts        else the subtraction changes only the numbers from the pivot's column on
@@ -10,7 +11,7 @@ use mathlib.Core.Path.{_≡_, refl, sym, _∙_, ap, ap₂}
 use mathlib.Core.Bool.{Bool, true, false, cond, _||_}
 use mathlib.Core.List.{List, [], _∷_, _++_}
 use Prim.Native.Nat.{ℕ, zero, suc, _+_, _*_, _<_, _≤_}
-use native.Mathlib.Nat.{mul-le-mul-right, zero-div}
+use native.Mathlib.Nat.{mul-le-mul-right, zero-div, div-one}
 use native.Mathlib.Omega.{arith}
 use borrow.Author.Tests.{ltb-true, ltb-false, eq-eqb, ne-eqb}
 use lib.Dec.{ltb}
@@ -64,6 +65,14 @@ floor-rest x (positive k) = below _ (suc k) (floorQuotient-low x (positive k)) (
 pub quotient-small : {p : ℤ} (way : Way) (x : ℤ) → Positive p → natAbs (quotientOf way x p) ≤ natAbs x
 quotient-small {p} Below x h = by-rest x (gatheringQuotient x p) h (gatheringQuotient-left x h)
 quotient-small {p} Above x h = by-rest x (floorQuotient x p) h (floor-rest x h)
+
+by-one : (x : ℤ) → floorQuotient x (pos 1) ≡ x
+by-one (pos n) = ap pos (div-one n)
+by-one (negsuc n) = ap negsuc (div-one n)
+
+pub quotient-one : {p : ℤ} (way : Way) (x : ℤ) → p ≡ pos 1 → quotientOf way x p ≡ x
+quotient-one Below x e = ap (gatheringQuotient x) e ∙ by-one x
+quotient-one Above x e = ap (floorQuotient x) e ∙ by-one x
 
 -- ---- rows that stay
 nothing : (r s : List ℤ) → Within s → subtract (pos 0) r s ≡ kept s

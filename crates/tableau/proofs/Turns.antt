@@ -2,24 +2,26 @@
 --   next-tail      u is such a tail again
 --   next-top, -below   its first row and the others are the round's
 --   marked         a number beyond ±M in the round is one in gathering
+--   last-one       a pivot of 1 leaves only 0 below
 --   finished       where the rows below have only 0 at c, gathering is done
 --   going-on       else it goes on with a smaller choice, among the rows below
 -- Assumes nothing.
-use mathlib.Core.Path.{_≡_, sym, _∙_, ap, ap₂, subst}
+use mathlib.Core.Path.{_≡_, refl, sym, _∙_, ap, ap₂, subst}
 use mathlib.Core.Bool.{Bool, true, false, _||_}
 use mathlib.Core.List.{List, _∷_}
 use Prim.Native.Nat.{ℕ, suc, _+_, _-_, _<_}
 use native.Mathlib.Numerals.{add-one}
 use native.Mathlib.Omega.{arith}
-use lib.IntN.{ℤ}
+use lib.IntN.{ℤ, natAbs}
 use lib.ListN.{length, take, drop}
 use lib.Seq.{take-at, drop-at}
+use Rattle.whole.specs.Lists.{entry}
 use Rattle.lattice.specs.Rows.{ZeroTo, flat, chop}
 use Rattle.lattice.specs.RowLaws.{ZeroTo-plus, ZeroTo-neg}
 use Rattle.lattice.specs.Span.{All, Len, steps-length, steps-all}
 use Rattle.lattice.specs.FlatLaws.{chop-next, chop-flat, flat-chop, length-chop}
 use Rattle.tableau.specs.Elimination.{Gathered, Choice, none, at, choose, clear, onward}
-use Rattle.tableau.specs.GatherLaws.{Chosen, round-steps, round-next, gathering, following, gathering-round}
+use Rattle.tableau.specs.GatherLaws.{Chosen, chosen-stands, round-steps, round-lead, round-next, gathering, following, gathering-round}
 use Rattle.tableau.specs.Within.{Within}
 use Rattle.tableau.specs.Tails.{Tail, Picked, lowerFirst, roundOf, gatheringOf}
 use Rattle.tableau.proofs.Walking.{each-count}
@@ -44,6 +46,11 @@ module _ {k w c j : ℕ} {t : List ℤ} (h : Tail k w c t) (g : Picked k w c t j
 
   pub finished : choose c (x .below) ≡ none → gatheringOf k w c t ≡ x
   finished e = gathering-round (g .is) ∙ ap (λ (z : Choice). following c z x) e
+
+  pub last-one : natAbs (entry c (x .pivot)) ≡ 1 → choose c (x .below) ≡ none
+  last-one e =
+      round-next (g .is) (λ (z : Choice). z ≡ none) (λ _. refl)
+      (λ i p l h′. absurd (omega (arith, chosen-stands h′ .0, ap natAbs (round-lead (g .is)))))
 
   -- ---- what the round leaves
   rows-wide : All (Len w) (x .pivot ∷ x .below)
@@ -81,7 +88,6 @@ module _ {k w c j : ℕ} {t : List ℤ} (h : Tail k w c t) (g : Picked k w c t j
     pub next-tail : Tail k w c u
     next-tail = record {
       wide = l ∙ h .wide;
-      narrow = h .narrow;
       column = h .column;
       small = subst Within (sym s) (small o);
       front = subst (All (ZeroTo c)) (sym (chop-next k w u (g .some) ∙ ap₂ (λ (r : List ℤ) (B : List (List ℤ)). r ∷ B) next-top next-below)) front;

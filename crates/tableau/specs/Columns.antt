@@ -11,7 +11,6 @@ use lib.IntN.{ℤ}
 use lib.ListN.{length, drop}
 use Rattle.lattice.specs.Rows.{ZeroTo, chop}
 use Rattle.lattice.specs.Span.{All}
-use Rattle.tableau.specs.Table.{maxWidth}
 use Rattle.tableau.specs.Elimination.{Run, Passed, choose, passColumn}
 use Rattle.tableau.specs.Within.{Within}
 
@@ -23,7 +22,6 @@ belowOf n w k t = chop (n - k) w (drop (k * w) t)
 
 pub record Standing (n w c k : ℕ) (t : List ℤ) : Type 0 where
   pub wide : length t ≡ n * w
-  pub narrow : w ≤ maxWidth
   pub most : k ≤ n
   pub small : Within t
   pub front : All (ZeroTo c) (belowOf n w k t)

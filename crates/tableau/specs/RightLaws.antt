@@ -1,7 +1,8 @@
 -- Laws of the right side: what it finds tells the set of lists that a form and a right side reach.
 --   sweep-rows            to sweep by the rows of a form is to reduce by it
 --   indents m T           m columns of zeros before T
---   leading-remaining     the rows of a form are the leading ones, then the remaining ones
+--   rising-none, -all     where the leads rise from column m on, no row is a leading one, and all are remaining ones
+--   rising-split          where the leads rise, the rows are the leading ones, then the remaining ones
 --   remaining-past        the remaining ones are the form past m columns, behind m zeros
 --   basis-past            so the basis is the form past m columns
 --   right-found           what is found: the residue's tail and the form past m columns, if the residue begins with m zeros
@@ -11,10 +12,10 @@
 use mathlib.Core.Path.{_≡_, refl, sym, _∙_, ap, ap₂, subst}
 use mathlib.Core.Logic.{_↔_, Iff·trans}
 use mathlib.Core.Bool.{Bool, true, false, cond, false≢true}
-use mathlib.Core.List.{List, [], _∷_, _++_, map, map-append, map-map, map-id}
+use mathlib.Core.List.{List, [], _∷_, _++_, map, map-map, map-id}
 use Prim.Native.Nat.{ℕ, zero, suc, _+_, _≤_}
 use native.Mathlib.Omega.{arith}
-use borrow.Author.Tests.{lt-ltb, le-ltb}
+use borrow.Author.Tests.{ltb-false, lt-ltb, le-ltb}
 use lib.Dec.{ltb, leb·suc-suc}
 use lib.ListN.{length, take, drop, length-drop, take-append-drop}
 use lib.Seq.{length-take-le}
@@ -25,7 +26,8 @@ use Rattle.whole.specs.Integers.{Positive, positive, add-none}
 use Rattle.lattice.specs.Rows.{plus, minus, allZero, lead}
 use Rattle.lattice.specs.RowLaws.{length-plus, length-zeros, zeros-Zero, minus-zeros, allZero-Zero}
 use Rattle.lattice.specs.Span.{Span}
-use Rattle.lattice.specs.Hermite.{Echelon, done, skip, step, width, indent, rows, past, Reduced, Hermite, past-width, past-hermite, past-reduced, past-span, reduced-head}
+use Rattle.lattice.specs.Hermite.{Echelon, done, skip, step, width, indent, rows, past, Reduced, Hermite, Rising, rows-rising}
+use Rattle.lattice.specs.Hermite.{past-width, past-hermite, past-reduced, past-span, reduced-head}
 use Rattle.lattice.specs.Coset.{residue, residue-length, residue-reduced, residue-for}
 use Rattle.tableau.specs.Elimination.{reduced}
 use Rattle.tableau.specs.RightSide.{sweep, leading, remaining, basis, Found, none, some, Solved, rightSide}
@@ -67,24 +69,35 @@ sweep-rows (step p r H) (x ∷ v) l h =
     ∙ ap (λ (t : List ℤ). (x +ℤ q *ℤ p) ∷ t) (sweep-rows H (plus q r v) (length-plus q r v ∙ omega arith) (h .3))
 
 -- ---- leading and remaining rows
-leading-none : (T : List (List ℤ)) → leading 0 T ≡ []
-unfolding leading
-leading-none [] = refl
-leading-none (r ∷ T) = rw (le-ltb (lead r) 0 (omega arith)) (leading-none T)
+module _ (m : ℕ) where
+  -- no row leads before column c, where the leads rise from there on
+  pub rising-none : (c : ℕ) (T : List (List ℤ)) → m ≤ c → Rising c T → leading m T ≡ []
+  unfolding leading
+  rising-none c [] l a = refl
+  rising-none c (r ∷ T) l a = rw (le-ltb (lead r) m (omega (arith, a .0))) (rising-none (suc (lead r)) T (omega (arith, a .0)) (a .1))
 
-remaining-all : (T : List (List ℤ)) → remaining 0 T ≡ T
-unfolding remaining
-remaining-all [] = refl
-remaining-all (r ∷ T) = rw (le-ltb (lead r) 0 (omega arith)) (ap (λ (X : List (List ℤ)). r ∷ X) (remaining-all T))
+  rising-all : (c : ℕ) (T : List (List ℤ)) → m ≤ c → Rising c T → remaining m T ≡ T
+  unfolding remaining
+  rising-all c [] l a = refl
+  rising-all c (r ∷ T) l a =
+      rw (le-ltb (lead r) m (omega (arith, a .0)))
+      (ap (λ (X : List (List ℤ)). r ∷ X) (rising-all (suc (lead r)) T (omega (arith, a .0)) (a .1)))
+
+  pub rising-split : (c : ℕ) (T : List (List ℤ)) → Rising c T → leading m T ++ remaining m T ≡ T
+  unfolding leading remaining
+  rising-split c [] a = refl
+  rising-split c (r ∷ T) a = go (ltb (lead r) m) (rising-split (suc (lead r)) T (a .1)) (ltb-false (lead r) m)
+    where
+      go : (b : Bool) → leading m T ++ remaining m T ≡ T → (b ≡ false → m ≤ lead r)
+          → cond b (r ∷ leading m T) (leading m T) ++ cond b (remaining m T) (r ∷ remaining m T) ≡ r ∷ T
+      go true e f = ap (λ (X : List (List ℤ)). r ∷ X) e
+      go false e f =
+          let l : m ≤ suc (lead r) = omega (arith, f refl) in
+          ap₂ (λ (X Y : List (List ℤ)). X ++ (r ∷ Y)) (rising-none (suc (lead r)) T l (a .1)) (rising-all (suc (lead r)) T l (a .1))
 
 indent-cond : (b : Bool) (X Y : List (List ℤ)) → cond b (indent X) (indent Y) ≡ indent (cond b X Y)
 indent-cond true X Y = refl
 indent-cond false X Y = refl
-
-leading-indent : (m : ℕ) (T : List (List ℤ)) → leading (suc m) (indent T) ≡ indent (leading m T)
-unfolding leading lead
-leading-indent m [] = refl
-leading-indent m (r ∷ T) = rw (leb·suc-suc (suc (lead r)) m, leading-indent m T) (indent-cond (ltb (lead r) m) (r ∷ leading m T) (leading m T))
 
 remaining-indent : (m : ℕ) (T : List (List ℤ)) → remaining (suc m) (indent T) ≡ indent (remaining m T)
 unfolding remaining lead
@@ -92,25 +105,9 @@ remaining-indent m [] = refl
 remaining-indent m (r ∷ T) =
     rw (leb·suc-suc (suc (lead r)) m, remaining-indent m T) (indent-cond (ltb (lead r) m) (remaining m T) (r ∷ remaining m T))
 
-leading-pivot : (m : ℕ) (p : ℤ) (r : List ℤ) (T : List (List ℤ)) → Positive p → leading (suc m) ((p ∷ r) ∷ T) ≡ (p ∷ r) ∷ leading (suc m) T
-unfolding leading lead
-leading-pivot m p r T (positive k) = rw (lt-ltb 0 (suc m) (omega arith))
-
 remaining-pivot : (m : ℕ) (p : ℤ) (r : List ℤ) (T : List (List ℤ)) → Positive p → remaining (suc m) ((p ∷ r) ∷ T) ≡ remaining (suc m) T
 unfolding remaining lead
 remaining-pivot m p r T (positive k) = rw (lt-ltb 0 (suc m) (omega arith))
-
-indent-split : (m : ℕ) (T : List (List ℤ)) → leading (suc m) (indent T) ++ remaining (suc m) (indent T) ≡ indent (leading m T ++ remaining m T)
-indent-split m T = ap₂ _++_ (leading-indent m T) (remaining-indent m T) ∙ sym (map-append (λ r. pos 0 ∷ r) (leading m T) (remaining m T))
-
-pub leading-remaining : (m : ℕ) (H : Echelon) → Hermite H → leading m (rows H) ++ remaining m (rows H) ≡ rows H
-unfolding leading remaining
-leading-remaining zero H h = ap₂ _++_ (leading-none (rows H)) (remaining-all (rows H))
-leading-remaining (suc m) done h = refl
-leading-remaining (suc m) (skip H) h = indent-split m (rows H) ∙ ap indent (leading-remaining m H h)
-leading-remaining (suc m) (step p r H) h =
-    ap₂ _++_ (leading-pivot m p r (indent (rows H)) (h .0)) (remaining-pivot m p r (indent (rows H)) (h .0))
-    ∙ ap (λ (X : List (List ℤ)). (p ∷ r) ∷ X) (indent-split m (rows H) ∙ ap indent (leading-remaining m H (h .3)))
 
 abbrev indents : ℕ → List (List ℤ) → List (List ℤ)
 indents zero T = T
@@ -118,7 +115,7 @@ indents (suc m) T = indent (indents m T)
 
 remaining-past : (m : ℕ) (H : Echelon) → Hermite H → remaining m (rows H) ≡ indents m (rows (past m H))
 unfolding remaining
-remaining-past zero H h = remaining-all (rows H)
+remaining-past zero H h = rising-all 0 0 (rows H) (omega arith) (rows-rising H h)
 remaining-past (suc m) done h = sym (indents-none (suc m))
   where
     indents-none : (m : ℕ) → indents m [] ≡ []
@@ -168,7 +165,7 @@ right-found m H over v l k h =
     whole : x ≡ residue H v
     whole =
         sym (sweep-append (leading m (rows H)) (remaining m (rows H)) v)
-        ∙ ap (λ (T : List (List ℤ)). sweep T v .row) (leading-remaining m H h)
+        ∙ ap (λ (T : List (List ℤ)). sweep T v .row) (rising-split m 0 (rows H) (rows-rising H h))
         ∙ sweep-rows H v l h
 
     heads : take m w ≡ take m (residue H v)

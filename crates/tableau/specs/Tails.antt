@@ -1,7 +1,8 @@
 -- What the functions on the rows from row k on ask and what they leave. A tail is those rows in one list.
---   Tail k w c t       t is k rows of w numbers within ±M, each 0 before column c, and w no wider than any table
+--   Tail k w c t       t is k rows of w numbers within ±M, each 0 before column c
 --   Picked k w c t j   row j of t is gathering's choice at column c
 --   lowerFirst w j t   t with its first row in the place of row j too
+--   brought w j t      t with its first row and row j swapped
 --   liftedRow w c j t  row j, negated if its entry is negative
 --   Lifted             the row that is brought to the top, and the tail then
 --   Gathers            what a function that gathers, and stops at a number beyond ±M, answers and leaves
@@ -10,20 +11,18 @@
 use mathlib.Core.Path.{_≡_}
 use mathlib.Core.Bool.{Bool, false}
 use mathlib.Core.List.{List, _∷_, _++_}
-use Prim.Native.Nat.{ℕ, _+_, _*_, _-_, _<_, _≤_}
+use Prim.Native.Nat.{ℕ, _+_, _*_, _-_, _<_}
 use lib.IntN.{ℤ}
 use lib.ListN.{length, take, drop}
 use Rattle.whole.specs.Lists.{entry}
 use Rattle.lattice.specs.Rows.{ZeroTo, flat, chop}
 use Rattle.lattice.specs.Span.{All}
-use Rattle.tableau.specs.Table.{maxWidth}
 use Rattle.tableau.specs.Elimination.{Gathered, signed, round}
 use Rattle.tableau.specs.GatherLaws.{Chosen, gathering}
 use Rattle.tableau.specs.Within.{Within}
 
 pub record Tail (k w c : ℕ) (t : List ℤ) : Type 0 where
   pub wide : length t ≡ k * w
-  pub narrow : w ≤ maxWidth
   pub column : c < w
   pub small : Within t
   pub front : All (ZeroTo c) (chop k w t)
@@ -35,6 +34,9 @@ pub record Picked (k w c : ℕ) (t : List ℤ) (j : ℕ) : Type 0 where
 
 abbrev pub lowerFirst : ℕ → ℕ → List ℤ → List ℤ
 lowerFirst w j t = take (j * w) t ++ (take w t ++ drop (j * w + w) t)
+
+abbrev pub brought : ℕ → ℕ → List ℤ → List ℤ
+brought w j t = take w (drop (j * w) t) ++ drop w (lowerFirst w j t)
 
 abbrev pub liftedRow : ℕ → ℕ → ℕ → List ℤ → List ℤ
 liftedRow w c j t = signed (entry c (take w (drop (j * w) t))) (take w (drop (j * w) t))

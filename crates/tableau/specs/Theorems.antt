@@ -8,8 +8,9 @@
 --   reached-same         two of them find the same exactly when they reach the same lists
 --   problem-form         a problem's tableau comes into its Hermite form
 --   problem-count, -wide it has a row of m + n numbers for each column
---   problem-split        the form's leading rows stand above the remaining ones
+--   problem-rising       the form's leads rise
 --   problem-basis        each vector of the basis has n numbers and a lead above 0
+--   basis-rising         and their leads rise
 --   solve-tells          what a problem finds tells the set of lists that satisfy its rows
 --   solve-some           these lists are the starting list and the whole combinations of the basis added to it
 --   solve-none           there is no such list exactly when "none" is found
@@ -31,17 +32,17 @@ use Rattle.lattice.specs.RowLaws.{length-plus, length-zeros}
 use Rattle.lattice.specs.Sums.{Satisfies}
 use Rattle.lattice.specs.Span.{All, Len, Span, Same, Independent, steps-count, steps-length}
 use Rattle.lattice.specs.Hermite as Forms
-use Rattle.lattice.specs.Hermite.{Echelon, width, rows, past, Led, Reduced, Hermite, rows-led, past-width, past-hermite}
+use Rattle.lattice.specs.Hermite.{Echelon, width, rows, past, Led, Rising, Reduced, Hermite, rows-led, rows-rising, past-width, past-hermite}
 use Rattle.lattice.specs.Coset.{Describes}
 use Rattle.tableau.specs.Table.{tableau}
 use Rattle.tableau.specs.Elimination.{at, gather, eliminate}
-use Rattle.tableau.specs.RightSide.{leading, remaining, basis, none, some, rightSide, form, solve}
+use Rattle.tableau.specs.RightSide.{basis, none, some, rightSide, form, solve}
 use Rattle.tableau.specs.Generators.{Generators, Reaches, Tells, Sized}
 use Rattle.tableau.specs.GatherLaws.{Chosen, Alone, gather-alone, gather-fuel}
 use Rattle.tableau.specs.FormLaws.{Eliminated, eliminated, passColumns-steps}
 use Rattle.tableau.specs.TableLaws.{tableau-count, tableau-length, tableau-independent, tableau-generators, tableau-reaches}
 use Rattle.tableau.specs.FoundLaws.{tells-same, tells-none, tells-unique}
-use Rattle.tableau.specs.RightLaws.{leading-remaining, basis-past, right-tells}
+use Rattle.tableau.specs.RightLaws.{basis-past, right-tells}
 
 -- ---- elimination
 -- As many rounds as the first magnitude chosen leave the pivot's entry above 0 and every lower entry 0. More rounds leave the same, and the same
@@ -117,10 +118,10 @@ pub problem-wide : (n : ℕ) (A : List (List ℤ)) → All (Len (length A + n)) 
 unfolding form eliminate
 problem-wide n A = steps-length (length A + n) (passColumns-steps (length A + n) 0 [] (tableau n A)) (tableau-length n A)
 
-pub problem-split : (n : ℕ) (A : List (List ℤ)) → leading (length A) (form n A .table) ++ remaining (length A) (form n A .table) ≡ form n A .table
+pub problem-rising : (n : ℕ) (A : List (List ℤ)) → Rising 0 (form n A .table)
 unfolding form
-problem-split n A =
-    let t : Eliminated (length A + n) (tableau n A) = problem-form n A in rw (t .is) (leading-remaining (length A) (t .form) (t .hermite))
+problem-rising n A =
+    let t : Eliminated (length A + n) (tableau n A) = problem-form n A in subst (Rising 0) (sym (t .is)) (rows-rising (t .form) (t .hermite))
 
 pub problem-basis : (n : ℕ) (A : List (List ℤ)) → All (Led n) (basis (length A) (form n A .table))
 unfolding form
@@ -130,6 +131,12 @@ problem-basis n A =
     let w : width K ≡ n = past-width (length A) n (t .form) (t .wide) in
     rw (t .is, basis-past (length A) (t .form) (t .hermite))
     (subst (λ (k : ℕ). All (Led k) (rows K)) w (rows-led K (past-hermite (length A) (t .form) (t .hermite))))
+
+pub basis-rising : (n : ℕ) (A : List (List ℤ)) → Rising 0 (basis (length A) (form n A .table))
+unfolding form
+basis-rising n A =
+    let t : Eliminated (length A + n) (tableau n A) = problem-form n A in
+    rw (t .is, basis-past (length A) (t .form) (t .hermite)) (rows-rising (past (length A) (t .form)) (past-hermite (length A) (t .form) (t .hermite)))
 
 -- ---- a problem
 -- The same for a problem: what is found tells the set of lists that satisfy its rows.

@@ -2,10 +2,10 @@
 --   Within l           no number of l lies beyond ±M
 --   neither            two marks of which none is set
 --   within-..          of a part, of lists end to end, of a negated row, of zeros; and of one number
---   beyond-at, within-next   the first i numbers and the next one, for a loop that stops at a number beyond ±M
+--   beyond-none, -next   the first i numbers and the next one, for a loop that collects whether one lies beyond ±M
 -- Assumes nothing.
 use mathlib.Core.Path.{_≡_, refl, sym, _∙_, ap, ap₂}
-use mathlib.Core.Bool.{Bool, true, false, _||_, or-true, false≢true}
+use mathlib.Core.Bool.{Bool, true, false, _||_, or-false, false≢true}
 use mathlib.Core.List.{List, [], _∷_, _++_}
 use Prim.Native.Nat.{ℕ, zero, suc, _+_, _<_, _≤_}
 use native.Mathlib.Numerals.{add-one}
@@ -24,14 +24,14 @@ pub neither : (a b : Bool) → a || b ≡ false → (a ≡ false) × (b ≡ fals
 neither true b e = absurd (false≢true (sym e))
 neither false b e = (refl, e)
 
+or-assoc : (p q r : Bool) → p || (q || r) ≡ (p || q) || r
+or-assoc true q r = refl
+or-assoc false q r = refl
+
 pub beyond-append : (a b : List ℤ) → anyBeyond (a ++ b) ≡ anyBeyond a || anyBeyond b
 unfolding anyBeyond
 beyond-append [] b = refl
-beyond-append (x ∷ a) b = ap (λ (t : Bool). beyond x || t) (beyond-append a b) ∙ assoc (beyond x) (anyBeyond a) (anyBeyond b)
-  where
-    assoc : (p q r : Bool) → p || (q || r) ≡ (p || q) || r
-    assoc true q r = refl
-    assoc false q r = refl
+beyond-append (x ∷ a) b = ap (λ (t : Bool). beyond x || t) (beyond-append a b) ∙ or-assoc (beyond x) (anyBeyond a) (anyBeyond b)
 
 pub within-append : (a b : List ℤ) → Within a → Within b → Within (a ++ b)
 within-append a b p q = beyond-append a b ∙ ap₂ _||_ p q
@@ -72,23 +72,16 @@ within-zeros zero = refl
 within-zeros (suc n) = within-zeros n
 
 -- ---- the first i numbers, and the next one
-pub beyond-at : (l : List ℤ) (i : ℕ) → i < length l → beyond (entry i l) ≡ true → anyBeyond l ≡ true
+next : (l : List ℤ) (i : ℕ) → i < length l → anyBeyond (take (suc i) l) ≡ anyBeyond (take i l) || beyond (entry i l)
 unfolding anyBeyond
-beyond-at [] i h e = absurd (omega arith)
-beyond-at (x ∷ l) zero h e = rw e
-beyond-at (x ∷ l) (suc i) h e = rw (beyond-at l i (omega arith) e) (or-true (beyond x))
+next [] i h = absurd (omega arith)
+next (x ∷ l) zero h = or-false (beyond x)
+next (x ∷ l) (suc i) h =
+    ap (λ (t : Bool). beyond x || t) (next l i (omega arith)) ∙ or-assoc (beyond x) (anyBeyond (take i l)) (beyond (entry i l))
 
-next : (l : List ℤ) (i : ℕ) → Within (take i l) → beyond (entry i l) ≡ false → Within (take (suc i) l)
+pub beyond-next : (l : List ℤ) (i : ℕ) → i < length l → anyBeyond (take (i + 1) l) ≡ anyBeyond (take i l) || beyond (entry i l)
+beyond-next l i h = rw (add-one) (next l i h)
+
+pub beyond-none : (l : List ℤ) → anyBeyond (take 0 l) ≡ false
 unfolding anyBeyond
-next [] i p e = refl
-next (x ∷ l) zero p e = rw e
-next (x ∷ l) (suc i) p e =
-    let d : (beyond x ≡ false) × Within (take i l) = neither (beyond x) (anyBeyond (take i l)) p in
-    rw (d .0) (next l i (d .1) e)
-
-pub within-next : (l : List ℤ) (i : ℕ) → Within (take i l) → beyond (entry i l) ≡ false → Within (take (i + 1) l)
-within-next l i p e = rw (add-one) (next l i p e)
-
-pub within-none : (l : List ℤ) → Within (take 0 l)
-unfolding anyBeyond
-within-none l = refl
+beyond-none l = refl

@@ -1,14 +1,12 @@
 ghost use mathlib.Core.Path.{_≡_};
 ghost use Prim.Native.Nat.{_+_, _*_, _-_, _<_, _≤_};
-ghost use lib.ListN.{length};
+ghost use lib.ListN.{length, take, drop};
 ghost use Rattle.whole.specs.Lists.{entry};
-ghost use Rattle.lattice.specs.Rows.{chop};
-ghost use Rattle.tableau.specs.Table.{maxWidth};
+ghost use Rattle.lattice.specs.Rows.{ZeroTo, chop};
 ghost use Rattle.tableau.specs.Elimination as Elimination;
-ghost use Rattle.tableau.specs.Choices.{choiceOf, Fewer};
-ghost use Rattle.tableau.specs.Tails.{Tail, Picked, lowerFirst, Lifted, Gathers, roundOf, gatheringOf};
+ghost use Rattle.tableau.specs.Choices.{choiceOf, below, counted, nonzeros, Chooses};
+ghost use Rattle.tableau.specs.Tails.{Tail, Picked, brought, Lifted, Gathers, roundOf, gatheringOf};
 ghost use Rattle.tableau.specs.Within.{Within};
-use crate::MAX_WIDTH;
 use crate::rows::Way;
 use crate::rows::negate;
 use crate::tables::each;
@@ -16,60 +14,73 @@ use lattice::copy;
 use whole::less;
 use whole::magnitude;
 
-// The row that gathering chooses, counted from the first, and the magnitude of its entry; or all entries are 0.
-pub(crate) enum Choice {
-    Nothing,
-    At(usize, u64),
+// The row that gathering chooses, counted from the first, the magnitude of its entry, and how many entries are other than 0. Where all are 0,
+// there is no choice.
+pub(crate) struct Choice {
+    pub row: usize,
+    pub size: u64,
+    pub count: usize,
 }
 
-// The choice with a row of the given size put above the rows that z was chosen from. The upper row wins a tie.
-fn prefer(size: u64, z: Choice) -> Choice
-    requires { ⌜ Fewer 4611686018427387904 z ⌝ }
-    ensures { λ r. ⌜ choiceOf r ≡ Elimination.prefer size (choiceOf z) ⌝ }
+// The choice with a row i of the given size put below the rows that z was chosen from. The upper row wins a tie.
+fn later(z: Choice, i: usize, size: u64) -> Choice
+    requires { ⌜ z .count < 4611686018427387904 ⌝ }
+    ensures { λ r. ⌜ choiceOf r ≡ below (choiceOf z) i size ⌝ }
+    ensures { λ r. ⌜ r .count ≡ z .count + counted size ⌝ }
 {
-    match z {
-        Choice::Nothing => {
-            if size == 0 {
-                return Choice::Nothing;
-            }
-            Choice::At(0, size)
-        }
-        Choice::At(j, p) => {
-            if size == 0 {
-                return Choice::At(j + 1, p);
-            }
-            if size <= p {
-                return Choice::At(0, size);
-            }
-            Choice::At(j + 1, p)
-        }
+    if size == 0 {
+        return z;
+    }
+    if z.count == 0 || size < z.size {
+        return Choice {
+            row: i,
+            size: size,
+            count: z.count + 1,
+        };
+    }
+    Choice {
+        row: z.row,
+        size: z.size,
+        count: z.count + 1,
     }
 }
 
-// The smallest magnitude other than 0 in column c, from the last row up.
+// The smallest magnitude other than 0 in column c.
 pub(crate) fn choose(t: &[i64], rows: usize, w: usize, c: usize) -> Choice
     requires { ⌜ (length (now t) ≡ rows * w) × (c < w) ⌝ }
-    ensures { λ r. ⌜ choiceOf r ≡ Elimination.choose c (chop rows w (now (t .entry))) ⌝ }
+    ensures { λ r. ⌜ Chooses c (chop rows w (now (t .entry))) r ⌝ }
 {
-    let mut z = Choice::Nothing;
-    let mut i = rows;
-    while 0 < i {
-        i -= 1;
-        z = prefer(magnitude(t[i * w + c]), z);
+    let mut z = Choice {
+        row: 0,
+        size: 0,
+        count: 0,
+    };
+    let mut i = 0;
+    while i < rows {
+        z = later(z, i, magnitude(t[i * w + c]));
+        i += 1;
     }
     z
 }
 
-// Copies the first row of w numbers into the place of row j.
-fn lower_first(t: &mut [i64], w: usize, j: usize)
-    requires { ⌜ (w ≤ maxWidth) × (j * w + w ≤ length (now t)) ⌝ }
-    ensures { λ _. ⌜ now (t .exit) ≡ lowerFirst w j (now (t .entry)) ⌝ }
+// Swaps the first row of w numbers with row j, from column c on: before it both have only 0.
+fn bring(t: &mut [i64], w: usize, c: usize, j: usize)
+    requires { ⌜ (c ≤ w) × (j * w + w ≤ length (now t)) ⌝ }
+    requires { ⌜ ZeroTo c (take w (now t)) × ZeroTo c (take w (drop (j * w) (now t))) ⌝ }
+    ensures { λ _. ⌜ now (t .exit) ≡ brought w j (now (t .entry)) ⌝ }
 {
-    let mut first = [0i64; MAX_WIDTH];
+    if j == 0 {
+        return;
+    }
     let at = j * w;
-    let end = at + w;
-    copy(&mut first[..w], &t[..w]);
-    copy(&mut t[at..end], &first[..w]);
+    let mut i = c;
+    while i < w {
+        let x = t[i];
+        let y = t[at + i];
+        t[i] = y;
+        t[at + i] = x;
+        i += 1;
+    }
 }
 
 // Turns the row's sign if its entry at c is negative.
@@ -82,19 +93,17 @@ fn raise(row: &mut [i64], c: usize)
     }
 }
 
-// Takes row j out into the pivot, its sign turned if its entry at c is negative, and to the top; the first row takes its place.
+// Brings row j to the top, its sign turned if its entry at c is negative, and copies it into the pivot; the first row takes its place.
 fn lift(t: &mut [i64], pivot: &mut [i64], c: usize, j: usize)
-    requires { ⌜ (length (now pivot) ≤ maxWidth) × (j * length (now pivot) + length (now pivot) ≤ length (now t)) ⌝ }
-    requires { ⌜ (c < length (now pivot)) × Within (now t) ⌝ }
+    requires { ⌜ (c < length (now pivot)) × (j * length (now pivot) + length (now pivot) ≤ length (now t)) ⌝ }
+    requires { ⌜ ZeroTo c (take (length (now pivot)) (now t)) × ZeroTo c (take (length (now pivot)) (drop (j * length (now pivot)) (now t))) ⌝ }
+    requires { ⌜ Within (now t) ⌝ }
     ensures { λ _. ⌜ Lifted c j (length (now (pivot .entry))) (now (t .entry)) (now (pivot .exit)) (now (t .exit)) ⌝ }
 {
     let w = pivot.len();
-    let at = j * w;
-    let end = at + w;
-    copy(pivot, &t[at..end]);
-    lower_first(t, w, j);
-    raise(pivot, c);
-    copy(&mut t[..w], pivot);
+    bring(t, w, c, j);
+    raise(&mut t[..w], c);
+    copy(pivot, &t[..w]);
 }
 
 // One round: the chosen row j comes to the top as the pivot, and is taken from the rows below.
@@ -108,8 +117,8 @@ fn round(t: &mut [i64], rows: usize, pivot: &mut [i64], c: usize, j: usize) -> b
     each(&mut t[w..], rows - 1, pivot, c, Way::Below)
 }
 
-// The rounds of one column, from the chosen row on, until the rows below the first have only 0 there. The first is then in the pivot too.
-pub(crate) fn gather(t: &mut [i64], rows: usize, pivot: &mut [i64], c: usize, chosen: usize) -> bool
+// The rounds of one column, from the chosen row on, until the rows below the first have only 0 there. A pivot of 1 leaves nothing else.
+fn rounds(t: &mut [i64], rows: usize, pivot: &mut [i64], c: usize, chosen: usize) -> bool
     requires { ⌜ Tail rows (length (now pivot)) c (now t) ⌝ }
     requires { ⌜ Picked rows (length (now pivot)) c (now t) chosen ⌝ }
     ensures { λ r. ⌜ Gathers (gatheringOf rows (length (now (pivot .entry))) c (now (t .entry))) r (now (t .exit)) (now (pivot .exit)) ⌝ }
@@ -120,9 +129,27 @@ pub(crate) fn gather(t: &mut [i64], rows: usize, pivot: &mut [i64], c: usize, ch
         if round(t, rows, pivot, c, j) {
             return true;
         }
-        match choose(&t[w..], rows - 1, w, c) {
-            Choice::Nothing => return false,
-            Choice::At(i, _) => j = i + 1,
+        if magnitude(pivot[c]) == 1 {
+            return false;
         }
+        let z = choose(&t[w..], rows - 1, w, c);
+        if z.count == 0 {
+            return false;
+        }
+        j = z.row + 1;
     }
+}
+
+// Gathers one column, from the choice z on. A lone entry leaves nothing to take away. The first row is then in the pivot too.
+pub(crate) fn gather(t: &mut [i64], rows: usize, pivot: &mut [i64], c: usize, z: Choice) -> bool
+    requires { ⌜ Tail rows (length (now pivot)) c (now t) ⌝ }
+    requires { ⌜ Picked rows (length (now pivot)) c (now t) (z .row) ⌝ }
+    requires { ⌜ z .count ≡ nonzeros c (chop rows (length (now pivot)) (now t)) ⌝ }
+    ensures { λ r. ⌜ Gathers (gatheringOf rows (length (now (pivot .entry))) c (now (t .entry))) r (now (t .exit)) (now (pivot .exit)) ⌝ }
+{
+    if z.count == 1 {
+        lift(t, pivot, c, z.row);
+        return false;
+    }
+    rounds(t, rows, pivot, c, z.row)
 }

@@ -11,7 +11,7 @@ use Rattle.lattice.specs.Rows.{chop}
 use Rattle.lattice.proofs.Parts.{tail-is}
 use Rattle.tableau.specs.RightSide.{Solved, rightSide}
 use Rattle.rightside.specs.Solutions.{solutionOf, Righted}
-use Rattle.rightside.specs.Halves.{foundOf}
+use Rattle.rightside.specs.Sweeps.{foundOf}
 use Rattle.rightside.proofs.Answers.{work-wide, list-wide, list-small, found-is, righted-starts, start-over, start-none, start-found}
 use borrow.Author.Needs.{needs}
 use Rattle.rightside.proofs.find.Statement.{statement}
@@ -40,7 +40,7 @@ right-side-requires : tie.Need-right-side-requires
 right-side-requires c κs =
     let h = c .before .before .before .before .pre in
     let e = c .before .before .turn-over .ensures in
-    rw (list-wide h e) ((h .table, h .leads), ((h .within, list-small h e), omega arith))
+    rw (list-wide h e) ((h .form .long, h .form .leads), (h .form .rises, ((h .form .small, list-small h e), omega arith)))
 
 enum-told : tie.Need-enum-told
 enum-told c = search needs

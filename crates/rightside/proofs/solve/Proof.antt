@@ -10,7 +10,7 @@ use Rattle.tableau.specs.Table.{maxWidth}
 use Rattle.tableau.specs.RightSide.{Solved}
 use Rattle.rightside.specs.Solutions.{solvedOf, solutionOf, startAfter}
 use Rattle.tableau.specs.Buffers.{formOf}
-use Rattle.rightside.specs.Halves.{foundOf}
+use Rattle.rightside.specs.Sweeps.{foundOf}
 use Rattle.tableau.proofs.Forms.{Formed, formed, form-over, form-kept}
 use Rattle.rightside.proofs.Solving.{findable, solved-is, solved-over, table-over, table-kept, answer-over, start-kept}
 use Rattle.rightside.proofs.Answers.{solution-over, solution-none, solution-found}

@@ -1,84 +1,120 @@
 -- `rightside::sweep` meets its contract: the rows are taken from the top, and what is left to take from v is what was to take at first.
 -- Assumes nothing.
-use mathlib.Core.Path.{refl, sym, _∙_}
-use Prim.Native.Nat.{ℕ}
+use mathlib.Core.Path.{_≡_, refl, _∙_}
 use native.Mathlib.Omega.{arith}
-use lib.ListN.{length, drop}
+use lib.ListN.{length}
+use Rattle.lattice.specs.Rows.{lead}
 use Rattle.lattice.proofs.Parts.{part-is}
-use Rattle.tableau.specs.Elimination.{Left}
-use Rattle.tableau.specs.Within.{within-take, within-drop}
-use Rattle.rightside.specs.Halves.{ownStep, Swept}
-use Rattle.rightside.proofs.Sweeping.{Sweeps, starts, goes-on, stops, ends, ahead, row, row-wide, row-leads}
+use Rattle.tableau.specs.Elimination.{reduced}
+use Rattle.rightside.specs.Sweeps.{Swept}
+use Rattle.rightside.proofs.Staircase.{ahead, lead-is}
+use Rattle.rightside.proofs.Sweeping.{Sweeps, next, next-inside, next-pivot, sweep-starts, sweep-on, sweep-stops, sweep-ends}
+use borrow.Author.Needs.{needs}
 use Rattle.rightside.proofs.sweep.Statement.{statement}
 use Rattle.rightside.proofs.sweep.Tie as tie
 
 abbrev Inv-loop : tie.InvT-loop
-Inv-loop v₀ t rows m half w at₀ left₀ v at left = Sweeps half m w rows t v₀ v at left
+Inv-loop v₀ t rows w at₀ left₀ c₀ v at left c = Sweeps w rows t v₀ v at left c
 
 abbrev μ-loop : tie.MeasureT-loop
-μ-loop v₀ t rows m half w at₀ left₀ v at left = left
+μ-loop v₀ t rows w at₀ left₀ c₀ v at left c = left
 
--- what the call answers and leaves of v, with the row that comes next
+-- what the search finds is the lead of the row that comes next
 told :
-    (c : tie.After-sweep-row Inv-loop μ-loop) →
-    let a = c .before .before .before .before .before .args in
-    let l = c .before .before .before .before .loop in
-    let f : Left = ownStep (a .half) (a .m) (row (l .inv) (c .before .before .before .loop-test .taken)) (l .v) in
-    Swept f (l .v) (c .sweep-row .result) (c .sweep-row .last .0)
+    (c : tie.After-lead-from Inv-loop μ-loop) →
+    let l = c .before .before .before .loop in
+    c .lead-from .result ≡ lead (next (l .inv) (c .before .before .loop-test .taken))
 told c =
-    let a = c .before .before .before .before .before .args in
-    let l = c .before .before .before .before .loop in
-    rw (part-is (l .at) (length (a .v .now)) (a .t .now)) at (c .sweep-row .ensures)
-
-loop-holds : tie.Need-loop-holds Inv-loop μ-loop
-loop-holds c = starts _ _ _ _ _ (c .pre .0 .0) (c .pre .1 .1) (c .pre .0 .1)
-
-add-next : tie.Need-add-next Inv-loop μ-loop
-add-next c = omega (arith, ahead (c .before .loop .inv) (c .loop-test .taken))
-
-mul-sweep-row : tie.Need-mul-sweep-row Inv-loop μ-loop
-mul-sweep-row c = omega (arith, ahead (c .before .before .loop .inv) (c .before .loop-test .taken))
-
-sub-sweep-row : tie.Need-sub-sweep-row Inv-loop μ-loop
-sub-sweep-row c = omega arith
-
-part-sweep-row-start : tie.Need-part-sweep-row-start Inv-loop μ-loop
-part-sweep-row-start c = omega (arith, ahead (c .before .before .loop .inv) (c .before .loop-test .taken))
-
-part-sweep-row-end : tie.Need-part-sweep-row-end Inv-loop μ-loop
-part-sweep-row-end c = omega (arith, ahead (c .before .before .loop .inv) (c .before .loop-test .taken))
-
-sweep-row-requires : tie.Need-sweep-row-requires Inv-loop μ-loop
-sweep-row-requires c κs =
     let a = c .before .before .before .before .args in
     let l = c .before .before .before .loop in
-    let w : ℕ = length (a .v .now) in
-    rw (part-is (l .at) w (a .t .now)) (
-      (row-wide (l .inv) (c .before .before .loop-test .taken) ∙ sym (l .inv .wide), row-leads (l .inv) (c .before .before .loop-test .taken)),
-      (within-take w (drop (l .at) (a .t .now)) (within-drop (l .at) (a .t .now) (c .before .before .before .before .pre .1 .0)), l .inv .small),
-    )
+    lead-is (l .inv .walk) (c .before .before .loop-test .taken) (rw (part-is (l .at) (length (a .v .now)) (a .t .now)) at (c .lead-from .ensures))
+
+-- what the call answers and leaves of v, with that row
+taken :
+    (c : tie.After-reduce Inv-loop μ-loop) →
+    let l = c .before .before .before .before .before .before .loop in
+    let r = next (l .inv) (c .before .before .before .before .before .loop-test .taken) in
+    Swept (reduced (c .before .before .before .lead-from .result) r (l .v)) (l .v) (c .reduce .result) (c .reduce .last .0)
+taken c =
+    let a = c .before .before .before .before .before .before .before .args in
+    let l = c .before .before .before .before .before .before .loop in
+    let e = rw (part-is (l .at) (length (a .v .now)) (a .t .now)) at (c .reduce .ensures) in
+    record { answer = e .0; left = e .1 }
+
+loop-holds : tie.Need-loop-holds Inv-loop μ-loop
+loop-holds c = sweep-starts _ _ _ (c .pre .0) (c .pre .1)
+
+add-next : tie.Need-add-next Inv-loop μ-loop
+add-next c = omega (arith, ahead (c .before .loop .inv .walk) (c .loop-test .taken))
+
+mul-lead-from : tie.Need-mul-lead-from Inv-loop μ-loop
+mul-lead-from c = omega (arith, ahead (c .before .loop .inv .walk) (c .loop-test .taken))
+
+sub-lead-from : tie.Need-sub-lead-from Inv-loop μ-loop
+sub-lead-from c = omega arith
+
+part-lead-from-start : tie.Need-part-lead-from-start Inv-loop μ-loop
+part-lead-from-start c = omega (arith, ahead (c .before .loop .inv .walk) (c .loop-test .taken))
+
+part-lead-from-end : tie.Need-part-lead-from-end Inv-loop μ-loop
+part-lead-from-end c = omega (arith, ahead (c .before .loop .inv .walk) (c .loop-test .taken))
+
+lead-from-requires : tie.Need-lead-from-requires Inv-loop μ-loop
+lead-from-requires c κs = search needs
+
+mul-reduce : tie.Need-mul-reduce Inv-loop μ-loop
+mul-reduce c = omega (arith, ahead (c .before .before .before .before .loop .inv .walk) (c .before .before .before .loop-test .taken))
+
+sub-reduce : tie.Need-sub-reduce Inv-loop μ-loop
+sub-reduce c = omega arith
+
+part-reduce-start : tie.Need-part-reduce-start Inv-loop μ-loop
+part-reduce-start c = omega (arith, ahead (c .before .before .before .before .loop .inv .walk) (c .before .before .before .loop-test .taken))
+
+part-reduce-end : tie.Need-part-reduce-end Inv-loop μ-loop
+part-reduce-end c = omega (arith, ahead (c .before .before .before .before .loop .inv .walk) (c .before .before .before .loop-test .taken))
+
+reduce-requires : tie.Need-reduce-requires Inv-loop μ-loop
+reduce-requires c κs =
+    let n = c .before .before in
+    let a = n .before .before .before .before .args in
+    let l = n .before .before .before .loop in
+    let p = next-pivot (l .inv) (n .before .before .loop-test .taken) (told n) (n .before .before .before .before .pre .0 .small) in
+    rw (part-is (l .at) (length (a .v .now)) (a .t .now)) (p, l .inv .small)
 
 same-length : tie.Need-same-length Inv-loop μ-loop
-same-length c = c .before .before .sweep-row .kept .0 ∙ c .before .before .before .before .before .before .loop .inv .wide
+same-length c = c .before .before .reduce .kept .0 ∙ c .before .before .before .before .before .before .before .before .loop .inv .wide
 
 returns : tie.Need-returns Inv-loop μ-loop
-returns c = stops (c .before .before .before .before .before .before .loop .inv) (c .before .before .before .before .before .loop-test .taken) refl (rw (c .if1 .taken) at (told (c .before .before)))
+returns c =
+    let n = c .before .before .before .before .before in
+    let l = n .before .before .before .loop in
+    sweep-stops (l .inv) (n .before .before .loop-test .taken) (told n) refl (rw (c .if1 .taken) at (taken (c .before .before)))
 
 sub-left : tie.Need-sub-left Inv-loop μ-loop
 sub-left c = omega arith
+
+add-c : tie.Need-add-c Inv-loop μ-loop
+add-c c =
+    let n = c .before .before .before .before .before in
+    let l = n .before .before .before .loop in
+    let some = n .before .before .loop-test .taken in
+    omega (arith, told n, next-inside (l .inv) some, ahead (l .inv .walk) some)
 
 loop-less : tie.Need-loop-less Inv-loop μ-loop
 loop-less c = omega arith
 
 loop-again : tie.Need-loop-again Inv-loop μ-loop
 loop-again c =
-    goes-on (c .before .before .before .before .before .before .loop .inv) (c .before .before .before .before .before .loop-test .taken) (rw (c .if1 .left) at (told (c .before .before)))
+    let n = c .before .before .before .before .before in
+    let l = n .before .before .before .loop in
+    sweep-on (l .inv) (n .before .before .loop-test .taken) (told n) (rw (c .if1 .left) at (taken (c .before .before)))
 
 same-length-2 : tie.Need-same-length-2 Inv-loop μ-loop
 same-length-2 c = c .before .loop .inv .wide
 
 returns-2 : tie.Need-returns-2 Inv-loop μ-loop
-returns-2 c = ends (c .before .loop .inv) (omega arith)
+returns-2 c = sweep-ends (c .before .loop .inv) (omega arith)
 
 pub sweep-spec : {M : Type 1} → statement M
 sweep-spec =
@@ -88,14 +124,20 @@ sweep-spec =
     μ-loop
     loop-holds
     add-next
-    mul-sweep-row
-    sub-sweep-row
-    part-sweep-row-start
-    part-sweep-row-end
-    sweep-row-requires
+    mul-lead-from
+    sub-lead-from
+    part-lead-from-start
+    part-lead-from-end
+    lead-from-requires
+    mul-reduce
+    sub-reduce
+    part-reduce-start
+    part-reduce-end
+    reduce-requires
     same-length
     returns
     sub-left
+    add-c
     loop-less
     loop-again
     same-length-2

@@ -17,8 +17,8 @@ use Rattle.engine.specs.declared.views.Place.{Place}
 use Rattle.engine.specs.Views.{basisOf}
 use Rattle.engine.specs.Finish.{settledBy}
 use Rattle.engine.proofs.Finishing.{finished-far, finished-seated, seated-long, seated-small, ready-with}
-use Rattle.engine.proofs.Leading.{maxTableau}
-use Rattle.engine.proofs.Viewing.{place-inside, place-over, place-ready, place-led, tableau-small}
+use Rattle.engine.proofs.Sizes.{maxTableau}
+use Rattle.engine.proofs.Viewing.{place-inside, place-over, place-ready, place-led, place-rises, tableau-small}
 use Rattle.engine.proofs.ending.finish.Statement.{statement}
 use Rattle.engine.proofs.ending.finish.Tie as tie
 
@@ -70,7 +70,7 @@ module _ (w : tie.After-seat) where
   near j = rw after (seated-small C N (a .args .start .now) (a .args .start .now) (a .pre .placed .ready 0 .values-small) (a .pre .placed .ready 0 .values-small) j)
 
 basis-place-requires : tie.Need-basis-place-requires
-basis-place-requires c κs = let q = c .before .pre .placed in (q .ready 0 .few, q .few-rows, q .parted .long)
+basis-place-requires c κs = let q = c .before .pre .placed in (q .ready 0 .few, q .few-rows, q .parted)
 
 mul-seat : tie.Need-mul-seat
 mul-seat c = omega (arith, inside (c .before .before), small (c .before .before))
@@ -91,6 +91,7 @@ seat-requires c κs =
     record {
       ready = place-ready (s .args .p) (s .args .tableau .now) (d .basis-place .result) (d .basis-place .ensures) (s .args .start .now) (s .args .columns .now) (s .pre .placed);
       led = place-led (s .args .p) (s .args .tableau .now) (d .basis-place .result) (d .basis-place .ensures) (s .pre .placed .parted) (s .pre .led);
+      rises = place-rises (s .args .p) (s .args .tableau .now) (d .basis-place .result) (d .basis-place .ensures) (s .pre .placed .parted) (s .pre .led);
     }
 
 same-length : tie.Need-same-length

@@ -6,7 +6,7 @@ use borrow.Author.Needs.{needs}
 use lib.ListN.{length}
 use Rattle.engine.specs.declared.views.Place.{Place}
 use Rattle.engine.specs.Finish.{settledBy}
-use Rattle.engine.proofs.Leading.{maxTableau}
+use Rattle.engine.proofs.Sizes.{maxTableau}
 use Rattle.engine.proofs.Viewing.{place-inside, place-over, place-ready, tableau-small}
 use Rattle.engine.proofs.ending.settle_over.Statement.{statement}
 use Rattle.engine.proofs.ending.settle_over.Tie as tie
@@ -23,7 +23,7 @@ module _ (d : tie.After-basis-place) where
   small = tableau-small (start .args .p) (start .args .tableau .now) (start .pre .0 .parted) (start .pre .0 .ready 0 .few) (start .pre .0 .few-rows)
 
 basis-place-requires : tie.Need-basis-place-requires
-basis-place-requires c κs = let q = c .before .pre .0 in (q .ready 0 .few, q .few-rows, q .parted .long)
+basis-place-requires c κs = let q = c .before .pre .0 in (q .ready 0 .few, q .few-rows, q .parted)
 
 mul-settle-on : tie.Need-mul-settle-on
 mul-settle-on c = omega (arith, inside (c .before), small (c .before))

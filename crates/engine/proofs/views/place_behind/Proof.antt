@@ -3,7 +3,7 @@ use mathlib.Core.Path.{refl}
 use Prim.Native.Nat.{_+_}
 use native.Mathlib.Omega.{arith}
 use borrow.Author.Tests.{lt-ltb, le-ltb}
-use Rattle.engine.proofs.Leading.{product-small}
+use Rattle.engine.proofs.Sizes.{product-small}
 use borrow.Author.Needs.{needs}
 use Rattle.engine.proofs.views.place_behind.Statement.{statement}
 use Rattle.engine.proofs.views.place_behind.Tie as tie

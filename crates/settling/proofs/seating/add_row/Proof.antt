@@ -1,9 +1,9 @@
--- `settling::seating::add_row` meets its contract: from the left, each value gets its share of the row. Assumes nothing.
+-- `settling::seating::add_row` meets its contract: from the lead on, each value gets its share of the row. Assumes nothing.
 use mathlib.Core.Path.{_≡_, sym, _∙_, ap}
 use Prim.Native.Nat.{_-_, _<_}
 use native.Mathlib.Omega.{arith}
 use borrow.Author.Needs.{needs}
-use lib.IntN.{ℤ, _+ℤ_, _*ℤ_}
+use lib.IntN.{ℤ, natAbs, _+ℤ_, _*ℤ_}
 use lib.ListN.{length}
 use mir.Syntax.{w64}
 use mir.Val.{toZ, ofZ}
@@ -12,15 +12,17 @@ use Rattle.whole.specs.Lists.{entry}
 use Rattle.whole.proofs.Signed.{back}
 use Rattle.lattice.specs.Rows.{plus}
 use Rattle.lattice.specs.RowLaws.{length-plus, entry-plus}
-use Rattle.lattice.proofs.Writing.{Written, starts, goes-on, ends, unread}
+use Rattle.lattice.proofs.Writing.{unread}
+use Rattle.settling.specs.Seats.{within}
+use Rattle.settling.proofs.Adding.{Adds, adds-from, adds-on, adds-beyond, adds-all}
 use Rattle.settling.proofs.seating.add_row.Statement.{statement}
 use Rattle.settling.proofs.seating.add_row.Tie as tie
 
 abbrev Inv-loop : tie.InvT-loop
-Inv-loop values₀ row q j₀ values j = Written values₀ (plus (toZ w64 q) row values₀) values j
+Inv-loop values₀ row q c j₀ values j = Adds (toZ w64 q) row values₀ values j
 
 abbrev μ-loop : tie.MeasureT-loop
-μ-loop values₀ row q j₀ values j = length row - j
+μ-loop values₀ row q c j₀ values j = length row - j
 
 -- the factor as the loop carries it
 abbrev Q : (s : tie.Start Inv-loop μ-loop) → ℤ
@@ -31,7 +33,7 @@ at : (c : tie.In-loop Inv-loop μ-loop) → let s = c .before .before in c .befo
 at c = let s = c .before .before in omega (arith, length-plus (Q s) (s .args .row .now) (s .args .values .now), s .pre .0 .long, c .loop-test .taken)
 
 here : (c : tie.In-loop Inv-loop μ-loop) → c .before .loop .j < length (c .before .loop .values)
-here c = let s = c .before .before in omega (arith, c .before .loop .inv .same, s .pre .0 .long, c .loop-test .taken)
+here c = let s = c .before .before in omega (arith, c .before .loop .inv .written .same, s .pre .0 .long, c .loop-test .taken)
 
 -- what the machine reads back
 value :
@@ -39,7 +41,7 @@ value :
     let s = c .before .before .before in
     let l = c .before .before .loop in
     toZ w64 (ofZ w64 (entry (l .j) (l .values))) ≡ entry (l .j) (s .args .values .now)
-value c = back _ (c .plus-product-arg .given) ∙ unread (c .before .before .loop .inv) (at (c .before))
+value c = back _ (c .plus-product-arg .given) ∙ unread (c .before .before .loop .inv .written) (at (c .before))
 
 share :
     (c : tie.After-plus-product-arg2 Inv-loop μ-loop) →
@@ -60,8 +62,15 @@ stored c =
     ∙ (λ i. value (c .before .before) i +ℤ Q s *ℤ share (c .before) i)
     ∙ sym (entry-plus (l .j) (Q s) (s .args .row .now) (s .args .values .now) (omega (arith, s .pre .0 .long, c .before .before .before .loop-test .taken)))
 
+-- its magnitude
+size :
+    (c : tie.After-magnitude Inv-loop μ-loop) →
+    let s = c .before .before .before .before .before .before in
+    c .magnitude .result ≡ natAbs (entry (c .before .before .before .before .before .loop .j) (plus (Q s) (s .args .row .now) (s .args .values .now)))
+size c = c .magnitude .ensures ∙ ap natAbs (stored (c .before))
+
 loop-holds : tie.Need-loop-holds Inv-loop μ-loop
-loop-holds c = let s = c in starts (sym (length-plus (Q s) (s .args .row .now) (s .args .values .now)))
+loop-holds c = let s = c in adds-from (Q s) (s .args .row .now) (s .args .values .now) (s .pre .0) (s .args .c) (s .pre .2)
 
 mul-plus-product : tie.Need-mul-plus-product Inv-loop μ-loop
 mul-plus-product c = let h = here c in search needs
@@ -81,29 +90,54 @@ plus-product-requires c κs =
     let l = c .before .before .before .loop in
     (rw (value (c .before)) (s .pre .0 .values-small (l .j)), rw (toZ-ofZ (s .fits .q)) (s .pre .1), rw (share c) (s .pre .0 .row-small (l .j)))
 
-mul-y : tie.Need-mul-y Inv-loop μ-loop
-mul-y c = let h = here (c .before .before .before) in search needs
-
-slice-set-from-y : tie.Need-slice-set-from-y Inv-loop μ-loop
-slice-set-from-y c = here (c .before .before .before)
-
-add-j : tie.Need-add-j Inv-loop μ-loop
-add-j c = omega arith
-
-loop-less : tie.Need-loop-less Inv-loop μ-loop
-loop-less c = omega arith
-
-loop-again : tie.Need-loop-again Inv-loop μ-loop
-loop-again c = goes-on (c .before .before .before .before .loop .inv) (at (c .before .before .before)) (stored c)
+magnitude-requires : tie.Need-magnitude-requires Inv-loop μ-loop
+magnitude-requires c κs = search needs
 
 same-length : tie.Need-same-length Inv-loop μ-loop
-same-length c = c .before .loop .inv .same
+same-length c = c .before .before .before .before .before .before .loop .inv .written .same
 
 returns : tie.Need-returns Inv-loop μ-loop
 returns c =
+    let s = c .before .before .before .before .before .before .before in
+    let l = c .before .before .before .before .before .before .loop in
+    adds-beyond (Q s) (s .args .row .now) (s .args .values .now) (s .pre .0) (l .values) (l .j) (l .inv)
+    (c .before .before .before .before .before .loop-test .taken)
+    (omega (arith, size (c .before), c .if1 .taken))
+    ∙ ap (λ (q : ℤ). within (plus q (s .args .row .now) (s .args .values .now))) (toZ-ofZ (s .fits .q))
+
+mul-y : tie.Need-mul-y Inv-loop μ-loop
+mul-y c = let h = here (c .before .before .before .before .before) in search needs
+
+slice-set-from-y : tie.Need-slice-set-from-y Inv-loop μ-loop
+slice-set-from-y c = here (c .before .before .before .before .before)
+
+add-lead-from : tie.Need-add-lead-from Inv-loop μ-loop
+add-lead-from c = omega arith
+
+lead-from-requires : tie.Need-lead-from-requires Inv-loop μ-loop
+lead-from-requires c κs = search needs
+
+loop-less : tie.Need-loop-less Inv-loop μ-loop
+loop-less c = omega (arith, c .lead-from .ensures)
+
+loop-again : tie.Need-loop-again Inv-loop μ-loop
+loop-again c =
+    let s = c .before .before .before .before .before .before .before .before in
+    let l = c .before .before .before .before .before .before .before .loop in
+    adds-on (Q s) (s .args .row .now) (s .args .values .now) (s .pre .0) (l .values) (l .j) (l .inv) _ (c .lead-from .result)
+    (c .before .before .before .before .before .before .loop-test .taken) (stored (c .before .before .before))
+    (omega (arith, size (c .before .before), ap natAbs (stored (c .before .before .before)), c .before .if1 .left))
+    (c .lead-from .ensures)
+
+same-length-2 : tie.Need-same-length-2 Inv-loop μ-loop
+same-length-2 c = c .before .loop .inv .written .same
+
+returns-2 : tie.Need-returns-2 Inv-loop μ-loop
+returns-2 c =
     let s = c .before .before in
-    ends (c .before .loop .inv) (omega (arith, length-plus (Q s) (s .args .row .now) (s .args .values .now), s .pre .0 .long, c .loop-test .left))
-    ∙ ap (λ (q : ℤ). plus q (s .args .row .now) (s .args .values .now)) (toZ-ofZ (s .fits .q))
+    let l = c .before .loop in
+    adds-all (Q s) (s .args .row .now) (s .args .values .now) (s .pre .0) (l .values) (l .j) (l .inv) (c .loop-test .left)
+    ∙ ap (λ (q : ℤ). within (plus q (s .args .row .now) (s .args .values .now))) (toZ-ofZ (s .fits .q))
 
 pub add-row-spec : {M : Type 1} → statement M
 add-row-spec =
@@ -117,10 +151,14 @@ add-row-spec =
     mul-plus-product-2
     shared-slice-copy-out-plus-product
     plus-product-requires
+    magnitude-requires
+    same-length
+    returns
     mul-y
     slice-set-from-y
-    add-j
+    add-lead-from
+    lead-from-requires
     loop-less
     loop-again
-    same-length
-    returns)
+    same-length-2
+    returns-2)

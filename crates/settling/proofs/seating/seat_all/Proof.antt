@@ -1,32 +1,41 @@
 -- `settling::seating::seat_all` meets its contract: what is left of the vectors, from the present values, gives the whole. Assumes nothing.
 use mathlib.Core.Path.{_≡_, refl, sym, _∙_, ap, subst}
+use mathlib.Core.Bool.{Bool, true, false, cond}
 use mathlib.Core.List.{List}
 use Prim.Native.Nat.{ℕ, _+_, _*_, _-_, _≤_}
 use native.Mathlib.Omega.{arith}
 use borrow.Author.Needs.{needs}
+use borrow.Author.Tests.{not-true, not-false}
 use lib.IntN.{ℤ}
 use lib.ListN.{length, take, drop}
+use Rattle.lattice.specs.Rows.{lead}
+use Rattle.lattice.specs.RowLaws.{lead-behind}
+use Rattle.lattice.specs.Hermite.{Rising}
 use Rattle.problem.specs.Limits.{anyBeyond}
 use Rattle.settling.specs.declared.Basis.{Basis}
 use Rattle.settling.specs.Columns.{Columns, columnsIn}
 use Rattle.settling.specs.Moves.{vector}
-use Rattle.settling.specs.Seating.{seatOne}
+use Rattle.settling.specs.Seating.{seated, far, seatOne}
 use Rattle.settling.specs.Seating as Seating
-use Rattle.settling.specs.Seats.{Addable, Led, Seatable, placeable, row-end, row-is, row-addable, still-seatable, seat-end, seat-far, seat-on}
+use Rattle.settling.specs.Seats.{within, Addable, Led, Seatable, placeable, row-end, row-is, row-addable, still-seatable}
+use Rattle.settling.specs.Seats.{seat-end, seat-far, seat-on}
 use Rattle.settling.specs.Views.{vectors}
+use Rattle.settling.proofs.Adding.{rises-row, rises-on, within-true, within-false}
 use Rattle.settling.proofs.seating.seat_all.Statement.{statement}
 use Rattle.settling.proofs.seating.seat_all.Tie as tie
 
-record Left (B : Basis) (t l v₀ v : List ℤ) (s : ℕ) : Type 0 where
+record Left (B : Basis) (t l v₀ v : List ℤ) (s c : ℕ) : Type 0 where
   seatable : Seatable B v t l
   long : length v ≡ length v₀
+  rises : Rising c (drop s (vectors B l))
   rest : Seating.seat (columnsIn (B .columns) t) (drop s (vectors B l)) v ≡ Seating.seat (columnsIn (B .columns) t) (vectors B l) v₀
 
 abbrev Inv-loop : tie.InvT-loop
-Inv-loop values₀ columns basis r n w s₀ values s = Left (record { columns = n; vectors = r; stride = w }) columns basis values₀ values s
+Inv-loop values₀ columns basis r n w s₀ from₀ values s from =
+    Left (record { columns = n; vectors = r; stride = w }) columns basis values₀ values s from
 
 abbrev μ-loop : tie.MeasureT-loop
-μ-loop values₀ columns basis r n w s₀ values s = r - s
+μ-loop values₀ columns basis r n w s₀ from₀ values s from = r - s
 
 module _ (s : tie.Start Inv-loop μ-loop) where
   abbrev B : Basis
@@ -55,20 +64,37 @@ module _ (c : tie.In-loop Inv-loop μ-loop) where
   is : take (at + B start .columns - at) (drop at (start .args .basis .now)) ≡ row
   is = row-is (B start) _ _ _ (c .before .loop .inv .seatable) (c .before .loop .s) (c .loop-test .taken)
 
--- the values after its addition
-after :
-    (c : tie.After-seat-one Inv-loop μ-loop) →
-    let s = c .before .before .before .before .before in
-    let l = c .before .before .before .before .loop in
-    c .seat-one .last .0 ≡ seatOne (C s) (vector (N s) (l .s)) (l .values)
-unfolding seatOne
-after c =
-    let s = c .before .before .before .before .before in
-    let l = c .before .before .before .before .loop in
-    c .seat-one .ensures ∙ ap (λ (r : List ℤ). seatOne (C s) r (l .values)) (is (c .before .before .before))
+  addable : Addable (c .before .loop .values) row
+  addable = row-addable (B start) _ _ _ (c .before .loop .inv .seatable) (c .before .loop .s) (c .loop-test .taken)
+
+  led : Led row
+  led = c .before .loop .inv .seatable .led (c .before .loop .s) (c .loop-test .taken)
+
+-- its lead
+found : (c : tie.After-lead-from Inv-loop μ-loop) → c .lead-from .result ≡ lead (row (c .before .before))
+found c =
+    let t = c .before .before in
+    let s = start t in
+    let l = t .before .loop in
+    c .lead-from .ensures ∙ ap (λ (r : List ℤ). l .from + lead (drop (l .from) r)) (is t)
+    ∙ lead-behind (l .from) (row t) (rises-row (B s) (s .args .basis .now) (l .from) (l .s) (t .loop-test .taken) (l .inv .rises))
+
+-- what its addition tells
+module _ (c : tie.After-seat-one Inv-loop μ-loop) where
+  abbrev turn : tie.In-loop Inv-loop μ-loop
+  turn = c .before .before .before .before .before
+
+  abbrev after : List ℤ
+  after = seatOne (C (start turn)) (row turn) (turn .before .loop .values)
+
+  told : (b : Bool) → c .seat-one .result ≡ b → cond b (seated (c .seat-one .last .0)) far ≡ within after
+  unfolding seatOne
+  told b e =
+      ap (λ (t : Bool). cond t (seated (c .seat-one .last .0)) far) (sym e) ∙ c .seat-one .ensures
+      ∙ ap (λ (r : List ℤ). within (seatOne (C (start turn)) r (turn .before .loop .values))) (is turn)
 
 loop-holds : tie.Need-loop-holds Inv-loop μ-loop
-loop-holds c = let s = c in record { seatable = s .pre; long = refl; rest = refl }
+loop-holds c = let s = c in record { seatable = s .pre; long = refl; rises = s .pre .rises; rest = refl }
 
 mul-at : tie.Need-mul-at Inv-loop μ-loop
 mul-at c = omega (arith, ends c, c .before .before .good)
@@ -76,8 +102,23 @@ mul-at c = omega (arith, ends c, c .before .before .good)
 add-end : tie.Need-add-end Inv-loop μ-loop
 add-end c = omega (arith, ends c, c .before .before .good)
 
+mul-lead-from : tie.Need-mul-lead-from Inv-loop μ-loop
+mul-lead-from c = omega (arith, ends c, c .before .before .good)
+
+sub-lead-from : tie.Need-sub-lead-from Inv-loop μ-loop
+sub-lead-from c = omega arith
+
+part-lead-from-start : tie.Need-part-lead-from-start Inv-loop μ-loop
+part-lead-from-start c = omega arith
+
+part-lead-from-end : tie.Need-part-lead-from-end Inv-loop μ-loop
+part-lead-from-end c = ends c
+
+lead-from-requires : tie.Need-lead-from-requires Inv-loop μ-loop
+lead-from-requires c κs = search needs
+
 mul-seat-one : tie.Need-mul-seat-one Inv-loop μ-loop
-mul-seat-one c = omega (arith, ends (c .before), c .before .before .before .good)
+mul-seat-one c = let t = c .before .before .before in omega (arith, ends t, start t .good)
 
 sub-seat-one : tie.Need-sub-seat-one Inv-loop μ-loop
 sub-seat-one c = omega arith
@@ -86,29 +127,34 @@ part-seat-one-start : tie.Need-part-seat-one-start Inv-loop μ-loop
 part-seat-one-start c = omega arith
 
 part-seat-one-end : tie.Need-part-seat-one-end Inv-loop μ-loop
-part-seat-one-end c = ends (c .before)
+part-seat-one-end c = ends (c .before .before .before)
 
 seat-one-requires : tie.Need-seat-one-requires Inv-loop μ-loop
 seat-one-requires c κs =
-    let s = c .before .before .before .before in
-    let l = c .before .before .before .loop in
-    let t = c .before .before in (
-      placeable (B s) _ _ _ (l .inv .seatable),
-      subst (Addable (l .values)) (sym (is t)) (row-addable (B s) _ _ _ (l .inv .seatable) (l .s) (t .loop-test .taken)),
-      subst Led (sym (is t)) (l .inv .seatable .led (l .s) (t .loop-test .taken)),
+    let t = c .before .before .before .before in
+    let l = t .before .loop in (
+      placeable (B (start t)) _ _ _ (l .inv .seatable),
+      subst (Addable (l .values)) (sym (is t)) (addable t),
+      subst Led (sym (is t)) (led t),
+      found (c .before .before) ∙ ap lead (sym (is t)),
     )
 
-any-beyond-requires : tie.Need-any-beyond-requires Inv-loop μ-loop
-any-beyond-requires c κs = search needs
-
 same-length : tie.Need-same-length Inv-loop μ-loop
-same-length c = let l = c .before .before .before .before .before .before .before .before .loop in c .before .before .before .before .seat-one .kept .0 ∙ l .inv .long
+same-length c = let w = c .before .before in w .seat-one .kept .0 ∙ turn w .before .loop .inv .long
 
 returns : tie.Need-returns Inv-loop μ-loop
 returns c =
-    let s = c .before .before .before .before .before .before .before .before .before in
-    let l = c .before .before .before .before .before .before .before .before .loop in
-    sym (sym (l .inv .rest) ∙ seat-far (C s) (B s) (s .args .basis .now) (l .values) (l .s) (c .before .before .before .before .before .before .before .loop-test .taken) (ap anyBeyond (sym (after (c .before .before .before .before))) ∙ sym (c .before .any-beyond .ensures) ∙ c .if1 .taken))
+    let w = c .before .before in
+    let s = start (turn w) in
+    let l = turn w .before .loop in
+    let e : anyBeyond (after w) ≡ true = within-false (after w) (told w false (not-true _ (c .if1 .taken))) in
+    sym (sym (l .inv .rest) ∙ seat-far (C s) (B s) (s .args .basis .now) (l .values) (l .s) (turn w .loop-test .taken) e)
+
+add-from : tie.Need-add-from Inv-loop μ-loop
+add-from c =
+    let w = c .before .before in
+    let q = turn w .before .loop .inv .seatable .ready in
+    omega (arith, found (w .before .before .before), led (turn w) .inside, addable (turn w) .long, q .values-long, q .few)
 
 add-s : tie.Need-add-s Inv-loop μ-loop
 add-s c = omega arith
@@ -118,14 +164,20 @@ loop-less c = omega arith
 
 loop-again : tie.Need-loop-again Inv-loop μ-loop
 loop-again c =
-    let s = c .before .before .before .before .before .before .before .before .before in
-    let l = c .before .before .before .before .before .before .before .before .loop in
-    let e = sym (c .before .any-beyond .ensures) ∙ c .if1 .left in
+    let w = c .before .before in
+    let s = start (turn w) in
+    let l = turn w .before .loop in
+    let h = turn w .loop-test .taken in
+    let e : (anyBeyond (after w) ≡ false) × (w .seat-one .last .0 ≡ after w) =
+    within-true (after w) (w .seat-one .last .0) (told w true (not-false _ (c .if1 .left))) in
     record {
-      seatable = still-seatable (B s) _ _ _ (l .inv .seatable) (c .before .before .before .before .seat-one .last .0) (c .before .before .before .before .seat-one .kept .0) e;
-      long = c .before .before .before .before .seat-one .kept .0 ∙ l .inv .long;
-      rest = ap (Seating.seat (C s) (drop (l .s + 1) (N s))) (after (c .before .before .before .before))
-          ∙ sym (seat-on (C s) (B s) (s .args .basis .now) (l .values) (l .s) (c .before .before .before .before .before .before .before .loop-test .taken) (ap anyBeyond (sym (after (c .before .before .before .before))) ∙ e))
+      seatable = still-seatable (B s) _ _ _ (l .inv .seatable) (w .seat-one .last .0) (w .seat-one .kept .0) (ap anyBeyond (e .1) ∙ e .0);
+      long = w .seat-one .kept .0 ∙ l .inv .long;
+      rises =
+          subst (λ (k : ℕ). Rising (k + 1) (drop (l .s + 1) (N s))) (sym (found (w .before .before .before)))
+          (rises-on (B s) (s .args .basis .now) (l .from) (l .s) h (l .inv .rises));
+      rest = ap (Seating.seat (C s) (drop (l .s + 1) (N s))) (e .1)
+          ∙ sym (seat-on (C s) (B s) (s .args .basis .now) (l .values) (l .s) h (e .0))
           ∙ l .inv .rest;
     }
 
@@ -147,14 +199,19 @@ seat-all-spec =
     loop-holds
     mul-at
     add-end
+    mul-lead-from
+    sub-lead-from
+    part-lead-from-start
+    part-lead-from-end
+    lead-from-requires
     mul-seat-one
     sub-seat-one
     part-seat-one-start
     part-seat-one-end
     seat-one-requires
-    any-beyond-requires
     same-length
     returns
+    add-from
     add-s
     loop-less
     loop-again

@@ -14,7 +14,7 @@ use Rattle.lattice.specs.Rows as Rows
 use Rattle.problem.specs.Limits.{M, maxBound}
 use Rattle.settling.specs.Columns.{Columns, columnsIn}
 use Rattle.settling.specs.Seating.{gapAt, seatOne}
-use Rattle.settling.specs.Seats.{gap-small, quotient-small}
+use Rattle.settling.specs.Seats.{within, gap-small, quotient-small}
 use Rattle.settling.proofs.seating.seat_one.Statement.{statement}
 use Rattle.settling.proofs.seating.seat_one.Tie as tie
 
@@ -35,51 +35,58 @@ module _ (s : tie.Start) where
   small = gap-small C (s .args .values .now) k (s .pre .0 .columns k) (s .pre .0 .values-small k)
 
 -- what the machine reads back
-read-gap : (c : tie.After-gap-at) → toZ w64 (ofZ w64 (c .gap-at .result)) ≡ gap (c .before .before .before)
+read-gap : (c : tie.After-gap-at) → toZ w64 (ofZ w64 (c .gap-at .result)) ≡ gap (c .before .before)
 read-gap c =
+    let s = c .before .before in
+    back (c .gap-at .result) (c .gap-at .ok) ∙ c .gap-at .ensures ∙ ap (gapAt (C s) (s .args .values .now)) (s .pre .3)
+
+read-pivot :
+    (c : tie.After-nearest-quotient-arg) →
     let s = c .before .before .before in
-    back (c .gap-at .result) (c .gap-at .ok) ∙ c .gap-at .ensures ∙ ap (gapAt (C s) (s .args .values .now)) (c .before .before .lead .ensures)
+    toZ w64 (ofZ w64 (entry (s .args .c) (s .args .row .now))) ≡ pivot s
+read-pivot c =
+    let s = c .before .before .before in
+    back _ (c .nearest-quotient-arg .given) ∙ ap (λ (i : ℕ). entry i (s .args .row .now)) (s .pre .3)
 
-read-pivot : (c : tie.After-nearest-quotient-arg) → let s = c .before .before .before .before in toZ w64 (ofZ w64 (entry (c .before .before .before .lead .result) (s .args .row .now))) ≡ pivot s
-read-pivot c = let s = c .before .before .before .before in back _ (c .nearest-quotient-arg .given) ∙ ap (λ (i : ℕ). entry i (s .args .row .now)) (c .before .before .before .lead .ensures)
-
-factor : (c : tie.After-nearest-quotient) → let s = c .before .before .before .before .before in toZ w64 (ofZ w64 (c .nearest-quotient .result)) ≡ nearestQuotient (gap s) (pivot s)
+factor :
+    (c : tie.After-nearest-quotient) →
+    let s = c .before .before .before .before in
+    toZ w64 (ofZ w64 (c .nearest-quotient .result)) ≡ nearestQuotient (gap s) (pivot s)
 factor c =
     back (c .nearest-quotient .result) (c .nearest-quotient .ok) ∙ c .nearest-quotient .ensures
     ∙ (λ i. nearestQuotient (read-gap (c .before .before) i) (read-pivot (c .before) i))
 
-lead-requires : tie.Need-lead-requires
-lead-requires c κs = search needs
-
 gap-at-requires : tie.Need-gap-at-requires
-gap-at-requires c κs = let s = c .before .before in (s .pre .0, omega (arith, c .before .lead .ensures, s .pre .2 .inside, s .pre .1 .long))
+gap-at-requires c κs = let s = c .before in (s .pre .0, omega (arith, s .pre .3, s .pre .2 .inside, s .pre .1 .long))
 
 mul-nearest-quotient : tie.Need-mul-nearest-quotient
-mul-nearest-quotient c = let s = c .before .before .before in omega (arith, c .before .before .lead .ensures, s .pre .2 .inside, s .good)
+mul-nearest-quotient c = let s = c .before .before in omega (arith, s .pre .3, s .pre .2 .inside, s .good)
 
 shared-slice-copy-out-nearest-quotient : tie.Need-shared-slice-copy-out-nearest-quotient
-shared-slice-copy-out-nearest-quotient c = let s = c .before .before .before in omega (arith, c .before .before .lead .ensures, s .pre .2 .inside)
+shared-slice-copy-out-nearest-quotient c = let s = c .before .before in omega (arith, s .pre .3, s .pre .2 .inside)
 
 nearest-quotient-requires : tie.Need-nearest-quotient-requires
-nearest-quotient-requires c κs = let s = c .before .before .before .before in rw (read-gap (c .before), read-pivot c) (small s, s .pre .1 .row-small (k s), s .pre .2 .above)
+nearest-quotient-requires c κs =
+    let s = c .before .before .before in rw (read-gap (c .before), read-pivot c) (small s, s .pre .1 .row-small (k s), s .pre .2 .above)
 
 add-row-requires : tie.Need-add-row-requires
 add-row-requires c κs =
-    let s = c .before .before .before .before .before .before in
-    (s .pre .1, rw (factor (c .before)) (omega (arith, quotient-small (gap s) (pivot s) (s .pre .2 .above), small s)))
+    let s = c .before .before .before .before .before in
+    (s .pre .1, rw (factor (c .before)) (omega (arith, quotient-small (gap s) (pivot s) (s .pre .2 .above), small s)), s .pre .3)
 
 same-length : tie.Need-same-length
 same-length c = search needs
 
 returns : tie.Need-returns
 unfolding seatOne
-returns c = let s = c .before .before .before .before .before .before .before .before in c .before .add-row .ensures ∙ ap (λ (q : ℤ). Rows.plus q (s .args .row .now) (s .args .values .now)) (factor (c .before .before .before))
+returns c =
+    let s = c .before .before .before .before .before .before .before in
+    c .before .add-row .ensures ∙ ap (λ (q : ℤ). within (Rows.plus q (s .args .row .now) (s .args .values .now))) (factor (c .before .before .before))
 
 pub seat-one-spec : {M : Type 1} → statement M
 seat-one-spec =
     tie.close
     (tie.spec
-    lead-requires
     gap-at-requires
     mul-nearest-quotient
     shared-slice-copy-out-nearest-quotient

@@ -10,7 +10,7 @@ use Rattle.whole.specs.Divisor as Divisor
 use Rattle.whole.proofs.Signed.{back}
 use Rattle.settling.specs.Moves.{vector}
 use Rattle.settling.specs.Strides as Strides
-use Rattle.settling.specs.StrideLaws.{stride-none, stride-up}
+use Rattle.settling.specs.StrideLaws.{stride-none, stride-past, stride-up, stride-one}
 use Rattle.settling.specs.Views.{vectors, vectors-at}
 use Rattle.settling.proofs.strides.stride.Statement.{statement}
 use Rattle.settling.proofs.strides.stride.Tie as tie
@@ -36,6 +36,18 @@ found c =
     rw (back _ (c .before .magnitude-arg .given)) at (c .magnitude .ensures)
     ∙ ap natAbs (sym (vectors-at (s .args .view) (s .args .basis .now) (l .s - 1) (s .args .j) (omega (arith, l .inv .0, c .before .before .before .loop-test .taken)) (s .pre .1)))
 
+-- the divisor with it
+joined :
+    (c : tie.After-divisor Inv-loop μ-loop) →
+    let s = c .before .before .before .before .before .before .before in
+    c .divisor .result ≡ Strides.stride (drop (c .before .before .before .before .before .before .loop .s - 1) (vectors (s .args .view) (s .args .basis .now))) (s .args .j)
+joined c =
+    let s = c .before .before .before .before .before .before .before in
+    let l = c .before .before .before .before .before .before .loop in
+    c .divisor .ensures ∙ ap₂ Divisor.divisor (found (c .before .before)) (l .inv .1)
+    ∙ stride-up (s .args .view) (s .args .basis .now) (s .args .j) (l .s)
+    (omega (arith, c .before .before .before .before .before .loop-test .taken)) (l .inv .0)
+
 loop-holds : tie.Need-loop-holds Inv-loop μ-loop
 loop-holds c = let s = c in (omega arith, sym (stride-none (s .args .view) (s .args .basis .now) (s .args .j)))
 
@@ -57,22 +69,37 @@ shared-slice-copy-out-magnitude c = lies (c .before)
 magnitude-requires : tie.Need-magnitude-requires Inv-loop μ-loop
 magnitude-requires c κs = search needs
 
-common-requires : tie.Need-common-requires Inv-loop μ-loop
-common-requires c κs = search needs
+divisor-requires : tie.Need-divisor-requires Inv-loop μ-loop
+divisor-requires c κs = search needs
+
+returns : tie.Need-returns Inv-loop μ-loop
+returns c =
+    let s = c .before .before .before .before .before .before .before .before in
+    let l = c .before .before .before .before .before .before .before .loop in
+    sym (stride-one (s .args .view) (s .args .basis .now) (s .args .j) (l .s - 1) (omega (arith, l .inv .0)) (sym (joined (c .before)) ∙ c .if2 .taken))
 
 loop-less : tie.Need-loop-less Inv-loop μ-loop
 loop-less c = omega arith
 
 loop-again : tie.Need-loop-again Inv-loop μ-loop
-loop-again c =
+loop-again c = (omega (arith, c .before .before .before .before .before .before .before .loop .inv .0), joined (c .before))
+
+loop-less-2 : tie.Need-loop-less-2 Inv-loop μ-loop
+loop-less-2 c = omega arith
+
+loop-again-2 : tie.Need-loop-again-2 Inv-loop μ-loop
+loop-again-2 c =
     let s = c .before .before .before .before .before .before in
     let l = c .before .before .before .before .before .loop in (
       omega (arith, l .inv .0),
-      c .common .ensures ∙ ap₂ Divisor.divisor (found (c .before)) (l .inv .1) ∙ stride-up (s .args .view) (s .args .basis .now) (s .args .j) (l .s) (c .before .before .before .before .loop-test .taken) (l .inv .0),
+      l .inv .1
+          ∙ stride-past (s .args .view) (s .args .basis .now) (s .args .j) (l .s)
+          (omega (arith, c .before .before .before .before .loop-test .taken)) (l .inv .0)
+          (sym (found (c .before)) ∙ c .if1 .left),
     )
 
-returns : tie.Need-returns Inv-loop μ-loop
-returns c =
+returns-2 : tie.Need-returns-2 Inv-loop μ-loop
+returns-2 c =
     let s = c .before .before in
     let l = c .before .loop in
     let z : l .s ≡ 0 = omega arith in
@@ -91,7 +118,10 @@ stride-spec =
     mul-magnitude
     shared-slice-copy-out-magnitude
     magnitude-requires
-    common-requires
+    divisor-requires
+    returns
     loop-less
     loop-again
-    returns)
+    loop-less-2
+    loop-again-2
+    returns-2)

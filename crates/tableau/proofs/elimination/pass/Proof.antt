@@ -86,7 +86,7 @@ returns : tie.Need-returns
 returns c =
     let r = c .before .before .before in
     record {
-      answer = sym (passed-over (c .before .before .before .before .before .before .pre .0) (c .before .before .before .before .before .before .pre .1 .0) (c .before .before .before .before .before .before .pre .1 .1) (sym (told r .answer) ∙ c .if1 .taken));
+      answer = sym (passed-over (c .before .before .before .before .before .before .pre .0) (c .before .before .before .before .before .before .pre .1 .0) (c .before .before .before .before .before .before .pre .1 .1 .0) (sym (told r .answer) ∙ c .if1 .taken));
       left = λ e. absurd (true≢false e);
     }
 
@@ -102,7 +102,7 @@ each-requires c κs =
       ap length (top-is n) ∙ length-take-le (at n) (t-of n) (room n) ∙ ap (λ (i : ℕ). c .before .before .before .before .before .before .before .before .args .k * i) (sym (c .before .before .before .before .before .gather .kept .1 .1 .0)),
       (
         subst (λ (r : List ℤ). Pivot (length r) (c .before .before .before .before .before .before .before .before .args .c) r) (sym (told (n .before .before .before) .row (n .if1 .left)))
-            (pivot-of (rows-of (c .before .before .before .before .before .before .before .before .pre .0) (c .before .before .before .before .before .before .before .before .pre .1 .0) (c .before .before .before .before .before .before .before .before .pre .1 .1)) (unmarked n)),
+            (pivot-of (rows-of (c .before .before .before .before .before .before .before .before .pre .0) (c .before .before .before .before .before .before .before .before .pre .1 .0) (c .before .before .before .before .before .before .before .before .pre .1 .1 .0)) (unmarked n)),
         subst Within (sym (top-is n)) (within-take (at n) (t-of n) (c .before .before .before .before .before .before .before .before .pre .0 .small)),
       ),
     )
@@ -118,7 +118,7 @@ returns-2 c =
     let n = c .before .before .before .before in
     let g = told (n .before .before .before) in
     subst (λ (l : List ℤ). StopsRun (tableOf (passedOf (s n .args .rows) (length (s n .args .pivot .now)) (s n .args .c) (s n .args .k) (t-of n))) (c .before .each .result) (c .before .each .last .0 ++ l)) (sym (ap (drop (at n)) (back-is n) ∙ drop-at (take (at n) (t-of n)) (u n) (at n) (length-take-le (at n) (t-of n) (room n))))
-    (passed-stops (c .before .before .before .before .before .before .before .before .before .before .pre .0) (c .before .before .before .before .before .before .before .before .before .before .pre .1 .0) (c .before .before .before .before .before .before .before .before .before .before .pre .1 .1) (unmarked n) (g .row (n .if1 .left)) (g .left (n .if1 .left))
+    (passed-stops (c .before .before .before .before .before .before .before .before .before .before .pre .0) (c .before .before .before .before .before .before .before .before .before .before .pre .1 .0) (c .before .before .before .before .before .before .before .before .before .before .pre .1 .1 .0) (unmarked n) (g .row (n .if1 .left)) (g .left (n .if1 .left))
     (subst (λ (l : List ℤ). StopsRun (eachOf Above (c .before .before .before .before .before .before .before .before .before .before .args .c) (c .before .before .before .before .before .before .before .gather .last .1 .1 .0) (c .before .before .before .before .before .before .before .before .before .before .args .k) l) (c .before .each .result) (c .before .each .last .0)) (top-is n) (c .before .each .ensures)))
 
 pub pass-spec : {M : Type 1} → statement M

@@ -1,6 +1,6 @@
 -- `tableau::elimination::pass_all` meets its contract: what the columns left make of the present table is what all columns make of the
 -- first. Assumes nothing.
-use mathlib.Core.Path.{_≡_, refl, sym, _∙_, ap, ap₂}
+use mathlib.Core.Path.{_≡_, refl, sym, _∙_, ap, ap₂, subst}
 use mathlib.Core.Bool.{true≢false}
 use mathlib.Core.List.{List}
 use Prim.Native.Nat.{ℕ, _+_, _-_, _*_, _≤_}
@@ -10,11 +10,12 @@ use lib.IntN.{ℤ}
 use lib.ListN.{length, drop}
 use Rattle.lattice.specs.Rows.{chop}
 use Rattle.lattice.proofs.Parts.{tail-is}
-use Rattle.tableau.specs.Elimination.{Run, at, choose, passColumns, eliminate}
-use Rattle.tableau.specs.Choices.{choiceOf}
+use Rattle.tableau.specs.Elimination.{Run, none, choose, passColumns, eliminate}
+use Rattle.tableau.specs.Choices.{Chooses}
 use Rattle.tableau.specs.Tails.{Picked}
 use Rattle.tableau.specs.Columns.{Standing, aboveOf, belowOf, passedOf, tableOf}
 use Rattle.tableau.specs.Steps.{StopsRun}
+use Rattle.tableau.proofs.Choosing.{sighted-none, sighted-some}
 use Rattle.tableau.proofs.Passing.{columns-over, columns-on, columns-skip, tail-of, room-of, passed-above, passed-below, passed-on, skipped-on, starts, starts-all, picked-of, ends-columns, ends-rows}
 use Rattle.tableau.proofs.elimination.pass_all.Statement.{statement}
 use Rattle.tableau.proofs.elimination.pass_all.Tie as tie
@@ -37,32 +38,33 @@ chosen :
     (c : tie.After-choose Inv-loop μ-loop) →
     let l = c .before .before .before .before .before .loop in
     let a = c .before .before .before .before .before .before .args in
-    choiceOf (c .choose .result) ≡ choose (l .c) (belowOf (a .rows) (length (a .pivot .now)) (l .k) (l .t))
+    Chooses (l .c) (belowOf (a .rows) (length (a .pivot .now)) (l .k) (l .t)) (c .choose .result)
 chosen c =
     let l = c .before .before .before .before .before .loop in
     let a = c .before .before .before .before .before .before .args in
     let w : ℕ = length (a .pivot .now) in
-    c .choose .ensures ∙ ap (λ (v : List ℤ). choose (l .c) (chop (a .rows - l .k) w v)) (tail-is (l .k * w) (l .t))
+    subst (λ (v : List ℤ). Chooses (l .c) (chop (a .rows - l .k) w v) (c .choose .result)) (tail-is (l .k * w) (l .t)) (c .choose .ensures)
 
 picked :
-    (c : tie.After-known-told Inv-loop μ-loop) →
-    let l = c .before .before .before .before .before .before .before .before .loop in
-    let a = c .before .before .before .before .before .before .before .before .before .args in
+    (c : tie.Else2 Inv-loop μ-loop) →
+    let l = c .before .before .before .before .before .before .before .loop in
+    let a = c .before .before .before .before .before .before .before .before .args in
     let w : ℕ = length (a .pivot .now) in
-    Picked (a .rows - l .k) w (l .c) (drop (l .k * w) (l .t)) (c .before .j .given .0 .0)
+    Picked (a .rows - l .k) w (l .c) (drop (l .k * w) (l .t)) (c .before .before .choose .result .row)
 picked c =
-    let m = c .before .before .before .before .before .before in
+    let m = c .before .before .before .before .before in
     let l = m .before .before .loop in
+    let z = c .before .before .choose .result in
     picked-of (tail-of (l .inv .stands) (m .before .loop-test .taken)) (omega (arith, l .inv .stands .most, m .if1 .left))
-    (sym (chosen (c .before .before .before)) ∙ ap choiceOf (c .before .j .given .1))
+    (sym (chosen (c .before .before) .is) ∙ sighted-some (z .count) (z .row) (z .size) (c .if2 .left))
 
 told :
     (c : tie.After-pass Inv-loop μ-loop) →
-    let m = c .before .before .before .before .before .before .before .before .before .before .before in
+    let m = c .before .before .before .before .before .before .before .before .before .before in
     let a = m .before .args in
     StopsRun (tableOf (passedOf (a .rows) (length (a .pivot .now)) (m .loop .c) (m .loop .k) (m .loop .t))) (c .pass .result) (c .pass .last .0)
 told c =
-    let m = c .before .before .before .before .before .before .before .before .before .before .before in
+    let m = c .before .before .before .before .before .before .before .before .before .before in
     rw (m .loop .inv .wide) at (c .pass .ensures)
 
 loop-holds : tie.Need-loop-holds Inv-loop μ-loop
@@ -71,7 +73,7 @@ loop-holds c =
       same = refl;
       wide = refl;
       past = omega arith;
-      stands = starts (c .pre .0) (c .pre .1 .0) (c .pre .1 .1);
+      stands = starts (c .pre .0) (c .pre .1);
       rest = starts-all (c .args .rows) (length (c .args .pivot .now)) (c .args .t .now);
     }
 
@@ -108,9 +110,6 @@ choose-requires c κs =
     let w : ℕ = length (c .before .before .before .before .before .args .pivot .now) in
     (ap length (tail-is (l .k * w) (l .t)) ∙ tail-of (l .inv .stands) (c .before .before .before .loop-test .taken) .wide, c .before .before .before .loop-test .taken)
 
-enum-told : tie.Need-enum-told Inv-loop μ-loop
-enum-told c = search needs
-
 add-c : tie.Need-add-c Inv-loop μ-loop
 add-c c = omega (arith, c .before .before .before .before .before .before .loop-test .taken)
 
@@ -119,73 +118,75 @@ loop-less c = omega (arith, c .before .before .before .before .before .before .l
 
 loop-again : tie.Need-loop-again Inv-loop μ-loop
 loop-again c =
+    let a = c .before .before .before .before .before .before .before .before .args in
     let l = c .before .before .before .before .before .before .before .loop in
-    let e = sym (chosen (c .before .before)) ∙ ap choiceOf (c .enum-told .given .1) in
-    let w : ℕ = length (c .before .before .before .before .before .before .before .before .args .pivot .now) in
+    let f = c .before .before .before .before .before .before .loop-test .taken in
+    let z = c .before .before .choose .result in
+    let w : ℕ = length (a .pivot .now) in
+    let e : choose (l .c) (belowOf (a .rows) w (l .k) (l .t)) ≡ none = sym (chosen (c .before .before) .is) ∙ sighted-none (z .row) (z .size) (c .if2 .taken) in
     let d : w - (l .c + 1) ≡ w - l .c - 1 = omega arith in
     record {
       same = l .inv .same;
       wide = l .inv .wide;
-      past = omega (arith, c .before .before .before .before .before .before .loop-test .taken);
+      past = omega (arith, f);
       stands = skipped-on (l .inv .stands) e;
-      rest = rw d (sym (columns-skip (w - l .c) (l .c) (aboveOf w (l .k) (l .t)) (belowOf (c .before .before .before .before .before .before .before .before .args .rows) w (l .k) (l .t)) (omega (arith, c .before .before .before .before .before .before .loop-test .taken)) e) ∙ l .inv .rest);
+      rest = rw d (sym (columns-skip (w - l .c) (l .c) (aboveOf w (l .k) (l .t)) (belowOf (a .rows) w (l .k) (l .t)) (omega (arith, f)) e) ∙ l .inv .rest);
     }
-
-enum-known-j : tie.Need-enum-known-j Inv-loop μ-loop
-enum-known-j c = search needs
 
 pass-requires : tie.Need-pass-requires Inv-loop μ-loop
 pass-requires c κs =
-    let l = c .before .before .before .before .before .before .before .before .before .before .loop in
-    rw (l .inv .wide) (l .inv .stands, (c .before .before .before .before .before .before .before .before .before .loop-test .taken, picked (c .before .before)))
+    let l = c .before .before .before .before .before .before .before .before .before .loop in
+    rw (l .inv .wide) (l .inv .stands, (c .before .before .before .before .before .before .before .before .loop-test .taken, (picked (c .before .before), chosen (c .before .before .before .before) .count)))
 
 same-length-3 : tie.Need-same-length-3 Inv-loop μ-loop
-same-length-3 c = c .before .before .before .pass .kept .0 ∙ c .before .before .before .before .before .before .before .before .before .before .before .before .before .before .loop .inv .same
+same-length-3 c = c .before .before .before .pass .kept .0 ∙ c .before .before .before .before .before .before .before .before .before .before .before .before .before .loop .inv .same
 
 same-length-4 : tie.Need-same-length-4 Inv-loop μ-loop
-same-length-4 c = c .before .before .before .pass .kept .1 .1 .0 ∙ c .before .before .before .before .before .before .before .before .before .before .before .before .before .before .loop .inv .wide
+same-length-4 c = c .before .before .before .pass .kept .1 .1 .0 ∙ c .before .before .before .before .before .before .before .before .before .before .before .before .before .loop .inv .wide
 
 returns-2 : tie.Need-returns-2 Inv-loop μ-loop
 returns-2 c =
-    let l = c .before .before .before .before .before .before .before .before .before .before .before .before .before .before .loop in
-    let w : ℕ = length (c .before .before .before .before .before .before .before .before .before .before .before .before .before .before .before .args .pivot .now) in
+    let a = c .before .before .before .before .before .before .before .before .before .before .before .before .before .before .args in
+    let l = c .before .before .before .before .before .before .before .before .before .before .before .before .before .loop in
+    let w : ℕ = length (a .pivot .now) in
     record {
       answer =
           sym
           (ap (λ (x : Run). x .over) (sym (l .inv .rest))
-          ∙ columns-over (w - l .c) (l .c) (aboveOf w (l .k) (l .t)) (belowOf (c .before .before .before .before .before .before .before .before .before .before .before .before .before .before .before .args .rows) w (l .k) (l .t)) (omega (arith, c .before .before .before .before .before .before .before .before .before .before .before .before .before .loop-test .taken))
-          (sym (told (c .before .before .before) .answer) ∙ c .if2 .taken));
+          ∙ columns-over (w - l .c) (l .c) (aboveOf w (l .k) (l .t)) (belowOf (a .rows) w (l .k) (l .t)) (omega (arith, c .before .before .before .before .before .before .before .before .before .before .before .before .loop-test .taken))
+          (sym (told (c .before .before .before) .answer) ∙ c .if3 .taken));
       left = λ e. absurd (true≢false e);
     }
 
 add-k : tie.Need-add-k Inv-loop μ-loop
-add-k c = omega (arith, c .before .before .before .before .before .before .before .before .before .before .before .before .before .before .loop .inv .stands .most, c .before .before .before .before .before .before .before .before .before .before .before .before .if1 .left)
+add-k c = omega (arith, c .before .before .before .before .before .before .before .before .before .before .before .before .before .loop .inv .stands .most, c .before .before .before .before .before .before .before .before .before .before .before .if1 .left)
 
 add-c-2 : tie.Need-add-c-2 Inv-loop μ-loop
-add-c-2 c = omega (arith, c .before .before .before .before .before .before .before .before .before .before .before .before .before .loop-test .taken)
+add-c-2 c = omega (arith, c .before .before .before .before .before .before .before .before .before .before .before .before .loop-test .taken)
 
 loop-less-2 : tie.Need-loop-less-2 Inv-loop μ-loop
-loop-less-2 c = omega (arith, c .before .before .before .before .before .before .before .before .before .before .before .before .before .loop-test .taken)
+loop-less-2 c = omega (arith, c .before .before .before .before .before .before .before .before .before .before .before .before .loop-test .taken)
 
 loop-again-2 : tie.Need-loop-again-2 Inv-loop μ-loop
 loop-again-2 c =
-    let l = c .before .before .before .before .before .before .before .before .before .before .before .before .before .before .loop in
+    let a = c .before .before .before .before .before .before .before .before .before .before .before .before .before .before .args in
+    let l = c .before .before .before .before .before .before .before .before .before .before .before .before .before .loop in
+    let f = c .before .before .before .before .before .before .before .before .before .before .before .before .loop-test .taken in
     let n = c .before .before .before in
-    let w : ℕ = length (c .before .before .before .before .before .before .before .before .before .before .before .before .before .before .before .args .pivot .now) in
+    let g = picked (c .before .before .before .before .before .before) in
+    let w : ℕ = length (a .pivot .now) in
     let d : w - (l .c + 1) ≡ w - l .c - 1 = omega arith in
-    let o = sym (told n .answer) ∙ c .if2 .left in
-    let s = told n .left (c .if2 .left) in
-    let g = picked (n .before .before .before) in
-    let f = c .before .before .before .before .before .before .before .before .before .before .before .before .before .loop-test .taken in
+    let o = sym (told n .answer) ∙ c .if3 .left in
+    let s = told n .left (c .if3 .left) in
     record {
-      same = c .before .before .before .pass .kept .0 ∙ l .inv .same;
-      wide = c .before .before .before .pass .kept .1 .1 .0 ∙ l .inv .wide;
+      same = n .pass .kept .0 ∙ l .inv .same;
+      wide = n .pass .kept .1 .1 .0 ∙ l .inv .wide;
       past = omega (arith, f);
-      stands = passed-on (l .inv .stands) f g o s (c .before .before .before .pass .kept .0);
+      stands = passed-on (l .inv .stands) f g o s (n .pass .kept .0);
       rest =
           rw d
-          (ap₂ (passColumns (w - l .c - 1) (l .c + 1)) (passed-above (l .inv .stands) f g o s (c .before .before .before .pass .kept .0)) (passed-below (l .inv .stands) f g o s (c .before .before .before .pass .kept .0))
-          ∙ sym (columns-on (w - l .c) (l .c) (aboveOf w (l .k) (l .t)) (belowOf (c .before .before .before .before .before .before .before .before .before .before .before .before .before .before .before .args .rows) w (l .k) (l .t)) (omega (arith, f)) o)
+          (ap₂ (passColumns (w - l .c - 1) (l .c + 1)) (passed-above (l .inv .stands) f g o s (n .pass .kept .0)) (passed-below (l .inv .stands) f g o s (n .pass .kept .0))
+          ∙ sym (columns-on (w - l .c) (l .c) (aboveOf w (l .k) (l .t)) (belowOf (a .rows) w (l .k) (l .t)) (omega (arith, f)) o)
           ∙ l .inv .rest);
     }
 
@@ -215,11 +216,9 @@ pass-all-spec =
     part-choose-end
     sub-choose-2
     choose-requires
-    enum-told
     add-c
     loop-less
     loop-again
-    enum-known-j
     pass-requires
     same-length-3
     same-length-4

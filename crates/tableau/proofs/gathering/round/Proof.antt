@@ -7,13 +7,13 @@ use lib.IntN.{ℤ}
 use lib.ListN.{length}
 use Rattle.lattice.proofs.Parts.{tail-is, tail-back}
 use Rattle.tableau.specs.Within.{Within}
-use Rattle.tableau.proofs.Rounds.{ends-inside, pivot-is, below-is-wide, below-is-small, round-stops}
+use Rattle.tableau.proofs.Rounds.{ends-inside, lift-asks, pivot-is, below-is-wide, below-is-small, round-stops}
 use borrow.Author.Needs.{needs}
 use Rattle.tableau.proofs.gathering.round.Statement.{statement}
 use Rattle.tableau.proofs.gathering.round.Tie as tie
 
 lift-requires : tie.Need-lift-requires
-lift-requires c κs = ((c .before .before .pre .0 .narrow, ends-inside (c .before .before .pre .0) (c .before .before .pre .1)), (c .before .before .pre .0 .column, c .before .before .pre .0 .small))
+lift-requires c κs = lift-asks (c .before .before .pre .0) (c .before .before .pre .1)
 
 mul-each : tie.Need-mul-each
 mul-each c = search needs

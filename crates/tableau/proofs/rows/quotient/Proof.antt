@@ -1,9 +1,16 @@
--- `tableau::rows::quotient` meets its contract: each way has its own quotient. Assumes nothing.
+-- `tableau::rows::quotient` meets its contract: by 1 the quotient is the entry, else each way has its own. Assumes nothing.
+use mathlib.Core.Path.{sym, _∙_, ap}
+use mir.Syntax.{w64}
+use mir.Val.{toZ}
 use mir.Facts.{toZ-ofZ}
+use Rattle.tableau.proofs.Stepping.{quotient-one}
 use Rattle.whole.proofs.Signed.{back}
 use borrow.Author.Needs.{needs}
 use Rattle.tableau.proofs.rows.quotient.Statement.{statement}
 use Rattle.tableau.proofs.rows.quotient.Tie as tie
+
+returns : tie.Need-returns
+returns c = toZ-ofZ (c .before .fits .e) ∙ sym (quotient-one (c .before .args .way) (c .before .args .e) (sym (toZ-ofZ (c .before .fits .p)) ∙ ap (toZ w64) (c .if1 .taken)))
 
 enum-told : tie.Need-enum-told
 enum-told c = search needs
@@ -17,19 +24,20 @@ enum-told-2 c = search needs
 floor-quotient-requires : tie.Need-floor-quotient-requires
 floor-quotient-requires c κs = search needs
 
-returns : tie.Need-returns
-returns c = cc (back (c .gathering-quotient .result) (c .gathering-quotient .ok), toZ-ofZ (c .before .before .before .fits .e), toZ-ofZ (c .before .before .before .fits .p))
-
 returns-2 : tie.Need-returns-2
-returns-2 c = cc (back (c .floor-quotient .result) (c .floor-quotient .ok), toZ-ofZ (c .before .before .before .fits .e), toZ-ofZ (c .before .before .before .fits .p))
+returns-2 c = cc (back (c .gathering-quotient .result) (c .gathering-quotient .ok), toZ-ofZ (c .before .before .before .before .fits .e), toZ-ofZ (c .before .before .before .before .fits .p))
+
+returns-3 : tie.Need-returns-3
+returns-3 c = cc (back (c .floor-quotient .result) (c .floor-quotient .ok), toZ-ofZ (c .before .before .before .before .fits .e), toZ-ofZ (c .before .before .before .before .fits .p))
 
 pub quotient-spec : {M : Type 1} → statement M
 quotient-spec =
     tie.close
     (tie.spec
+    returns
     enum-told
     gathering-quotient-requires
     enum-told-2
     floor-quotient-requires
-    returns
-    returns-2)
+    returns-2
+    returns-3)

@@ -1,159 +1,67 @@
--- `tableau::rows::subtract` meets its contract: from the left, each number becomes that of the difference, unless that lies beyond M.
--- Assumes nothing.
-use mathlib.Core.Path.{_≡_, sym, _∙_, ap, ap₂}
-use mathlib.Core.Bool.{true, false, true≢false}
+-- `tableau::rows::subtract` meets its contract: whatever the quotient, the difference is left, and the answer is its mark. Assumes nothing.
+use mathlib.Core.Path.{_≡_, sym, _∙_, ap, subst}
+use mathlib.Core.Bool.{Bool}
 use mathlib.Core.List.{List}
-use Prim.Native.Nat.{ℕ, _-_, _<_, _≤_}
-use native.Mathlib.Omega.{arith}
-use lib.IntN.{ℤ, negℤ, _+ℤ_, _*ℤ_}
-use lib.ListN.{length, take}
-use lib.Seq.{take-all}
+use lib.IntN.{ℤ, negℤ}
 use mir.Syntax.{w64}
-use mir.Val.{toZ, ofZ}
+use mir.Val.{toZ}
 use mir.Facts.{toZ-ofZ}
-use borrow.Author.Needs.{needs}
-use borrow.Author.Tests.{lt-ltb, le-ltb}
-use Rattle.whole.specs.Lists.{entry}
-use Rattle.whole.proofs.Signed.{back}
 use Rattle.lattice.specs.Rows.{plus}
-use Rattle.lattice.specs.RowLaws.{length-plus, entry-plus}
-use Rattle.lattice.proofs.Writing.{Written, starts, goes-on, ends, unread}
-use Rattle.problem.specs.Limits.{M, beyond}
-use Rattle.tableau.specs.Within.{Within, within-entry, within-none, within-next, beyond-at}
+use Rattle.problem.specs.Limits.{anyBeyond}
+use Rattle.tableau.specs.Steps.{Stops}
+use borrow.Author.Needs.{needs}
 use Rattle.tableau.proofs.rows.subtract.Statement.{statement}
 use Rattle.tableau.proofs.rows.subtract.Tie as tie
 
-record Inv (row₀ pivot : List ℤ) (q : ℤ) (row : List ℤ) (i : ℕ) : Type 0 where
-  written : Written row₀ (plus (negℤ q) pivot row₀) row i
-  within : Within (take i (plus (negℤ q) pivot row₀))
+-- what is left by a quotient k that is q
+stops : (p s : List ℤ) {t : List ℤ} {r : Bool} (k : ℤ) {q : ℤ} → k ≡ q → (t ≡ plus (negℤ k) p s) × (r ≡ anyBeyond (plus (negℤ k) p s))
+    → Stops (anyBeyond (plus (negℤ q) p s)) (plus (negℤ q) p s) r t
+stops p s {t} {r} k e h =
+    subst (λ (x : ℤ). Stops (anyBeyond (plus (negℤ x) p s)) (plus (negℤ x) p s) r t) e (record { answer = h .1; left = λ _. h .0 })
 
-abbrev Inv-loop : tie.InvT-loop
-Inv-loop row₀ pivot q i₀ row i = Inv row₀ pivot (toZ w64 q) row i
+subtract-all-requires : tie.Need-subtract-all-requires
+subtract-all-requires c κs = search needs
 
-abbrev μ-loop : tie.MeasureT-loop
-μ-loop row₀ pivot q i₀ row i = length row₀ - i
+same-length : tie.Need-same-length
+same-length c = search needs
 
--- the difference
-abbrev goal : tie.Start Inv-loop μ-loop → List ℤ
-goal s = plus (negℤ (toZ w64 (ofZ w64 (s .args .q)))) (s .args .pivot .now) (s .args .row .now)
-
-inside : (c : tie.In-loop Inv-loop μ-loop) → c .before .loop .i < length (goal (c .before .before))
-inside c =
-    let s = c .before .before in
-    omega (arith, c .before .loop .inv .written .same, length-plus (negℤ (toZ w64 (ofZ w64 (s .args .q)))) (s .args .pivot .now) (s .args .row .now))
-
-past : (c : tie.After-loop Inv-loop μ-loop) → length (goal (c .before .before)) ≤ c .before .loop .i
-past c =
-    let s = c .before .before in
-    omega (arith, c .before .loop .inv .written .same, length-plus (negℤ (toZ w64 (ofZ w64 (s .args .q)))) (s .args .pivot .now) (s .args .row .now))
-
--- the row's number, as it is read
-read : (c : tie.After-less-product-arg Inv-loop μ-loop) → toZ w64 (ofZ w64 (entry (c .before .before .loop .i) (c .before .before .loop .row))) ≡ entry (c .before .before .loop .i) (c .before .before .before .args .row .now)
-read c = back _ (c .less-product-arg .given) ∙ unread (c .before .before .loop .inv .written) (inside (c .before))
-
--- the number that is stored is the difference's
-value : (c : tie.After-less-product Inv-loop μ-loop) → toZ w64 (ofZ w64 (c .less-product .result)) ≡ entry (c .before .before .before .before .loop .i) (goal (c .before .before .before .before .before))
-value c =
-    let m = c .before .before .before .before in
-    let s = m .before in
-    let q : ℤ = negℤ (toZ w64 (ofZ w64 (s .args .q))) in
-    back (c .less-product .result) (c .less-product .ok)
-    ∙ c .less-product .ensures
-    ∙ ap₂ (λ (x y : ℤ). x +ℤ q *ℤ y) (read (c .before .before)) (back _ (c .before .less-product-arg2 .given))
-    ∙ sym (entry-plus (m .loop .i) q (s .args .pivot .now) (s .args .row .now) (omega (arith, m .loop .inv .written .same)))
-
-tested-over : (c : tie.After-magnitude Inv-loop μ-loop) → M < c .magnitude .result → beyond (toZ w64 (ofZ w64 (c .before .less-product .result))) ≡ true
-tested-over c h = rw (← (c .magnitude .ensures)) (lt-ltb M _ h)
-
-tested-within : (c : tie.After-magnitude Inv-loop μ-loop) → c .magnitude .result ≤ M → beyond (toZ w64 (ofZ w64 (c .before .less-product .result))) ≡ false
-tested-within c h = rw (← (c .magnitude .ensures)) (le-ltb M _ h)
-
-loop-holds : tie.Need-loop-holds Inv-loop μ-loop
-loop-holds c = record { written = starts (sym (length-plus _ _ _)); within = within-none (goal c) }
-
-mul-less-product : tie.Need-mul-less-product Inv-loop μ-loop
-mul-less-product c = search needs
-
-slice-copy-out-less-product : tie.Need-slice-copy-out-less-product Inv-loop μ-loop
-slice-copy-out-less-product c = omega arith
-
-mul-less-product-2 : tie.Need-mul-less-product-2 Inv-loop μ-loop
-mul-less-product-2 c = search needs
-
-shared-slice-copy-out-less-product : tie.Need-shared-slice-copy-out-less-product Inv-loop μ-loop
-shared-slice-copy-out-less-product c = omega (arith, c .before .before .loop .inv .written .same, c .before .before .before .pre .0)
-
-less-product-requires : tie.Need-less-product-requires Inv-loop μ-loop
-less-product-requires c κs = (
-  rw (read (c .before)) (omega (arith, within-entry (c .before .before .before .before .args .row .now) (c .before .before .before .loop .i) (c .before .before .before .before .pre .1 .0 .0))),
-  (
-    rw (toZ-ofZ (c .before .before .before .before .fits .q)) (omega (arith, c .before .before .before .before .pre .1 .1)),
-    rw (back _ (c .less-product-arg2 .given)) (omega (arith, within-entry (c .before .before .before .before .args .pivot .now) (c .before .before .before .loop .i) (c .before .before .before .before .pre .1 .0 .1))),
-  ),
-)
-
-magnitude-requires : tie.Need-magnitude-requires Inv-loop μ-loop
-magnitude-requires c κs = search needs
-
-same-length : tie.Need-same-length Inv-loop μ-loop
-same-length c = c .before .before .before .before .before .before .loop .inv .written .same
-
-returns : tie.Need-returns Inv-loop μ-loop
+returns : tie.Need-returns
 returns c =
-    record {
-      answer = rw (← toZ-ofZ (c .before .before .before .before .before .before .before .fits .q)) (sym (beyond-at _ (c .before .before .before .before .before .before .loop .i) (inside (c .before .before .before .before .before)) (ap beyond (sym (value (c .before .before))) ∙ tested-over (c .before) (c .if1 .taken))));
-      left = λ e. absurd (true≢false e);
-    }
+    let s = c .before .before .before .before in
+    stops (s .args .pivot .now) (s .args .row .now) _ (ap (toZ w64) (sym (c .before .before .before .if1 .taken)) ∙ toZ-ofZ (s .fits .q)) (c .before .subtract-all .ensures)
 
-mul-x : tie.Need-mul-x Inv-loop μ-loop
-mul-x c = search needs
+subtract-all-requires-2 : tie.Need-subtract-all-requires-2
+subtract-all-requires-2 c κs = search needs
 
-slice-set-from-x : tie.Need-slice-set-from-x Inv-loop μ-loop
-slice-set-from-x c = omega arith
+same-length-2 : tie.Need-same-length-2
+same-length-2 c = search needs
 
-add-i : tie.Need-add-i Inv-loop μ-loop
-add-i c = omega arith
-
-loop-less : tie.Need-loop-less Inv-loop μ-loop
-loop-less c = omega (arith, c .before .before .before .before .before .before .loop .inv .written .same)
-
-loop-again : tie.Need-loop-again Inv-loop μ-loop
-loop-again c =
-    record {
-      written = goes-on (c .before .before .before .before .before .before .loop .inv .written) (inside (c .before .before .before .before .before)) (value (c .before .before));
-      within = within-next _ (c .before .before .before .before .before .before .loop .i) (c .before .before .before .before .before .before .loop .inv .within) (ap beyond (sym (value (c .before .before))) ∙ tested-within (c .before) (c .if1 .left));
-    }
-
-same-length-2 : tie.Need-same-length-2 Inv-loop μ-loop
-same-length-2 c = c .before .loop .inv .written .same
-
-returns-2 : tie.Need-returns-2 Inv-loop μ-loop
+returns-2 : tie.Need-returns-2
 returns-2 c =
-    rw (← toZ-ofZ (c .before .before .fits .q))
-    (record {
-      answer = sym (rw (take-all (c .before .loop .i) _ (past c)) at (c .before .loop .inv .within));
-      left = λ e. ends (c .before .loop .inv .written) (past c);
-    })
+    let s = c .before .before .before .before .before in
+    stops (s .args .pivot .now) (s .args .row .now) _ (ap (toZ w64) (sym (c .before .before .before .if2 .taken)) ∙ toZ-ofZ (s .fits .q)) (c .before .subtract-all2 .ensures)
+
+subtract-all-requires-3 : tie.Need-subtract-all-requires-3
+subtract-all-requires-3 c κs = search needs
+
+same-length-3 : tie.Need-same-length-3
+same-length-3 c = search needs
+
+returns-3 : tie.Need-returns-3
+returns-3 c =
+    let s = c .before .before .before .before .before in
+    stops (s .args .pivot .now) (s .args .row .now) _ (toZ-ofZ (s .fits .q)) (c .before .subtract-all3 .ensures)
 
 pub subtract-spec : {M : Type 1} → statement M
 subtract-spec =
     tie.close
     (tie.spec
-    Inv-loop
-    μ-loop
-    loop-holds
-    mul-less-product
-    slice-copy-out-less-product
-    mul-less-product-2
-    shared-slice-copy-out-less-product
-    less-product-requires
-    magnitude-requires
+    subtract-all-requires
     same-length
     returns
-    mul-x
-    slice-set-from-x
-    add-i
-    loop-less
-    loop-again
+    subtract-all-requires-2
     same-length-2
-    returns-2)
+    returns-2
+    subtract-all-requires-3
+    same-length-3
+    returns-3)

@@ -1,0 +1,66 @@
+-- `lattice::lead_from` meets its contract: from its place on the loop passes the zeros, and what is left has its lead one place nearer each time. Assumes nothing.
+use mathlib.Core.Path.{_≡_, refl, sym, _∙_}
+use Prim.Native.Nat.{_-_, _+_}
+use native.Mathlib.Omega.{arith}
+use lib.ListN.{length, drop}
+use lib.IntN.{natAbs}
+use borrow.Author.Needs.{needs}
+use Rattle.whole.specs.Lists.{entry}
+use Rattle.whole.proofs.Signed.{back}
+use Rattle.lattice.specs.Rows.{lead}
+use Rattle.lattice.proofs.Scanning.{lead-on, lead-at, lead-end}
+use Rattle.lattice.proofs.lead_from.Statement.{statement}
+use Rattle.lattice.proofs.lead_from.Tie as tie
+
+abbrev Inv-loop : tie.InvT-loop
+Inv-loop row from i₀ i = i + lead (drop i row) ≡ from + lead (drop from row)
+
+abbrev μ-loop : tie.MeasureT-loop
+μ-loop row from i₀ i = length row - i
+
+-- what the call answers at the place that the loop has come to
+tested : (c : tie.After-magnitude Inv-loop μ-loop) → c .magnitude .result ≡ natAbs (entry (c .before .before .before .loop .i) (c .before .before .before .before .args .row .now))
+tested c = rw (back _ (c .before .magnitude-arg .given)) at (c .magnitude .ensures)
+
+loop-holds : tie.Need-loop-holds Inv-loop μ-loop
+loop-holds c = refl
+
+mul-magnitude : tie.Need-mul-magnitude Inv-loop μ-loop
+mul-magnitude c = search needs
+
+shared-slice-copy-out-magnitude : tie.Need-shared-slice-copy-out-magnitude Inv-loop μ-loop
+shared-slice-copy-out-magnitude c = omega arith
+
+magnitude-requires : tie.Need-magnitude-requires Inv-loop μ-loop
+magnitude-requires c κs = search needs
+
+returns : tie.Need-returns Inv-loop μ-loop
+returns c = lead-at _ _ (c .before .before .before .loop-test .taken) (rw (tested (c .before)) at (c .if1 .taken)) ∙ c .before .before .before .before .loop .inv
+
+add-i : tie.Need-add-i Inv-loop μ-loop
+add-i c = omega arith
+
+loop-less : tie.Need-loop-less Inv-loop μ-loop
+loop-less c = omega arith
+
+loop-again : tie.Need-loop-again Inv-loop μ-loop
+loop-again c = sym (lead-on _ _ (c .before .before .before .loop-test .taken) (rw (tested (c .before)) at (c .if1 .left))) ∙ c .before .before .before .before .loop .inv
+
+returns-2 : tie.Need-returns-2 Inv-loop μ-loop
+returns-2 c = lead-end _ _ (c .loop-test .left) ∙ c .before .loop .inv
+
+pub lead-from-spec : {M : Type 1} → statement M
+lead-from-spec =
+    tie.close
+    (tie.spec
+    Inv-loop
+    μ-loop
+    loop-holds
+    mul-magnitude
+    shared-slice-copy-out-magnitude
+    magnitude-requires
+    returns
+    add-i
+    loop-less
+    loop-again
+    returns-2)

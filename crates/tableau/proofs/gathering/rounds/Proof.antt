@@ -1,0 +1,250 @@
+-- `tableau::gathering::rounds` meets its contract: what is left to gather of the present tail is what was to gather at first, and the size
+-- of the choice falls with each round. Assumes nothing.
+use mathlib.Core.Path.{_≡_, refl, sym, _∙_, ap, subst}
+use mathlib.Core.Bool.{Bool, false, true≢false}
+use mathlib.Core.List.{List, _∷_}
+use Prim.Native.Nat.{ℕ, _+_, _-_, _<_, _≤_}
+use native.Mathlib.Omega.{arith}
+use borrow.Author.Needs.{needs}
+use lib.IntN.{ℤ, natAbs}
+use lib.ListN.{length, take, drop, length-drop}
+use Rattle.whole.specs.Lists.{entry}
+use Rattle.whole.proofs.Signed.{back}
+use Rattle.lattice.specs.Rows.{flat, chop}
+use Rattle.lattice.proofs.Parts.{tail-is}
+use Rattle.tableau.specs.Elimination.{Gathered, none, choose}
+use Rattle.tableau.specs.GatherLaws.{Chosen}
+use Rattle.tableau.specs.Choices.{choiceOf}
+use Rattle.tableau.specs.Tails.{Tail, Picked, Gathers, roundOf, gatheringOf}
+use Rattle.tableau.proofs.Choosing.{sighted-none, sighted-some}
+use Rattle.tableau.proofs.Rounds.{chosen-low, ends-inside}
+use Rattle.tableau.proofs.Lifting.{one-less}
+use Rattle.tableau.proofs.Turns.{sizeOf, marked, finished, last-one, going-on, next-tail, next-below}
+use Rattle.tableau.proofs.gathering.rounds.Statement.{statement}
+use Rattle.tableau.proofs.gathering.rounds.Tie as tie
+
+record Inv (t₀ : List ℤ) (rows w c : ℕ) (t pivot : List ℤ) (j : ℕ) : Type 0 where
+  same : length t ≡ length t₀
+  wide : length pivot ≡ w
+  tail : Tail rows w c t
+  picked : Picked rows w c t j
+  rest : gatheringOf rows w c t ≡ gatheringOf rows w c t₀
+
+abbrev Inv-loop : tie.InvT-loop
+Inv-loop t₀ rows pivot₀ c chosen w j₀ t pivot j = Inv t₀ rows w c t pivot j
+
+abbrev μ-loop : tie.MeasureT-loop
+μ-loop t₀ rows pivot₀ c chosen w j₀ t pivot j = sizeOf (choose c (take w t ∷ chop (rows - 1) w (drop w t)))
+
+-- what the round answers and leaves
+told :
+    (c : tie.After-round Inv-loop μ-loop) →
+    let l = c .before .before .before .loop in
+    let a = c .before .before .before .before .args in
+    Gathers (roundOf (a .rows) (length (a .pivot .now)) (a .c) (l .t)) (c .round .result) (c .round .last .0) (c .round .last .1 .1 .0)
+told c = rw (c .before .before .before .loop .inv .wide) at (c .round .ensures)
+
+-- the tail and the pivot keep their length
+same-tail : (c : tie.After-pivot Inv-loop μ-loop) → length (c .before .before .round .last .0) ≡ length (c .before .before .before .before .before .before .args .t .now)
+same-tail c = c .before .before .round .kept .0 ∙ c .before .before .before .before .before .loop .inv .same
+
+same-pivot : (c : tie.After-pivot Inv-loop μ-loop) → length (c .before .before .round .last .1 .1 .0) ≡ length (c .before .before .before .before .before .before .args .pivot .now)
+same-pivot c = c .before .before .round .kept .1 .1 .0 ∙ c .before .before .before .before .before .loop .inv .wide
+
+-- after a round that meets no number beyond M
+module _ (c : tie.Else1 Inv-loop μ-loop) where
+  abbrev l : tie.At-loop Inv-loop μ-loop
+  l = c .before .before .before .before .before .before
+
+  abbrev k : ℕ
+  k = l .before .args .rows
+
+  abbrev w : ℕ
+  w = length (l .before .args .pivot .now)
+
+  abbrev col : ℕ
+  col = l .before .args .c
+
+  abbrev u : List ℤ
+  u = c .before .before .before .round .last .0
+
+  abbrev x-of : Gathered
+  x-of = roundOf k w col (l .loop .t)
+
+  unmarked : x-of .over ≡ false
+  unmarked = sym (told (c .before .before .before) .answer) ∙ c .if1 .left
+
+  rows-next : u ≡ flat (x-of .pivot ∷ x-of .below)
+  rows-next = told (c .before .before .before) .left (c .if1 .left)
+
+  tail-next : Tail k w col u
+  tail-next = next-tail (l .loop .inv .tail) (l .loop .inv .picked) unmarked rows-next (c .before .before .before .round .kept .0)
+
+  inside : col < length (c .before .before .before .round .last .1 .1 .0)
+  inside = omega (arith, same-pivot (c .before), l .before .pre .0 .column)
+
+  room : w ≤ length (l .loop .t)
+  room = omega (arith, ends-inside (l .loop .inv .tail) (l .loop .inv .picked))
+
+-- the choice among the rows below
+chosen-next : (c : tie.After-choose Inv-loop μ-loop) → choiceOf (c .choose .result) ≡ choose (col (c .before .before .before .before .before .before)) (x-of (c .before .before .before .before .before .before) .below)
+chosen-next c =
+    let n = c .before .before .before .before .before .before in
+    c .choose .ensures .is
+    ∙ ap (λ (v : List ℤ). choose (col n) (chop (k n - 1) (w n) v)) (tail-is (w n) (u n))
+    ∙ ap (choose (col n)) (next-below (l n .loop .inv .tail) (l n .loop .inv .picked) (unmarked n) (rows-next n) (n .before .before .before .round .kept .0))
+
+-- where there is none, the round was the last one
+done : (n : tie.Else1 Inv-loop μ-loop) → choose (col n) (x-of n .below) ≡ none → Gathers (gatheringOf (k n) (w n) (col n) (l n .before .args .t .now)) false (u n) (n .before .before .before .round .last .1 .1 .0)
+done n e =
+    subst (λ (y : Gathered). Gathers y false (u n) (n .before .before .before .round .last .1 .1 .0))
+    (sym (finished (l n .loop .inv .tail) (l n .loop .inv .picked) e) ∙ l n .loop .inv .rest)
+    (subst (λ (b : Bool). Gathers (x-of n) b (u n) (n .before .before .before .round .last .1 .1 .0)) (n .if1 .left) (told (n .before .before .before)))
+
+-- the pivot's entry is 1
+one : (c : tie.Then2 Inv-loop μ-loop) → natAbs (entry (col (c .before .before .before)) (x-of (c .before .before .before) .pivot)) ≡ 1
+one c =
+    let n = c .before .before .before in
+    ap (λ (r : List ℤ). natAbs (entry (col n) r)) (sym (told (n .before .before .before) .row (n .if1 .left)))
+    ∙ sym (rw (back _ (c .before .before .magnitude-arg .given)) at (c .before .magnitude .ensures))
+    ∙ c .if2 .taken
+
+more :
+    (c : tie.Else3 Inv-loop μ-loop) →
+    let n = c .before .before .before .before .before .before .before .before in
+    let z = c .before .before .choose .result in
+    (gatheringOf (k n) (w n) (col n) (u n) ≡ gatheringOf (k n) (w n) (col n) (l n .loop .t))
+    × (z .size < l n .loop .inv .picked .size)
+    × Chosen (w n) (col n) (take (w n) (u n)) (chop (k n - 1) (w n) (drop (w n) (u n))) (z .row + 1) (z .size)
+more c =
+    let n = c .before .before .before .before .before .before .before .before in
+    let z = c .before .before .choose .result in
+    going-on (l n .loop .inv .tail) (l n .loop .inv .picked) (unmarked n) (rows-next n) (n .before .before .before .round .kept .0) (z .row) (z .size)
+    (sym (chosen-next (c .before .before)) ∙ sighted-some (z .count) (z .row) (z .size) (c .if3 .left))
+
+picked-next : (c : tie.Else3 Inv-loop μ-loop) → let n = c .before .before .before .before .before .before .before .before in Picked (k n) (w n) (col n) (u n) (c .before .before .choose .result .row + 1)
+picked-next c =
+    let n = c .before .before .before .before .before .before .before .before in
+    record { some = l n .loop .inv .picked .some; size = c .before .before .choose .result .size; is = more c .2 }
+
+loop-holds : tie.Need-loop-holds Inv-loop μ-loop
+loop-holds c = record { same = refl; wide = refl; tail = c .pre .0; picked = c .pre .1; rest = refl }
+
+round-requires : tie.Need-round-requires Inv-loop μ-loop
+round-requires c κs = rw (c .before .before .loop .inv .wide) (c .before .before .loop .inv .tail, c .before .before .loop .inv .picked)
+
+same-length : tie.Need-same-length Inv-loop μ-loop
+same-length c = same-tail (c .before)
+
+same-length-2 : tie.Need-same-length-2 Inv-loop μ-loop
+same-length-2 c = same-pivot (c .before)
+
+returns : tie.Need-returns Inv-loop μ-loop
+returns c =
+    let r = c .before .before .before in
+    let l = c .before .before .before .before .before .before .loop in
+    record {
+      answer = sym (ap (λ (y : Gathered). y .over) (sym (l .inv .rest)) ∙ marked (l .inv .tail) (l .inv .picked) (sym (told r .answer) ∙ c .if1 .taken));
+      left = λ e. absurd (true≢false e);
+      row = λ e. absurd (true≢false e);
+    }
+
+mul-magnitude : tie.Need-mul-magnitude Inv-loop μ-loop
+mul-magnitude c = omega (arith, inside c)
+
+slice-copy-out-magnitude : tie.Need-slice-copy-out-magnitude Inv-loop μ-loop
+slice-copy-out-magnitude c = inside c
+
+magnitude-requires : tie.Need-magnitude-requires Inv-loop μ-loop
+magnitude-requires c κs = search needs
+
+same-length-3 : tie.Need-same-length-3 Inv-loop μ-loop
+same-length-3 c = same-tail (c .before .before .before .before)
+
+same-length-4 : tie.Need-same-length-4 Inv-loop μ-loop
+same-length-4 c = same-pivot (c .before .before .before .before)
+
+returns-2 : tie.Need-returns-2 Inv-loop μ-loop
+returns-2 c = let n = c .before .before .before in done n (last-one (l n .loop .inv .tail) (l n .loop .inv .picked) (one c))
+
+mul-choose : tie.Need-mul-choose Inv-loop μ-loop
+mul-choose c = omega (arith, room (c .before .before .before), c .before .before .before .before .before .before .round .kept .0)
+
+sub-choose : tie.Need-sub-choose Inv-loop μ-loop
+sub-choose c = omega (arith, room (c .before .before .before), c .before .before .before .before .before .before .round .kept .0)
+
+part-choose-start : tie.Need-part-choose-start Inv-loop μ-loop
+part-choose-start c = omega (arith, room (c .before .before .before .before), c .before .before .before .before .before .before .before .round .kept .0)
+
+part-choose-end : tie.Need-part-choose-end Inv-loop μ-loop
+part-choose-end c = search needs
+
+sub-choose-2 : tie.Need-sub-choose-2 Inv-loop μ-loop
+sub-choose-2 c = omega (arith, c .before .before .before .before .before .before .before .before .before .before .before .loop .inv .picked .some)
+
+choose-requires : tie.Need-choose-requires Inv-loop μ-loop
+choose-requires c κs =
+    let n = c .before .before .before .before .before in (
+      ap length (tail-is (w n) (u n)) ∙ omega (arith, length-drop (w n) (u n), tail-next n .wide, one-less (k n) (w n) (l n .loop .inv .picked .some)),
+      l n .before .pre .0 .column,
+    )
+
+same-length-5 : tie.Need-same-length-5 Inv-loop μ-loop
+same-length-5 c = same-tail (c .before .before .before .before .before .before .before .before .before)
+
+same-length-6 : tie.Need-same-length-6 Inv-loop μ-loop
+same-length-6 c = same-pivot (c .before .before .before .before .before .before .before .before .before)
+
+returns-3 : tie.Need-returns-3 Inv-loop μ-loop
+returns-3 c =
+    let z = c .before .before .choose .result in
+    done (c .before .before .before .before .before .before .before .before) (sym (chosen-next (c .before .before)) ∙ sighted-none (z .row) (z .size) (c .if3 .taken))
+
+add-j : tie.Need-add-j Inv-loop μ-loop
+add-j c = omega (arith, chosen-low (tail-next (c .before .before .before .before .before .before .before .before .before)) (picked-next (c .before)), c .before .before .before .before .before .before .before .before .before .before .before .before .before .before .before .before .fits .rows)
+
+loop-less : tie.Need-loop-less Inv-loop μ-loop
+loop-less c =
+    let m = more (c .before) in
+    omega (arith, m .1, ap sizeOf (m .2 .choice), ap sizeOf (c .before .before .before .before .before .before .before .before .before .before .before .before .before .before .before .loop .inv .picked .is .choice))
+
+loop-again : tie.Need-loop-again Inv-loop μ-loop
+loop-again c =
+    let n = c .before .before .before .before .before .before .before .before .before in
+    record {
+      same = same-tail (n .before);
+      wide = same-pivot (n .before);
+      tail = tail-next n;
+      picked = picked-next (c .before);
+      rest = more (c .before) .0 ∙ l n .loop .inv .rest;
+    }
+
+pub rounds-spec : {M : Type 1} → statement M
+rounds-spec =
+    tie.close
+    (tie.spec
+    Inv-loop
+    μ-loop
+    loop-holds
+    round-requires
+    same-length
+    same-length-2
+    returns
+    mul-magnitude
+    slice-copy-out-magnitude
+    magnitude-requires
+    same-length-3
+    same-length-4
+    returns-2
+    mul-choose
+    sub-choose
+    part-choose-start
+    part-choose-end
+    sub-choose-2
+    choose-requires
+    same-length-5
+    same-length-6
+    returns-3
+    add-j
+    loop-less
+    loop-again)
