@@ -22,7 +22,7 @@ use Rattle.problem.specs.declared.Lent.{Lent}
 use Rattle.problem.specs.declared.Check.the-variants.{Passed, Failed}
 use Rattle.problem.specs.declared.Refusal.{Refusal}
 use Rattle.problem.specs.declared.Refusal.the-variants.{NoWholeNumbers, Standing}
-use Rattle.tableau.specs.RightSide.{basis, Found, none, some, Solved, rightSide, form, solve}
+use Rattle.tableau.specs.RightSide.{basis, Found, none, some, Solved, rightSide, solve}
 use Rattle.tableau.specs.Theorems.{problem-basis, basis-rising, solve-tells}
 use Rattle.rightside.specs.Solutions.{answerOf, solutionOf}
 use Rattle.rightside.specs.declared.Solution.the-variants.{Over, None, Found as Met}

@@ -53,5 +53,14 @@ module _ (C : Columns) where
       go true e h = g j
       go false e h = h (λ i. within-entry (seatOne C r v) i e)
 
-pub ready-with : {B : Basis} {s c l : List ℤ} → Ready B s c l → (u : List ℤ) → length u ≡ B .columns → ((j : ℕ) → natAbs (entry j u) ≤ M) → Ready B u c l
-ready-with q u e f = record { few = q .few; basis = q .basis; values-long = e; values-small = f; table-long = q .table-long; columns = q .columns }
+pub ready-with : {B : Basis} {s c l : List ℤ} → Ready B s c l → (u : List ℤ) → length u ≡ B .columns → ((j : ℕ) → natAbs (entry j u) ≤ M)
+    → Ready B u c l
+ready-with q u e f = record {
+  few = q .few;
+  few-vectors = q .few-vectors;
+  basis = q .basis;
+  values-long = e;
+  values-small = f;
+  table-long = q .table-long;
+  columns = q .columns;
+}

@@ -64,6 +64,7 @@ pub ready : (P : Posed) (L : Lent) → Fits P L → (h : ℕ) (l v : List ℤ) �
     → Ready (basisView (P .problem) h) v (table P) l
 ready P L f h l v b e a = record {
   few = f .few-columns;
+  few-vectors = omega (arith, f .few-columns);
   basis = b;
   values-long = e;
   values-small = a;

@@ -28,7 +28,7 @@ fn settle_on(
         ≡ settledBy limit (columnsIn (view .columns) (now (columns .entry))) (vectors view (now (basis .entry))) (now (values .entry)) ⌝ }
 {
     settling::strides::strides(strides, basis, view);
-    settle::settle(values, columns, basis, view, limit)
+    search::settle::settle(values, columns, basis, view, limit)
 }
 
 // Settles the values over the basis that lies in the tableau, and gives its strides.

@@ -42,13 +42,6 @@ pub fn lead_from(row: &[i64], from: usize) -> usize
     i
 }
 
-// The column of the first number other than 0; the row's length if there is none.
-pub fn lead(row: &[i64]) -> usize
-    ensures { λ r. ⌜ r ≡ Rows.lead (now (row .entry)) ⌝ }
-{
-    lead_from(row, 0)
-}
-
 // Whether every number is 0.
 pub fn all_zero(row: &[i64]) -> bool
     ensures { λ r. ⌜ r ≡ Rows.allZero (now (row .entry)) ⌝ }

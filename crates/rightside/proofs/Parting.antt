@@ -1,5 +1,5 @@
 -- Laws of a form that is parted behind its h leading rows.
---   few-leading     there are no more leading rows than rows
+--   few-leading, few   there are no more leading rows than rows
 --   inside          they lie in the list
 --   first, second   the rows in front are the leading ones, and those behind are the remaining ones
 --   first-.., second-sweepable   each part may be swept

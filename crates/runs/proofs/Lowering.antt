@@ -16,7 +16,7 @@ use Prim.Native.Nat.{ℕ, zero, suc, _+_, _<_, _≤_}
 use native.Mathlib.Omega.{arith}
 use lib.ListN.{length, getD}
 use Rattle.settling.specs.Steps.{insert}
-use Rattle.settling.proofs.Orders.{Weak, self, under-past, alike, back, past-under}
+use Rattle.settling.proofs.Orders.{Weak, self, under-past, alike, back, past-under, strict}
 use Rattle.settling.proofs.Insertion.{Each, each-insert, Down, insert-down}
 use Rattle.runs.specs.Sorted.{above, sorted, lower, LowerAt}
 
@@ -119,7 +119,7 @@ module _ {A : Type 0} {Proper : A → Type 0} {lt : A → A → Bool} (w : Weak 
   pub sorted-down : (L : List A) → Each Proper L → Down (above lt) (sorted lt L)
   unfolding sorted
   sorted-down [] a = tt
-  sorted-down (x ∷ L) a = insert-down (back w) x (sorted lt L) (sorted-each lt Proper L (a .1)) (sorted-down L (a .1))
+  sorted-down (x ∷ L) a = insert-down (strict (back w)) x (sorted lt L) (a .0) (sorted-each lt Proper L (a .1)) (sorted-down L (a .1))
 
   -- ---- of two lists so ordered, the one that has fewer elements from q on
   count-none : (u s : A) (L : List A) → lt s u ≡ true → Each Proper L → Each (λ z. lt s z ≡ false) L → count lt u L ≡ 0

@@ -1,2 +1,18 @@
 -- The root of the laws that the proofs cite.
-pub mod Turns
+pub mod Setting
+pub mod Finding
+pub mod Listings
+pub mod Numbering
+pub mod Sorting
+pub mod Inserting
+pub mod Kept
+pub mod Ranked
+pub mod Indexing
+pub mod Beating
+pub mod Placing
+pub mod Pairing
+pub mod Reached
+pub mod Turning
+pub mod Testing
+pub mod Noting
+pub mod Sighting

@@ -1,7 +1,12 @@
--- The root of the definitions and of the laws of the search.
-pub mod Places
-pub mod Scans
+-- The root of the definitions of the search.
 pub mod Searches
-pub mod Kept
+pub mod Sets
+pub mod Numbers
 pub mod Notes
-pub mod Hints
+pub mod Probes
+pub mod Progress
+pub mod Places
+pub mod Sorting
+pub mod Kept
+pub mod Ranked
+pub mod Turning

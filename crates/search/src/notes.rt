@@ -1,47 +1,55 @@
-// A list of notes: three numbers for each vector, if there is room for them.
+// A list of notes: three numbers for each vector.
 ghost use mathlib.Core.Path.{_≡_};
-ghost use Prim.Native.Nat.{_+_, _*_, _≤_};
-ghost use lib.ListN.{length};
-ghost use Rattle.search.specs.Notes.{noteWidth, notesLong};
-ghost use Rattle.search.specs.Notes as Notes;
-use crate::Note;
+ghost use Prim.Native.Nat.{ℕ, _+_, _*_, _<_, _≤_};
+ghost use lib.ListN.{length, set};
+ghost use Rattle.problem.specs.Limits.{maxColumns};
+ghost use Rattle.search.specs.Notes.{noteWidth, notesLong, topAt, noteAt};
 use problem::Problem;
 
-// How many numbers a note has, and where they stand in it.
+// How many numbers a note has: the place at which a vector was seen first, and for each sign a column at which it fails there.
 pub(crate) const NOTE_WIDTH: usize = 3;
 
-const TOP: usize = 0;
-
-const PLUS: usize = 1;
-
-const MINUS: usize = 2;
-
-// The note of vector s.
-pub(crate) fn note_at(notes: &[usize], s: usize) -> Note
-    requires { ⌜ noteWidth * s + noteWidth ≤ length (now notes) ⌝ }
-    ensures { λ r. ⌜ r ≡ Notes.noteAt (now (notes .entry)) s ⌝ }
+// The place at which vector s was seen first.
+pub(crate) fn top_at(notes: &[usize], s: usize) -> usize
+    requires { ⌜ (length (now notes) ≡ notesLong) × (s < maxColumns) ⌝ }
+    ensures { λ r. ⌜ r ≡ topAt (now (notes .entry)) s ⌝ }
 {
-    let at = NOTE_WIDTH * s;
-    Note {
-        top: notes[at + TOP],
-        plus: notes[at + PLUS],
-        minus: notes[at + MINUS],
-    }
+    notes[NOTE_WIDTH * s]
 }
 
-// Writes the note of vector s, if there is room for it.
-pub(crate) fn put_note(notes: &mut [usize], s: usize, x: Note)
-    requires { ⌜ length (now notes) ≡ notesLong ⌝ }
-    ensures { λ _. ⌜ now (notes .exit) ≡ Notes.putNote s x (now (notes .entry)) ⌝ }
+// The column noted for vector s with the sign of mark x.
+pub(crate) fn note_at(notes: &[usize], s: usize, x: usize) -> usize
+    requires { ⌜ (length (now notes) ≡ notesLong) × (s < maxColumns) × (x < 2) ⌝ }
+    ensures { λ r. ⌜ r ≡ noteAt (now (notes .entry)) s x ⌝ }
 {
-    if Problem::MAX_COLUMNS <= s {
-        return;
+    notes[NOTE_WIDTH * s + 1 + x]
+}
+
+// Notes the place at which vector s is seen.
+pub(crate) fn put_top(notes: &mut [usize], s: usize, k: usize)
+    requires { ⌜ (length (now notes) ≡ notesLong) × (s < maxColumns) ⌝ }
+    ensures { λ _. ⌜ now (notes .exit) ≡ set (now (notes .entry)) (noteWidth * s) k ⌝ }
+{
+    notes[NOTE_WIDTH * s] = k;
+}
+
+// Notes a column.
+pub(crate) fn put_note(notes: &mut [usize], s: usize, x: usize, f: usize)
+    requires { ⌜ (length (now notes) ≡ notesLong) × (s < maxColumns) × (x < 2) ⌝ }
+    ensures { λ _. ⌜ now (notes .exit) ≡ set (now (notes .entry)) (noteWidth * s + 1 + x) f ⌝ }
+{
+    notes[NOTE_WIDTH * s + 1 + x] = f;
+}
+
+// No vector is seen yet. The columns noted stay: they are where it is looked first.
+pub(crate) fn unsee(notes: &mut [usize], r: usize)
+    requires { ⌜ (length (now notes) ≡ notesLong) × (r ≤ maxColumns) ⌝ }
+    ensures { λ _. ⌜ (length (now (notes .exit)) ≡ notesLong)
+        × ((s : ℕ) → s < r → topAt (now (notes .exit)) s ≡ maxColumns) ⌝ }
+{
+    let mut s = 0;
+    while s < r {
+        notes[NOTE_WIDTH * s] = Problem::MAX_COLUMNS;
+        s += 1;
     }
-    let at = NOTE_WIDTH * s;
-    let top = x.top;
-    let plus = x.plus;
-    let minus = x.minus;
-    notes[at + TOP] = top;
-    notes[at + PLUS] = plus;
-    notes[at + MINUS] = minus;
 }

@@ -4,6 +4,7 @@
 --   Proper p C v j     the measure of column j is a fraction
 --   fit-proper         it is, where the column fits, is ranked and has a value that a move may leave
 --   weak               proper columns are ordered by their measures
+--   passes-up          a column that passes for a measure passes for one that is not below it
 --   unchanged          a move improves no column that it leaves as it is
 --   blocked            one that does not improve a column that it changes improves none that is not larger
 -- Assumes nothing.
@@ -76,7 +77,7 @@ fit-proper Goals c x f a r =
     (inside-above (valued c x) l (eqb-true (distance (valued c x)) 0 a))
 
 -- ---- a move that improves i improves each higher column that it changes
-passes-up : (p : Part) (c : Cell) (e : ℤ) (q r : Measure) → 0 < r .bottom → below r q ≡ false → passes p c e q ≡ true → passes p c e r ≡ true
+pub passes-up : (p : Part) (c : Cell) (e : ℤ) (q r : Measure) → 0 < r .bottom → below r q ≡ false → passes p c e q ≡ true → passes p c e r ≡ true
 unfolding passes
 passes-up p c e q r k b f = go (isAllowed p c) (not (not (isZero e) && isCompared p c)) (below (measure p c) q) refl f
   where

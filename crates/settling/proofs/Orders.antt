@@ -4,6 +4,9 @@
 --   under-past          what is below y, where z is not below y, is below z
 --   alike               elements that do not differ compare alike
 --   back                the order read from the other side is one too; so `past-under` what y is not below, where y is below z, is below z
+--   Strict In lt        lt is such an order of those that are In; `strict` as a strict weak order is of proper elements
+--   skip                what y is not below, where y is below z, is below z
+--   Total In lt         of two that differ one is below
 --   Determinate q       the fraction q is not 0/0
 --   below-weak          `below`, by cross products, is such an order, in which those are proper
 -- Assumes nothing.
@@ -50,6 +53,26 @@ module _ {A : Type 0} {Proper : A → Type 0} {lt : A → A → Bool} (w : Weak 
 
   pub past-under : (x y z : A) → Proper x → lt y x ≡ false → lt y z ≡ true → lt x z ≡ true
   past-under x y z p e f = under-past back z y x p f e
+
+-- ---- the order of some elements
+pub record Strict {A : Type 0} (In : A → Type 0) (lt : A → A → Bool) : Type 0 where
+  pub asym : (x y : A) → lt x y ≡ true → lt y x ≡ false
+  pub past : (x y z : A) → In x → In y → In z → lt x y ≡ false → lt y z ≡ false → lt x z ≡ false
+
+pub record Total {A : Type 0} (In : A → Type 0) (lt : A → A → Bool) : Type 0 where
+  pub order : Strict In lt
+  pub same : (x y : A) → In x → In y → lt x y ≡ false → lt y x ≡ false → x ≡ y
+
+module _ {A : Type 0} {In : A → Type 0} {lt : A → A → Bool} where
+  pub strict : Weak In lt → Strict In lt
+  strict w = record { asym = w .asym; past = λ x y z p q r. w .past x y z q }
+
+  pub skip : Strict In lt → (x y z : A) → In x → In y → In z → lt y x ≡ false → lt y z ≡ true → lt x z ≡ true
+  skip s x y z p q r e f = go (lt x z) refl
+    where
+      go : (b : Bool) → lt x z ≡ b → lt x z ≡ true
+      go true g = g
+      go false g = absurd (true≢false (sym f ∙ s .past y x z q p r e g))
 
 -- ---- fractions
 abbrev pub Determinate : Measure → Type 0

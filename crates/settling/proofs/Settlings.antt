@@ -114,6 +114,7 @@ taken-ready B v t b i o r e =
       subst (λ (k : ℕ). OfBasis k o) (rows-length (B .vectors) (B .columns) (B .stride) b) (m .0),
       record {
         few = r .few;
+        few-vectors = r .few-vectors;
         basis = r .basis;
         values-long = moved-length (vectors B b) o v ∙ r .values-long;
         values-small = λ j. ⊎-elim

@@ -1,7 +1,7 @@
 -- What seating, a step and settling need of the lists that they are handed.
 --   FitColumn c       bounds and goals lie within the limits, and a column with a goal has a lower bound of 1 or more
 --   Ready B v t l     the values v and the table t have a number and a record for each column of the view B, and each column fits; the values and the
---                     basis l lie within ±M
+--                     basis l lie within ±M, and a problem has room for as many columns as there are vectors
 -- Assumes nothing.
 use mathlib.Core.Path.{_≡_}
 use mathlib.Core.Bool.{true, _||_}
@@ -26,6 +26,7 @@ pub record FitColumn (c : Column) : Type 0 where
 
 pub record Ready (B : Basis) (v t l : List ℤ) : Type 0 where
   pub few : B .columns ≤ maxColumns
+  pub few-vectors : B .vectors ≤ maxColumns
   pub basis : Viewed B l
   pub values-long : length v ≡ B .columns
   pub values-small : (j : ℕ) → natAbs (entry j v) ≤ M

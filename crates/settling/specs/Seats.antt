@@ -10,17 +10,16 @@
 --   none-beyond             where none is found beyond ±M, each number lies within
 -- Assumes nothing.
 use mathlib.Core.Path.{_≡_, refl, sym, _∙_, ap}
-use mathlib.Core.Logic.{⊎-elim}
 use mathlib.Core.Bool.{Bool, true, false, cond, _||_, true≢false}
 use mathlib.Core.List.{List, [], _∷_}
-use Prim.Native.Nat.{ℕ, zero, suc, _+_, _*_, _-_, _/_, _<_, _≤_}
+use Prim.Native.Nat.{ℕ, zero, suc, _+_, _*_, _/_, _<_, _≤_}
 use native.Mathlib.Nat.{div-mul-le-self, mul-le-mul, mul-le-mul-left}
 use native.Mathlib.Omega.{arith}
 use native.Mathlib.Numerals.{add-one}
 use borrow.Author.Tests.{ltb-false, ltb-true}
 use lib.Dec.{ltb}
 use lib.IntN.{ℤ, pos, negsuc, natAbs, _+ℤ_, _*ℤ_}
-use lib.ListN.{length, take, drop, length-take, length-drop, drop-of-length-le, List·getD-eq-default}
+use lib.ListN.{length, drop, drop-of-length-le}
 use lib.Signed.{ltZ, _<ℤ_}
 use Rattle.whole.specs.Lists.{entry}
 use Rattle.whole.specs.Integers.{_⊖_, ⊖-pos, ⊖-negsuc, rep, diff-rel}
@@ -35,9 +34,8 @@ use Rattle.settling.specs.Columns.{Columns, width, columnAt}
 use Rattle.settling.specs.Ideals.{into, wished, ideal}
 use Rattle.settling.specs.Moves.{vector}
 use Rattle.settling.specs.Seating.{Seated, idealAt, gapAt, seatOne, seated, far, seat}
-use Rattle.settling.specs.Parts.{lt-or-ge}
 use Rattle.settling.specs.Sizes.{between, abs-less}
-use Rattle.settling.specs.Views.{vectors, rows-length, vectors-is, vectors-drop, vectors-at}
+use Rattle.settling.specs.Views.{vectors, rows-length, vectors-drop, vector-end, vector-long, vector-small}
 use Rattle.settling.specs.Ready.{FitColumn, Ready}
 
 abbrev pub within : List ℤ → Seated
@@ -120,7 +118,7 @@ pub gap-small : (C : Columns) (v : List ℤ) (c : ℕ) → FitColumn (C .column 
 gap-small C v c f h =
     omega (arith, abs-less (idealAt C v c) (entry c v), ideal-small (C .column c .lower) (C .column c .upper) (C .column c .wish) (entry c v) (f .lower) (f .upper))
 
-pub product-small : (x q y : ℤ) → natAbs x ≤ M → natAbs q ≤ M + maxBound + 1 → natAbs y ≤ M
+pub product-small : (x q y : ℤ) → natAbs x ≤ 2 * M → natAbs q ≤ M + maxBound + 1 → natAbs y ≤ M
     → (natAbs (q *ℤ y) < 9223372036854775808) × (natAbs (x +ℤ q *ℤ y) < 9223372036854775808)
 product-small x q y a b d =
     let m : natAbs (q *ℤ y) ≤ (M + maxBound + 1) * M = rw abs-mul (mul-le-mul b d) in
@@ -172,6 +170,7 @@ module _ (B : Basis) (v t l : List ℤ) (q : Seatable B v t l) where
       record {
         ready = record {
           few = r .few;
+          few-vectors = r .few-vectors;
           basis = r .basis;
           values-long = h ∙ r .values-long;
           values-small = none-beyond u e;
@@ -187,32 +186,14 @@ module _ (B : Basis) (v t l : List ℤ) (q : Seatable B v t l) where
     row = vector (vectors B l) s
 
     some : 0 < B .columns
-    some =
-        omega (
-          arith,
-          q .led s h .inside,
-          ap length (vectors-is B l s h),
-          length-take (B .columns) (drop (s * B .stride) l),
-        )
+    some = omega (arith, q .led s h .inside, vector-long B l s (q .ready .basis) h)
 
     pub row-end : s * B .stride + B .columns ≤ length l
-    row-end = omega (arith, some, q .ready .basis .lies s (B .columns - 1) h (omega (arith, some)))
-
-    pub row-is : take (s * B .stride + B .columns - s * B .stride) (drop (s * B .stride) l) ≡ row
-    row-is = ap (λ (k : ℕ). take k (drop (s * B .stride) l)) same ∙ sym (vectors-is B l s h)
-      where
-        same : s * B .stride + B .columns - s * B .stride ≡ B .columns
-        same = omega arith
-
-    row-length : length row ≡ B .columns
-    row-length = ap length (vectors-is B l s h) ∙ length-take (B .columns) (drop (s * B .stride) l) ∙ omega (arith, length-drop (s * B .stride) l, row-end)
-
-    row-small : (j : ℕ) → natAbs (entry j row) ≤ M
-    row-small j =
-        ⊎-elim
-        (λ g. rw (vectors-at B l s j h g) (q .ready .basis .small (s * B .stride + j)))
-        (λ g. rw (List·getD-eq-default row (pos 0) {n = j} (omega (arith, row-length))) (omega arith))
-        (lt-or-ge j (B .columns))
+    row-end = vector-end B l s (q .ready .basis) h some
 
     pub row-addable : Addable v row
-    row-addable = record { long = row-length ∙ sym (q .ready .values-long); values-small = q .ready .values-small; row-small = row-small }
+    row-addable = record {
+      long = vector-long B l s (q .ready .basis) h ∙ sym (q .ready .values-long);
+      values-small = q .ready .values-small;
+      row-small = vector-small B l s (q .ready .basis) h;
+    }

@@ -53,7 +53,8 @@ module _ (B : Basis) (l : List ℤ) (j : ℕ) where
       (s : ℕ) → 0 < s → s ≤ B .vectors
       → divisor (natAbs (entry j (vector (vectors B l) (s - 1)))) (stride (drop s (vectors B l)) j) ≡ stride (drop (s - 1) (vectors B l)) j
   stride-up s h k =
-      ap (λ (i : ℕ). divisor (natAbs (entry j (vector (vectors B l) (s - 1)))) (stride (drop i (vectors B l)) j)) up ∙ sym (more (s - 1) (omega arith))
+      ap (λ (i : ℕ). divisor (natAbs (entry j (vector (vectors B l) (s - 1)))) (stride (drop i (vectors B l)) j)) up
+      ∙ sym (more (s - 1) (omega arith))
     where
       up : s ≡ suc (s - 1)
       up = omega arith

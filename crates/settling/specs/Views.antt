@@ -7,16 +7,19 @@
 --   rows-length        there are as many as the view says
 --   vectors-is, -drop  vector s, and those from s on
 --   vectors-at         the number at column j of vector s
---   unit-small, sum-small, change-small   how large a signed number, the sum of two, and so what a move adds can be
+--   vector-end, -part  where it ends in the slice, if there are columns, and that the part of the slice up to there is it
+--   vector-long, -small   it has a number for each column, none beyond ±M
+--   unit-small, sum-small   how large a signed number, and so the sum of two, can be
 --   moved-length, -at  the values after a move
 -- Assumes nothing.
-use mathlib.Core.Path.{_≡_, refl, _∙_, ap}
+use mathlib.Core.Path.{_≡_, refl, sym, _∙_, ap}
+use mathlib.Core.Logic.{⊎-elim}
 use mathlib.Core.List.{List, [], _∷_}
-use Prim.Native.Nat.{ℕ, zero, suc, _+_, _*_, _<_, _≤_}
+use Prim.Native.Nat.{ℕ, zero, suc, _+_, _-_, _*_, _<_, _≤_}
 use native.Mathlib.Nat.{mul-le-mul}
 use native.Mathlib.Omega.{arith}
 use lib.IntN.{ℤ, pos, natAbs, _+ℤ_, _*ℤ_, +ℤ-assoc}
-use lib.ListN.{length, take, drop}
+use lib.ListN.{length, take, drop, length-take, length-drop, List·getD-eq-default}
 use lib.Seq.{getD-drop, getD-take, drop-cons, drop-drop}
 use Rattle.whole.specs.Lists.{entry}
 use Rattle.whole.proofs.Signed.{abs-add, abs-mul}
@@ -26,6 +29,7 @@ use Rattle.problem.specs.Limits.{M}
 use Rattle.settling.specs.declared.Basis.{Basis}
 use Rattle.settling.specs.declared.Move.{Move}
 use Rattle.settling.specs.Moves.{vector, change, moved}
+use Rattle.settling.specs.Parts.{lt-or-ge}
 
 unfoldable pub rowsOf : ℕ → ℕ → ℕ → List ℤ → List (List ℤ)
 rowsOf zero n w l = []
@@ -80,18 +84,39 @@ vectors-drop B l s h = drop-cons (vectors B l) s [] (omega (arith, rows-length (
 pub vectors-at : (B : Basis) (l : List ℤ) (s j : ℕ) → s < B .vectors → j < B .columns → entry j (vector (vectors B l) s) ≡ entry (s * B .stride + j) l
 vectors-at B l s j h k = rows-at (B .vectors) (B .columns) (B .stride) l s j h k
 
+-- ---- one vector
+module _ (B : Basis) (l : List ℤ) (s : ℕ) where
+  pub vector-end : Viewed B l → s < B .vectors → 0 < B .columns → s * B .stride + B .columns ≤ length l
+  vector-end v h k = omega (arith, v .lies s (B .columns - 1) h (omega arith))
+
+  pub vector-part : s < B .vectors → take (s * B .stride + B .columns - s * B .stride) (drop (s * B .stride) l) ≡ vector (vectors B l) s
+  vector-part h = ap (λ (k : ℕ). take k (drop (s * B .stride) l)) same ∙ sym (vectors-is B l s h)
+    where
+      same : s * B .stride + B .columns - s * B .stride ≡ B .columns
+      same = omega arith
+
+  long : (n : ℕ) → ((j : ℕ) → j < n → s * B .stride + j < length l) → length (take n (drop (s * B .stride) l)) ≡ n
+  long zero f = refl
+  long (suc n) f =
+      length-take (suc n) (drop (s * B .stride) l) ∙ omega (arith, length-drop (s * B .stride) l, f n (omega arith))
+
+  pub vector-long : Viewed B l → s < B .vectors → length (vector (vectors B l) s) ≡ B .columns
+  vector-long v h = ap length (vectors-is B l s h) ∙ long (B .columns) (λ j k. v .lies s j h k)
+
+  -- past its end a row's numbers are 0
+  pub vector-small : Viewed B l → s < B .vectors → (j : ℕ) → natAbs (entry j (vector (vectors B l) s)) ≤ M
+  vector-small v h j =
+      ⊎-elim
+      (λ g. rw (vectors-at B l s j h g) (v .small (s * B .stride + j)))
+      (λ g. rw (List·getD-eq-default (vector (vectors B l) s) (pos 0) {n = j} (omega (arith, vector-long v h))) (omega arith))
+      (lt-or-ge j (B .columns))
+
 -- ---- what a move does
 pub unit-small : (a x : ℤ) → natAbs a ≤ 1 → natAbs x ≤ M → natAbs (a *ℤ x) ≤ M
 unit-small a x h k = rw abs-mul (omega (arith, mul-le-mul h k))
 
 pub sum-small : (a x b y : ℤ) → natAbs a ≤ 1 → natAbs b ≤ 1 → natAbs x ≤ M → natAbs y ≤ M → natAbs (a *ℤ x +ℤ b *ℤ y) ≤ 2 * M
 sum-small a x b y h k p q = omega (arith, unit-small a x h p, unit-small b y k q, abs-add (a *ℤ x) (b *ℤ y))
-
-pub change-small : (B : Basis) (l : List ℤ) (o : Move) (j : ℕ) → Viewed B l → OfBasis (B .vectors) o → j < B .columns → natAbs (change (vectors B l) o j) ≤ 2 * M
-change-small B l o j v m h =
-    sum-small (o .a) (entry j (vector (vectors B l) (o .s))) (o .b) (entry j (vector (vectors B l) (o .t))) (m .a) (m .b)
-    (rw (vectors-at B l (o .s) j (m .s) h) (v .small (o .s * B .stride + j)))
-    (rw (vectors-at B l (o .t) j (m .t) h) (v .small (o .t * B .stride + j)))
 
 pub moved-length : (N : List (List ℤ)) (o : Move) (v : List ℤ) → length (moved N o v) ≡ length v
 unfolding moved

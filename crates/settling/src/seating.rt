@@ -1,6 +1,6 @@
 ghost use mathlib.Core.Path.{_≡_};
 ghost use mathlib.Core.Bool.{cond};
-ghost use Prim.Native.Nat.{_+_, _<_, _≤_};
+ghost use Prim.Native.Nat.{_+_, _*_, _<_, _≤_};
 ghost use lib.IntN.{pos, natAbs, _+ℤ_, _*ℤ_};
 ghost use lib.ListN.{length};
 ghost use lib.Signed.{_<ℤ_};
@@ -31,8 +31,8 @@ fn nearest_quotient(d: i64, p: i64) -> i64
 }
 
 // x + q y.
-fn plus_product(x: i64, q: i64, y: i64) -> i64
-    requires { ⌜ (natAbs x ≤ M) × (natAbs q ≤ M + maxBound + 1) × (natAbs y ≤ M) ⌝ }
+pub(crate) fn plus_product(x: i64, q: i64, y: i64) -> i64
+    requires { ⌜ (natAbs x ≤ 2 * M) × (natAbs q ≤ M + maxBound + 1) × (natAbs y ≤ M) ⌝ }
     ensures { λ r. ⌜ r ≡ x +ℤ q *ℤ y ⌝ }
 {
     x + q * y

@@ -1,11 +1,13 @@
 -- Laws of passing the columns of a table.
---   columns-..     one column of several, by what is found there; the last column; no rows left
---   tail-of        the rows that are not done are a tail
---   Gathering, gathered   what gathering leaves of them: a pivot, and lower rows with 0 there
+--   columns-..     one column of several, by what is found there
+--   tail-of, room-of   the rows that are not done are a tail, and lie behind the others
+--   rows-of, pivot-of   what gathering leaves of them: a pivot, and lower rows with 0 there
 --   passed-over, passed-stops   what passing a column with a choice answers and leaves
---   passed-on      the table stands at the next column, with one row more done
+--   passed-on, -above, -below   the table stands at the next column, with one row more done
 --   skipped-on     and so it does past a column with no choice
---   starts ..      the first column; a choice in the tail; no column or no row left
+--   starts, starts-all   the first column
+--   picked-of      a choice in the tail
+--   ends-columns, -rows   no column or no row left
 -- Assumes nothing.
 use mathlib.Core.Path.{_≡_, refl, sym, _∙_, ap, ap₂, subst}
 use mathlib.Core.Bool.{Bool, true, false, _||_}
@@ -61,17 +63,17 @@ module _ (d c : ℕ) (A B : List (List ℤ)) where
   unfolding passColumn after
   columns-skip h e = next-column d c A B h ∙ ap (λ (z : Choice). after (d - 1) (c + 1) (passColumn c A B z)) e
 
-pub columns-end : (d c : ℕ) (A B : List (List ℤ)) → d ≡ 0 → passColumns d c A B ≡ record { table = A ++ B; over = false }
+columns-end : (d c : ℕ) (A B : List (List ℤ)) → d ≡ 0 → passColumns d c A B ≡ record { table = A ++ B; over = false }
 unfolding passColumns
 columns-end d c A B e = rw e
 
-pub columns-none : (d c : ℕ) (A : List (List ℤ)) → passColumns d c A [] ≡ record { table = A ++ []; over = false }
+columns-none : (d c : ℕ) (A : List (List ℤ)) → passColumns d c A [] ≡ record { table = A ++ []; over = false }
 unfolding passColumns passColumn choose
 columns-none zero c A = refl
 columns-none (suc d) c A = columns-none d (suc c) A
 
 -- ---- the rows that are not done
-pub split : (n k w : ℕ) → k ≤ n → n * w ≡ k * w + (n - k) * w
+split : (n k w : ℕ) → k ≤ n → n * w ≡ k * w + (n - k) * w
 split n k w h = let e : n ≡ k + (n - k) = omega arith in ap (λ (x : ℕ). x * w) e ∙ omega arith
 
 pub tail-of : {n w c k : ℕ} {t : List ℤ} → Standing n w c k t → c < w → Tail (n - k) w c (drop (k * w) t)
@@ -93,7 +95,7 @@ pub record Gathering (k w c : ℕ) (G : Gathered) : Type 0 where
   pub count : length (G .below) ≡ k - 1
   pub small : G .over ≡ false → All Within (G .pivot ∷ G .below)
 
-pub gathered : {k w c j : ℕ} {t : List ℤ} → Tail k w c t → Picked k w c t j → Gathering k w c (gatheringOf k w c t)
+gathered : {k w c j : ℕ} {t : List ℤ} → Tail k w c t → Picked k w c t j → Gathering k w c (gatheringOf k w c t)
 gathered {k} {w} {c} {j} {t} h g =
     let b : List ℤ = take w t in
     let B : List (List ℤ) = chop (k - 1) w (drop w t) in
@@ -141,7 +143,7 @@ module _ {n w c k j : ℕ} {t : List ℤ} (h : Standing n w c k t) (l : c < w) (
       ∙ flat-append (A .table) (G .pivot ∷ G .below)
 
   -- the rows above, as the code takes them
-  pub above-is : {p : List ℤ} → p ≡ G .pivot → eachOf Above c p k (take (k * w) t) ≡ A
+  above-is : {p : List ℤ} → p ≡ G .pivot → eachOf Above c p k (take (k * w) t) ≡ A
   above-is {p} e =
       ap (λ (r : List ℤ). eachOf Above c r k (take (k * w) t)) e
       ∙ ap (each (reduced c (G .pivot)))

@@ -1,10 +1,10 @@
 -- Laws of a round of gathering on a tail.
 --   swapped       the chosen row and the others, once they have changed places
---   lifted-pivot  the chosen row at the top is a pivot
---   below-wide, below-small   the rows below it
+--   chosen-low, ends-inside   the chosen row is one of the tail, and lies in the list
+--   below-wide    the rows below it
 --   lift-asks     what bringing it there asks for
 --   round-is      a round: this pivot, and the lower rows by it
---   pivot-is ..   the same of what the code has then
+--   pivot-is, below-is-wide, -small   the same of what the code has then
 --   round-stops   and what it answers and leaves once it has taken the pivot from the lower rows
 -- Assumes nothing.
 use mathlib.Core.Path.{_≡_, refl, sym, _∙_, ap, ap₂, subst}
@@ -102,7 +102,7 @@ module _ {k w c j : ℕ} {t : List ℤ} (h : Tail k w c t) (g : Picked k w c t j
       (sym (ap (λ (x : Gathered). entry c (x .pivot)) (sym round-is) ∙ round-lead (g .is)))
       (positive-of (g .size) (chosen-stands (g .is) .0))
 
-  pub lifted-pivot : Pivot w c (liftedRow w c j t)
+  lifted-pivot : Pivot w c (liftedRow w c j t)
   lifted-pivot = record {
     wide = signed-wide (entry c row) row ∙ row-wide;
     small = signed-all (entry c row) row (within-take w (drop (j * w) t) (within-drop (j * w) t (h .small)));
@@ -113,7 +113,7 @@ module _ {k w c j : ℕ} {t : List ℤ} (h : Tail k w c t) (g : Picked k w c t j
   first-width : length (take w t) ≡ w
   first-width = length-take-le w t (omega (arith, ends-inside))
 
-  pub all-wide : length (lowerFirst w j t) ≡ length t
+  all-wide : length (lowerFirst w j t) ≡ length t
   all-wide =
       length-append (take (j * w) t) (take w t ++ drop (j * w + w) t)
       ∙ ap₂ _+_ (length-take-le (j * w) t (omega (arith, ends-inside)))
@@ -123,27 +123,27 @@ module _ {k w c j : ℕ} {t : List ℤ} (h : Tail k w c t) (g : Picked k w c t j
   pub below-wide : length (drop w (lowerFirst w j t)) ≡ (k - 1) * w
   below-wide = omega (arith, length-drop w (lowerFirst w j t), all-wide, h .wide, one-less k w (g .some))
 
-  pub below-small : Within (drop w (lowerFirst w j t))
+  below-small : Within (drop w (lowerFirst w j t))
   below-small =
       within-drop w (lowerFirst w j t)
       (within-append (take (j * w) t) (take w t ++ drop (j * w + w) t) (within-take (j * w) t (h .small))
       (within-append (take w t) (drop (j * w + w) t) (within-take w t (h .small)) (within-drop (j * w + w) t (h .small))))
 
 -- ---- what the code has once the chosen row is at the top: the pivot p and the tail u
-pub own : {w c : ℕ} {r : List ℤ} → Pivot w c r → Pivot (length r) c r
+own : {w c : ℕ} {r : List ℤ} → Pivot w c r → Pivot (length r) c r
 own h = record { wide = refl; small = h .small; front = h .front; lead = h .lead }
 
 module _ {k w c j : ℕ} {t p u : List ℤ} (h : Tail k w c t) (g : Picked k w c t j) (l : Lifted c j w t p u) where
   pub pivot-is : Pivot (length p) c p
   pivot-is = subst (λ (r : List ℤ). Pivot (length r) c r) (sym (l .pivot)) (own (lifted-pivot h g))
 
-  pub pivot-wide : length p ≡ w
+  pivot-wide : length p ≡ w
   pivot-wide = ap length (l .pivot) ∙ lifted-pivot h g .wide
 
-  pub top-is : take w u ≡ p
+  top-is : take w u ≡ p
   top-is = ap (take w) (l .tail) ∙ take-at p (drop w (lowerFirst w j t)) w pivot-wide
 
-  pub below-is : drop w u ≡ drop w (lowerFirst w j t)
+  below-is : drop w u ≡ drop w (lowerFirst w j t)
   below-is = ap (drop w) (l .tail) ∙ drop-at p (drop w (lowerFirst w j t)) w pivot-wide
 
   pub below-is-wide : length (drop w u) ≡ (k - 1) * length p

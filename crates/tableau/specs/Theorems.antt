@@ -136,7 +136,8 @@ pub basis-rising : (n : ℕ) (A : List (List ℤ)) → Rising 0 (basis (length A
 unfolding form
 basis-rising n A =
     let t : Eliminated (length A + n) (tableau n A) = problem-form n A in
-    rw (t .is, basis-past (length A) (t .form) (t .hermite)) (rows-rising (past (length A) (t .form)) (past-hermite (length A) (t .form) (t .hermite)))
+    rw (t .is, basis-past (length A) (t .form) (t .hermite))
+    (rows-rising (past (length A) (t .form)) (past-hermite (length A) (t .form) (t .hermite)))
 
 -- ---- a problem
 -- The same for a problem: what is found tells the set of lists that satisfy its rows.

@@ -2,6 +2,7 @@
 --   Within l           no number of l lies beyond ±M
 --   neither            two marks of which none is set
 --   within-..          of a part, of lists end to end, of a negated row, of zeros; and of one number
+--   beyond-append      a number of two lists end to end lies beyond ±M
 --   beyond-none, -next   the first i numbers and the next one, for a loop that collects whether one lies beyond ±M
 -- Assumes nothing.
 use mathlib.Core.Path.{_≡_, refl, sym, _∙_, ap, ap₂}

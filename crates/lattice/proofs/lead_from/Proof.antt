@@ -1,4 +1,5 @@
--- `lattice::lead_from` meets its contract: from its place on the loop passes the zeros, and what is left has its lead one place nearer each time. Assumes nothing.
+-- `lattice::lead_from` meets its contract: from its place on the loop passes the zeros, and what is left has its lead one place nearer each time.
+-- Assumes nothing.
 use mathlib.Core.Path.{_≡_, refl, sym, _∙_}
 use Prim.Native.Nat.{_-_, _+_}
 use native.Mathlib.Omega.{arith}
@@ -19,7 +20,10 @@ abbrev μ-loop : tie.MeasureT-loop
 μ-loop row from i₀ i = length row - i
 
 -- what the call answers at the place that the loop has come to
-tested : (c : tie.After-magnitude Inv-loop μ-loop) → c .magnitude .result ≡ natAbs (entry (c .before .before .before .loop .i) (c .before .before .before .before .args .row .now))
+tested :
+    (c : tie.After-magnitude Inv-loop μ-loop) →
+    let l = c .before .before .before in
+    c .magnitude .result ≡ natAbs (entry (l .loop .i) (l .before .args .row .now))
 tested c = rw (back _ (c .before .magnitude-arg .given)) at (c .magnitude .ensures)
 
 loop-holds : tie.Need-loop-holds Inv-loop μ-loop
@@ -35,7 +39,9 @@ magnitude-requires : tie.Need-magnitude-requires Inv-loop μ-loop
 magnitude-requires c κs = search needs
 
 returns : tie.Need-returns Inv-loop μ-loop
-returns c = lead-at _ _ (c .before .before .before .loop-test .taken) (rw (tested (c .before)) at (c .if1 .taken)) ∙ c .before .before .before .before .loop .inv
+returns c =
+    let d = c .before .before .before in
+    lead-at _ _ (d .loop-test .taken) (rw (tested (c .before)) at (c .if1 .taken)) ∙ d .before .loop .inv
 
 add-i : tie.Need-add-i Inv-loop μ-loop
 add-i c = omega arith
@@ -44,7 +50,9 @@ loop-less : tie.Need-loop-less Inv-loop μ-loop
 loop-less c = omega arith
 
 loop-again : tie.Need-loop-again Inv-loop μ-loop
-loop-again c = sym (lead-on _ _ (c .before .before .before .loop-test .taken) (rw (tested (c .before)) at (c .if1 .left))) ∙ c .before .before .before .before .loop .inv
+loop-again c =
+    let d = c .before .before .before in
+    sym (lead-on _ _ (d .loop-test .taken) (rw (tested (c .before)) at (c .if1 .left))) ∙ d .before .loop .inv
 
 returns-2 : tie.Need-returns-2 Inv-loop μ-loop
 returns-2 c = lead-end _ _ (c .loop-test .left) ∙ c .before .loop .inv

@@ -1,42 +1,88 @@
--- `search::turn_at` meets its contract: it takes the step of the part that is reached. Assumes nothing.
-use mathlib.Core.Path.{_≡_, _∙_, ap}
-use Prim.Native.Nat.{ℕ}
-use Rattle.settling.specs.declared.Part.{Part}
-use Rattle.settling.specs.Columns.{columnsIn}
-use Rattle.settling.specs.Steps.{partOf}
-use Rattle.settling.specs.Steps as Steps
-use Rattle.settling.specs.Views.{vectors}
-use Rattle.search.proofs.Turns.{ready-measurable, ready-searchable}
+-- `search::turn_at` meets its contract: the part that is reached is ranked, and searched place by place. Assumes nothing.
+use mathlib.Core.Path.{refl, sym, _∙_}
+use native.Mathlib.Omega.{arith}
+use borrow.Author.Needs.{needs}
+use lib.ListN.{length-take}
+use Rattle.search.proofs.Finding.{blank}
+use Rattle.search.proofs.Turning.{arranged-none, ready-turnable, ranked-part, ranked-setup, turned}
 use Rattle.search.proofs.turn_at.Statement.{statement}
 use Rattle.search.proofs.turn_at.Tie as tie
 
--- the part is that of the view's columns
-reached :
-    (c : tie.After-part-of) →
-    let a = c .before .args in
-    c .part-of .result ≡ partOf (columnsIn (a .view .columns) (a .columns .now)) (a .values .now)
-reached c =
-    let s = c .before in
-    c .part-of .ensures ∙ ap (λ (n : ℕ). partOf (columnsIn n (s .args .columns .now)) (s .args .values .now)) (s .pre .values-long)
+slice-aggregate-find-sets : tie.Need-slice-aggregate-find-sets
+slice-aggregate-find-sets c = search needs
 
-part-of-requires : tie.Need-part-of-requires
-part-of-requires c κs = let s = c in ready-measurable (s .args .view) (s .args .columns .now) (s .args .values .now) (s .args .basis .now) (s .pre)
+slice-aggregate-find-sets-2 : tie.Need-slice-aggregate-find-sets-2
+slice-aggregate-find-sets-2 c = search needs
 
-step-of-requires : tie.Need-step-of-requires
-step-of-requires c κs = let s = c .before in ready-searchable (s .args .view) (s .args .columns .now) (s .args .values .now) (s .args .basis .now) (s .pre) (c .part-of .result) (reached c)
+find-sets-requires : tie.Need-find-sets-requires
+find-sets-requires c κs = let s = c .before .before in (s .pre .basis, s .pre .few, s .pre .few-vectors, refl, blank)
+
+unranked-requires : tie.Need-unranked-requires
+unranked-requires c κs = search needs
+
+slice-aggregate-rank-next : tie.Need-slice-aggregate-rank-next
+slice-aggregate-rank-next c = search needs
+
+slice-aggregate-rank-next-2 : tie.Need-slice-aggregate-rank-next-2
+slice-aggregate-rank-next-2 c = search needs
+
+rank-next-requires : tie.Need-rank-next-requires
+rank-next-requires c κs =
+    let u = c .before .before in
+    let p = u .before .before .before .before .before .before .pre in
+    (ready-turnable p, omega (arith, p .few, p .values-long), omega (arith, p .few, p .values-long), arranged-none _ _ _ _ (u .unranked .ensures))
+
+-- what was ranked
+abbrev start : tie.After-rank-next → tie.Start
+start k = k .before .before .before .before .before .before .before .before .before
+
+array-share-prefix-order : tie.Need-array-share-prefix-order
+array-share-prefix-order c =
+    let k = c .before .before in
+    omega (arith, k .rank-next .ensures .few, start k .pre .few, start k .pre .values-long)
+
+slice-aggregate-first-step : tie.Need-slice-aggregate-first-step
+slice-aggregate-first-step c =
+    let p = start (c .before .before .before) .pre in
+    let k = c .before .before .before .rank-next in
+    sym (length-take (k .result .len) (k .last .1 .1 .1 .1 .0) ∙ omega (arith, k .ensures .few, k .kept .1 .1 .1 .1 .0, p .few, p .values-long))
+
+slice-aggregate-first-step-2 : tie.Need-slice-aggregate-first-step-2
+slice-aggregate-first-step-2 c = search needs
+
+slice-aggregate-first-step-3 : tie.Need-slice-aggregate-first-step-3
+slice-aggregate-first-step-3 c = search needs
+
+slice-aggregate-first-step-4 : tie.Need-slice-aggregate-first-step-4
+slice-aggregate-first-step-4 c = search needs
+
+first-step-requires : tie.Need-first-step-requires
+first-step-requires c κs =
+    let k = c .before .before .before .before .before .before in
+    (ranked-setup (start k .pre) (k .rank-next .ensures), k .before .before .before .before .before .before .find-sets .ensures, refl)
 
 returns : tie.Need-returns
-unfolding Steps.nextStep
 returns c =
-    let a = c .before .before .args in
-    let e = reached (c .before) in
-    let step = c .step-of .ensures ∙ ap (λ (p : Part). Steps.stepOf p (columnsIn (a .view .columns) (a .columns .now)) (vectors (a .view) (a .basis .now)) (a .values .now)) e in
-    (λ i. record { part = e i; step = step i })
+    let k = c .before .before .before .before .before .before .before .before in
+    let part = ranked-part (start k .pre) (k .rank-next .ensures) in
+    let step = c .before .first-step .ensures ∙ turned (start k .pre) (k .rank-next .ensures) in
+    (λ i. record { part = part i; step = step i })
 
 pub turn-at-spec : {M : Type 1} → statement M
 turn-at-spec =
     tie.close
     (tie.spec
-    part-of-requires
-    step-of-requires
+    slice-aggregate-find-sets
+    slice-aggregate-find-sets-2
+    find-sets-requires
+    unranked-requires
+    slice-aggregate-rank-next
+    slice-aggregate-rank-next-2
+    rank-next-requires
+    array-share-prefix-order
+    slice-aggregate-first-step
+    slice-aggregate-first-step-2
+    slice-aggregate-first-step-3
+    slice-aggregate-first-step-4
+    first-step-requires
     returns)

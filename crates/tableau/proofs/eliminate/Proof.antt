@@ -29,7 +29,9 @@ slice-aggregate-pass-all : tie.Need-slice-aggregate-pass-all
 slice-aggregate-pass-all c = sym (length-take-le (c .before .before .args .w) _ (c .before .before .pre .0 .1))
 
 pass-all-requires : tie.Need-pass-all-requires
-pass-all-requires c κs = rw (length-take-le (c .before .before .args .w) _ (c .before .before .pre .0 .1)) (c .before .before .pre .0 .0, c .before .before .pre .1)
+pass-all-requires c κs =
+    let s = c .before .before in
+    rw (length-take-le (s .args .w) _ (s .pre .0 .1)) (s .pre .0 .0, s .pre .1)
 
 wipe-requires : tie.Need-wipe-requires
 wipe-requires c κs = search needs

@@ -88,10 +88,12 @@ seat-requires : tie.Need-seat-requires
 seat-requires c κs =
     let d = c .before .before .before in
     let s = start d in
+    let b = d .basis-place in
     record {
-      ready = place-ready (s .args .p) (s .args .tableau .now) (d .basis-place .result) (d .basis-place .ensures) (s .args .start .now) (s .args .columns .now) (s .pre .placed);
-      led = place-led (s .args .p) (s .args .tableau .now) (d .basis-place .result) (d .basis-place .ensures) (s .pre .placed .parted) (s .pre .led);
-      rises = place-rises (s .args .p) (s .args .tableau .now) (d .basis-place .result) (d .basis-place .ensures) (s .pre .placed .parted) (s .pre .led);
+      ready =
+          place-ready (s .args .p) (s .args .tableau .now) (b .result) (b .ensures) (s .args .start .now) (s .args .columns .now) (s .pre .placed);
+      led = place-led (s .args .p) (s .args .tableau .now) (b .result) (b .ensures) (s .pre .placed .parted) (s .pre .led);
+      rises = place-rises (s .args .p) (s .args .tableau .now) (b .result) (b .ensures) (s .pre .placed .parted) (s .pre .led);
     }
 
 same-length : tie.Need-same-length

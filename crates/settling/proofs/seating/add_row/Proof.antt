@@ -87,8 +87,11 @@ shared-slice-copy-out-plus-product c = omega arith
 plus-product-requires : tie.Need-plus-product-requires Inv-loop μ-loop
 plus-product-requires c κs =
     let s = c .before .before .before .before in
-    let l = c .before .before .before .loop in
-    (rw (value (c .before)) (s .pre .0 .values-small (l .j)), rw (toZ-ofZ (s .fits .q)) (s .pre .1), rw (share c) (s .pre .0 .row-small (l .j)))
+    let l = c .before .before .before .loop in (
+      rw (value (c .before)) (omega (arith, s .pre .0 .values-small (l .j))),
+      rw (toZ-ofZ (s .fits .q)) (s .pre .1),
+      rw (share c) (s .pre .0 .row-small (l .j)),
+    )
 
 magnitude-requires : tie.Need-magnitude-requires Inv-loop μ-loop
 magnitude-requires c κs = search needs

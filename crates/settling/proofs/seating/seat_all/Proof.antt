@@ -17,9 +17,9 @@ use Rattle.settling.specs.Columns.{Columns, columnsIn}
 use Rattle.settling.specs.Moves.{vector}
 use Rattle.settling.specs.Seating.{seated, far, seatOne}
 use Rattle.settling.specs.Seating as Seating
-use Rattle.settling.specs.Seats.{within, Addable, Led, Seatable, placeable, row-end, row-is, row-addable, still-seatable}
+use Rattle.settling.specs.Seats.{within, Addable, Led, Seatable, placeable, row-end, row-addable, still-seatable}
 use Rattle.settling.specs.Seats.{seat-end, seat-far, seat-on}
-use Rattle.settling.specs.Views.{vectors}
+use Rattle.settling.specs.Views.{vectors, vector-part}
 use Rattle.settling.proofs.Adding.{rises-row, rises-on, within-true, within-false}
 use Rattle.settling.proofs.seating.seat_all.Statement.{statement}
 use Rattle.settling.proofs.seating.seat_all.Tie as tie
@@ -62,7 +62,7 @@ module _ (c : tie.In-loop Inv-loop μ-loop) where
   ends = row-end (B start) _ _ _ (c .before .loop .inv .seatable) (c .before .loop .s) (c .loop-test .taken)
 
   is : take (at + B start .columns - at) (drop at (start .args .basis .now)) ≡ row
-  is = row-is (B start) _ _ _ (c .before .loop .inv .seatable) (c .before .loop .s) (c .loop-test .taken)
+  is = vector-part (B start) _ (c .before .loop .s) (c .loop-test .taken)
 
   addable : Addable (c .before .loop .values) row
   addable = row-addable (B start) _ _ _ (c .before .loop .inv .seatable) (c .before .loop .s) (c .loop-test .taken)

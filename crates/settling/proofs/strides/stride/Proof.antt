@@ -22,31 +22,41 @@ abbrev μ-loop : tie.MeasureT-loop
 μ-loop basis view j d₀ s₀ d s = s
 
 -- the number of a turn lies in the slice
-lies : (c : tie.In-loop Inv-loop μ-loop) → let s = c .before .before in (c .before .loop .s - 1) * s .args .view .stride + s .args .j < length (s .args .basis .now)
-lies c = let s = c .before .before in s .pre .0 .lies (c .before .loop .s - 1) (s .args .j) (omega (arith, c .before .loop .inv .0, c .loop-test .taken)) (s .pre .1)
+lies :
+    (c : tie.In-loop Inv-loop μ-loop) →
+    let s = c .before .before in
+    (c .before .loop .s - 1) * s .args .view .stride + s .args .j < length (s .args .basis .now)
+lies c =
+    let s = c .before .before in
+    s .pre .0 .lies (c .before .loop .s - 1) (s .args .j) (omega (arith, c .before .loop .inv .0, c .loop-test .taken)) (s .pre .1)
 
 -- its magnitude
 found :
     (c : tie.After-magnitude Inv-loop μ-loop) →
-    let s = c .before .before .before .before .before in
-    c .magnitude .result ≡ natAbs (entry (s .args .j) (vector (vectors (s .args .view) (s .args .basis .now)) (c .before .before .before .before .loop .s - 1)))
+    let l = c .before .before .before .before in
+    let s = l .before in
+    c .magnitude .result ≡ natAbs (entry (s .args .j) (vector (vectors (s .args .view) (s .args .basis .now)) (l .loop .s - 1)))
 found c =
-    let s = c .before .before .before .before .before in
-    let l = c .before .before .before .before .loop in
+    let d = c .before .before .before in
+    let s = d .before .before in
+    let l = d .before .loop in
     rw (back _ (c .before .magnitude-arg .given)) at (c .magnitude .ensures)
-    ∙ ap natAbs (sym (vectors-at (s .args .view) (s .args .basis .now) (l .s - 1) (s .args .j) (omega (arith, l .inv .0, c .before .before .before .loop-test .taken)) (s .pre .1)))
+    ∙ ap natAbs
+    (sym (vectors-at (s .args .view) (s .args .basis .now) (l .s - 1) (s .args .j) (omega (arith, l .inv .0, d .loop-test .taken)) (s .pre .1)))
 
 -- the divisor with it
 joined :
     (c : tie.After-divisor Inv-loop μ-loop) →
-    let s = c .before .before .before .before .before .before .before in
-    c .divisor .result ≡ Strides.stride (drop (c .before .before .before .before .before .before .loop .s - 1) (vectors (s .args .view) (s .args .basis .now))) (s .args .j)
+    let l = c .before .before .before .before .before .before in
+    let s = l .before in
+    c .divisor .result ≡ Strides.stride (drop (l .loop .s - 1) (vectors (s .args .view) (s .args .basis .now))) (s .args .j)
 joined c =
-    let s = c .before .before .before .before .before .before .before in
-    let l = c .before .before .before .before .before .before .loop in
+    let d = c .before .before .before .before .before in
+    let s = d .before .before in
+    let l = d .before .loop in
     c .divisor .ensures ∙ ap₂ Divisor.divisor (found (c .before .before)) (l .inv .1)
     ∙ stride-up (s .args .view) (s .args .basis .now) (s .args .j) (l .s)
-    (omega (arith, c .before .before .before .before .before .loop-test .taken)) (l .inv .0)
+    (omega (arith, d .loop-test .taken)) (l .inv .0)
 
 loop-holds : tie.Need-loop-holds Inv-loop μ-loop
 loop-holds c = let s = c in (omega arith, sym (stride-none (s .args .view) (s .args .basis .now) (s .args .j)))
@@ -74,9 +84,11 @@ divisor-requires c κs = search needs
 
 returns : tie.Need-returns Inv-loop μ-loop
 returns c =
-    let s = c .before .before .before .before .before .before .before .before in
-    let l = c .before .before .before .before .before .before .before .loop in
-    sym (stride-one (s .args .view) (s .args .basis .now) (s .args .j) (l .s - 1) (omega (arith, l .inv .0)) (sym (joined (c .before)) ∙ c .if2 .taken))
+    let t = c .before .before .before .before .before .before .before in
+    let s = t .before in
+    let l = t .loop in
+    sym (stride-one (s .args .view) (s .args .basis .now) (s .args .j) (l .s - 1) (omega (arith, l .inv .0))
+    (sym (joined (c .before)) ∙ c .if2 .taken))
 
 loop-less : tie.Need-loop-less Inv-loop μ-loop
 loop-less c = omega arith

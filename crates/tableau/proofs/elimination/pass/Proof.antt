@@ -3,7 +3,7 @@
 use mathlib.Core.Path.{_≡_, sym, _∙_, ap, subst}
 use mathlib.Core.Bool.{false, true≢false}
 use mathlib.Core.List.{List, _++_}
-use Prim.Native.Nat.{ℕ, _+_, _-_, _*_, _≤_}
+use Prim.Native.Nat.{ℕ, _-_, _*_, _≤_}
 use native.Mathlib.Omega.{arith}
 use borrow.Rule.Slice.PartMut.{putMid}
 use lib.IntN.{ℤ}
@@ -85,8 +85,9 @@ same-length-2 c = search needs
 returns : tie.Need-returns
 returns c =
     let r = c .before .before .before in
+    let p = r .before .before .before .pre in
     record {
-      answer = sym (passed-over (c .before .before .before .before .before .before .pre .0) (c .before .before .before .before .before .before .pre .1 .0) (c .before .before .before .before .before .before .pre .1 .1 .0) (sym (told r .answer) ∙ c .if1 .taken));
+      answer = sym (passed-over (p .0) (p .1 .0) (p .1 .1 .0) (sym (told r .answer) ∙ c .if1 .taken));
       left = λ e. absurd (true≢false e);
     }
 
@@ -98,12 +99,15 @@ slice-aggregate-each c = sym (ap length (top-is (c .before)) ∙ length-take-le 
 
 each-requires : tie.Need-each-requires
 each-requires c κs =
-    let n = c .before .before in (
-      ap length (top-is n) ∙ length-take-le (at n) (t-of n) (room n) ∙ ap (λ (i : ℕ). c .before .before .before .before .before .before .before .before .args .k * i) (sym (c .before .before .before .before .before .gather .kept .1 .1 .0)),
+    let n = c .before .before in
+    let g = n .before .before .before in
+    let a = s n .args in
+    let p = s n .pre in (
+      ap length (top-is n) ∙ length-take-le (at n) (t-of n) (room n) ∙ ap (λ (i : ℕ). a .k * i) (sym (g .gather .kept .1 .1 .0)),
       (
-        subst (λ (r : List ℤ). Pivot (length r) (c .before .before .before .before .before .before .before .before .args .c) r) (sym (told (n .before .before .before) .row (n .if1 .left)))
-            (pivot-of (rows-of (c .before .before .before .before .before .before .before .before .pre .0) (c .before .before .before .before .before .before .before .before .pre .1 .0) (c .before .before .before .before .before .before .before .before .pre .1 .1 .0)) (unmarked n)),
-        subst Within (sym (top-is n)) (within-take (at n) (t-of n) (c .before .before .before .before .before .before .before .before .pre .0 .small)),
+        subst (λ (r : List ℤ). Pivot (length r) (a .c) r) (sym (told g .row (n .if1 .left)))
+            (pivot-of (rows-of (p .0) (p .1 .0) (p .1 .1 .0)) (unmarked n)),
+        subst Within (sym (top-is n)) (within-take (at n) (t-of n) (p .0 .small)),
       ),
     )
 
@@ -116,10 +120,16 @@ same-length-4 c = search needs
 returns-2 : tie.Need-returns-2
 returns-2 c =
     let n = c .before .before .before .before in
-    let g = told (n .before .before .before) in
-    subst (λ (l : List ℤ). StopsRun (tableOf (passedOf (s n .args .rows) (length (s n .args .pivot .now)) (s n .args .c) (s n .args .k) (t-of n))) (c .before .each .result) (c .before .each .last .0 ++ l)) (sym (ap (drop (at n)) (back-is n) ∙ drop-at (take (at n) (t-of n)) (u n) (at n) (length-take-le (at n) (t-of n) (room n))))
-    (passed-stops (c .before .before .before .before .before .before .before .before .before .before .pre .0) (c .before .before .before .before .before .before .before .before .before .before .pre .1 .0) (c .before .before .before .before .before .before .before .before .before .before .pre .1 .1 .0) (unmarked n) (g .row (n .if1 .left)) (g .left (n .if1 .left))
-    (subst (λ (l : List ℤ). StopsRun (eachOf Above (c .before .before .before .before .before .before .before .before .before .before .args .c) (c .before .before .before .before .before .before .before .gather .last .1 .1 .0) (c .before .before .before .before .before .before .before .before .before .before .args .k) l) (c .before .each .result) (c .before .each .last .0)) (top-is n) (c .before .each .ensures)))
+    let m = n .before .before .before in
+    let g = told m in
+    let a = s n .args in
+    let p = s n .pre in
+    let e = c .before .each in
+    let R = tableOf (passedOf (a .rows) (length (a .pivot .now)) (a .c) (a .k) (t-of n)) in
+    subst (λ (l : List ℤ). StopsRun R (e .result) (e .last .0 ++ l))
+    (sym (ap (drop (at n)) (back-is n) ∙ drop-at (take (at n) (t-of n)) (u n) (at n) (length-take-le (at n) (t-of n) (room n))))
+    (passed-stops (p .0) (p .1 .0) (p .1 .1 .0) (unmarked n) (g .row (n .if1 .left)) (g .left (n .if1 .left))
+    (subst (λ (l : List ℤ). StopsRun (eachOf Above (a .c) (m .gather .last .1 .1 .0) (a .k) l) (e .result) (e .last .0)) (top-is n) (e .ensures)))
 
 pub pass-spec : {M : Type 1} → statement M
 pass-spec =

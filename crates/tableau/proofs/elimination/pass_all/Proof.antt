@@ -58,14 +58,19 @@ picked c =
     picked-of (tail-of (l .inv .stands) (m .before .loop-test .taken)) (omega (arith, l .inv .stands .most, m .if1 .left))
     (sym (chosen (c .before .before) .is) ∙ sighted-some (z .count) (z .row) (z .size) (c .if2 .left))
 
+-- the turn of a pass
+abbrev tested : tie.After-pass Inv-loop μ-loop → tie.In-loop Inv-loop μ-loop
+tested c = c .before .before .before .before .before .before .before .before .before
+
+abbrev turn : tie.After-pass Inv-loop μ-loop → tie.At-loop Inv-loop μ-loop
+turn c = tested c .before
+
 told :
     (c : tie.After-pass Inv-loop μ-loop) →
-    let m = c .before .before .before .before .before .before .before .before .before .before in
+    let m = turn c in
     let a = m .before .args in
     StopsRun (tableOf (passedOf (a .rows) (length (a .pivot .now)) (m .loop .c) (m .loop .k) (m .loop .t))) (c .pass .result) (c .pass .last .0)
-told c =
-    let m = c .before .before .before .before .before .before .before .before .before .before in
-    rw (m .loop .inv .wide) at (c .pass .ensures)
+told c = rw (turn c .loop .inv .wide) at (c .pass .ensures)
 
 loop-holds : tie.Need-loop-holds Inv-loop μ-loop
 loop-holds c =
@@ -123,56 +128,63 @@ loop-again c =
     let f = c .before .before .before .before .before .before .loop-test .taken in
     let z = c .before .before .choose .result in
     let w : ℕ = length (a .pivot .now) in
-    let e : choose (l .c) (belowOf (a .rows) w (l .k) (l .t)) ≡ none = sym (chosen (c .before .before) .is) ∙ sighted-none (z .row) (z .size) (c .if2 .taken) in
+    let e : choose (l .c) (belowOf (a .rows) w (l .k) (l .t)) ≡ none =
+    sym (chosen (c .before .before) .is) ∙ sighted-none (z .row) (z .size) (c .if2 .taken) in
     let d : w - (l .c + 1) ≡ w - l .c - 1 = omega arith in
     record {
       same = l .inv .same;
       wide = l .inv .wide;
       past = omega (arith, f);
       stands = skipped-on (l .inv .stands) e;
-      rest = rw d (sym (columns-skip (w - l .c) (l .c) (aboveOf w (l .k) (l .t)) (belowOf (a .rows) w (l .k) (l .t)) (omega (arith, f)) e) ∙ l .inv .rest);
+      rest =
+          rw d
+          (sym (columns-skip (w - l .c) (l .c) (aboveOf w (l .k) (l .t)) (belowOf (a .rows) w (l .k) (l .t)) (omega (arith, f)) e) ∙ l .inv .rest);
     }
 
 pass-requires : tie.Need-pass-requires Inv-loop μ-loop
 pass-requires c κs =
-    let l = c .before .before .before .before .before .before .before .before .before .loop in
-    rw (l .inv .wide) (l .inv .stands, (c .before .before .before .before .before .before .before .before .loop-test .taken, (picked (c .before .before), chosen (c .before .before .before .before) .count)))
+    let d = c .before .before .before .before .before .before .before .before in
+    let i = d .before .loop .inv in
+    rw (i .wide) (i .stands, (d .loop-test .taken, (picked (c .before .before), chosen (c .before .before .before .before) .count)))
 
 same-length-3 : tie.Need-same-length-3 Inv-loop μ-loop
-same-length-3 c = c .before .before .before .pass .kept .0 ∙ c .before .before .before .before .before .before .before .before .before .before .before .before .before .loop .inv .same
+same-length-3 c = let n = c .before .before .before in n .pass .kept .0 ∙ turn n .loop .inv .same
 
 same-length-4 : tie.Need-same-length-4 Inv-loop μ-loop
-same-length-4 c = c .before .before .before .pass .kept .1 .1 .0 ∙ c .before .before .before .before .before .before .before .before .before .before .before .before .before .loop .inv .wide
+same-length-4 c = let n = c .before .before .before in n .pass .kept .1 .1 .0 ∙ turn n .loop .inv .wide
 
 returns-2 : tie.Need-returns-2 Inv-loop μ-loop
 returns-2 c =
-    let a = c .before .before .before .before .before .before .before .before .before .before .before .before .before .before .args in
-    let l = c .before .before .before .before .before .before .before .before .before .before .before .before .before .loop in
+    let n = c .before .before .before in
+    let a = turn n .before .args in
+    let l = turn n .loop in
     let w : ℕ = length (a .pivot .now) in
     record {
       answer =
           sym
           (ap (λ (x : Run). x .over) (sym (l .inv .rest))
-          ∙ columns-over (w - l .c) (l .c) (aboveOf w (l .k) (l .t)) (belowOf (a .rows) w (l .k) (l .t)) (omega (arith, c .before .before .before .before .before .before .before .before .before .before .before .before .loop-test .taken))
-          (sym (told (c .before .before .before) .answer) ∙ c .if3 .taken));
+          ∙ columns-over (w - l .c) (l .c) (aboveOf w (l .k) (l .t)) (belowOf (a .rows) w (l .k) (l .t)) (omega (arith, tested n .loop-test .taken))
+          (sym (told n .answer) ∙ c .if3 .taken));
       left = λ e. absurd (true≢false e);
     }
 
 add-k : tie.Need-add-k Inv-loop μ-loop
-add-k c = omega (arith, c .before .before .before .before .before .before .before .before .before .before .before .before .before .loop .inv .stands .most, c .before .before .before .before .before .before .before .before .before .before .before .if1 .left)
+add-k c =
+    let d = c .before .before .before .before .before .before .before .before .before .before .before in
+    omega (arith, d .before .before .loop .inv .stands .most, d .if1 .left)
 
 add-c-2 : tie.Need-add-c-2 Inv-loop μ-loop
-add-c-2 c = omega (arith, c .before .before .before .before .before .before .before .before .before .before .before .before .loop-test .taken)
+add-c-2 c = omega (arith, tested (c .before .before .before) .loop-test .taken)
 
 loop-less-2 : tie.Need-loop-less-2 Inv-loop μ-loop
-loop-less-2 c = omega (arith, c .before .before .before .before .before .before .before .before .before .before .before .before .loop-test .taken)
+loop-less-2 c = omega (arith, tested (c .before .before .before) .loop-test .taken)
 
 loop-again-2 : tie.Need-loop-again-2 Inv-loop μ-loop
 loop-again-2 c =
-    let a = c .before .before .before .before .before .before .before .before .before .before .before .before .before .before .args in
-    let l = c .before .before .before .before .before .before .before .before .before .before .before .before .before .loop in
-    let f = c .before .before .before .before .before .before .before .before .before .before .before .before .loop-test .taken in
     let n = c .before .before .before in
+    let a = turn n .before .args in
+    let l = turn n .loop in
+    let f = tested n .loop-test .taken in
     let g = picked (c .before .before .before .before .before .before) in
     let w : ℕ = length (a .pivot .now) in
     let d : w - (l .c + 1) ≡ w - l .c - 1 = omega arith in
@@ -185,7 +197,8 @@ loop-again-2 c =
       stands = passed-on (l .inv .stands) f g o s (n .pass .kept .0);
       rest =
           rw d
-          (ap₂ (passColumns (w - l .c - 1) (l .c + 1)) (passed-above (l .inv .stands) f g o s (n .pass .kept .0)) (passed-below (l .inv .stands) f g o s (n .pass .kept .0))
+          (ap₂ (passColumns (w - l .c - 1) (l .c + 1))
+          (passed-above (l .inv .stands) f g o s (n .pass .kept .0)) (passed-below (l .inv .stands) f g o s (n .pass .kept .0))
           ∙ sym (columns-on (w - l .c) (l .c) (aboveOf w (l .k) (l .t)) (belowOf (a .rows) w (l .k) (l .t)) (omega (arith, f)) o)
           ∙ l .inv .rest);
     }

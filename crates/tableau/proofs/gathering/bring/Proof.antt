@@ -7,7 +7,6 @@ use lib.IntN.{ℤ}
 use lib.ListN.{length, length-set}
 use Rattle.whole.proofs.Signed.{back}
 use Rattle.tableau.proofs.Lifting.{Apart, Swapping, starts, same, upper, lower, goes-on, ends, stays}
-use borrow.Author.Needs.{needs}
 use Rattle.tableau.proofs.gathering.bring.Statement.{statement}
 use Rattle.tableau.proofs.gathering.bring.Tie as tie
 

@@ -67,7 +67,8 @@ later-requires : tie.Need-later-requires Inv-loop μ-loop
 later-requires c κs =
     let a = c .before .before .before .before .args in
     let l = c .before .before .before .loop in
-    omega (arith, l .inv .chooses .count, few (a .c) (chop (l .i) (a .w) (a .t .now)), length-chop (l .i) (a .w) (a .t .now), l .inv .most, less-rows (c .before .before .before .before))
+    let f = few (a .c) (chop (l .i) (a .w) (a .t .now)) in
+    omega (arith, l .inv .chooses .count, f, length-chop (l .i) (a .w) (a .t .now), l .inv .most, less-rows (c .before .before .before .before))
 
 add-i : tie.Need-add-i Inv-loop μ-loop
 add-i c = omega (arith, c .before .before .before .loop-test .taken, c .before .before .before .before .before .fits .rows)
@@ -77,11 +78,14 @@ loop-less c = omega (arith, c .before .before .before .loop-test .taken)
 
 loop-again : tie.Need-loop-again Inv-loop μ-loop
 loop-again c =
-    let a = c .before .before .before .before .before .args in
+    let s = c .before .before .before .before .before in
+    let a = s .args in
     let l = c .before .before .before .before .loop in
     record {
       most = omega (arith, c .before .before .before .loop-test .taken);
-      chooses = next-row (a .c) (a .w) (l .i) (a .t .now) (c .before .magnitude .result) (c .before .before .before .before .before .pre .1) (l .inv .chooses) (size (c .before)) (c .later .ensures);
+      chooses =
+          next-row (a .c) (a .w) (l .i) (a .t .now) (c .before .magnitude .result) (s .pre .1)
+          (l .inv .chooses) (size (c .before)) (c .later .ensures);
     }
 
 returns : tie.Need-returns Inv-loop μ-loop

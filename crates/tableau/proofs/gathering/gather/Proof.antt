@@ -16,7 +16,10 @@ same-length-2 : tie.Need-same-length-2
 same-length-2 c = search needs
 
 returns : tie.Need-returns
-returns c = lone-stops (c .before .before .before .before .before .before .before .pre .0) (c .before .before .before .before .before .before .before .pre .1 .0) (c .before .before .lift .ensures) (sym (c .before .before .before .before .before .before .before .pre .1 .1) ∙ c .before .before .before .before .before .if1 .taken)
+returns c =
+    let d = c .before .before .before .before .before in
+    let p = d .before .before .pre in
+    lone-stops (p .0) (p .1 .0) (c .before .before .lift .ensures) (sym (p .1 .1) ∙ d .if1 .taken)
 
 rounds-requires : tie.Need-rounds-requires
 rounds-requires c κs = search needs

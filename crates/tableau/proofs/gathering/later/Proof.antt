@@ -17,12 +17,13 @@ add-t7 c = search needs
 returns-2 : tie.Need-returns-2
 returns-2 c =
     let a = c .before .before .before .before .args in
-    let z = a .z in (
+    let z = a .z in
+    let e = c .before .before .before .if1 .left in (
       ⊎-elim
-          (λ h. below-first (z .count) (z .row) (z .size) (a .i) (a .size) (c .before .before .before .if1 .left) (h .taken))
-          (λ h. below-taken (z .count) (z .row) (z .size) (a .i) (a .size) (c .before .before .before .if1 .left) (ltb-true (a .size) (z .size) (h .2 .taken)))
+          (λ h. below-first (z .count) (z .row) (z .size) (a .i) (a .size) e (h .taken))
+          (λ h. below-taken (z .count) (z .row) (z .size) (a .i) (a .size) e (ltb-true (a .size) (z .size) (h .2 .taken)))
           (c .before .if2 .came),
-      counted-up (z .count) (a .size) (c .before .before .before .if1 .left),
+      counted-up (z .count) (a .size) e,
     )
 
 add-t8 : tie.Need-add-t8
@@ -32,7 +33,8 @@ returns-3 : tie.Need-returns-3
 returns-3 c =
     let a = c .before .before .before .before .before .before .args in
     let z = a .z in (
-      below-left (z .count) (z .row) (z .size) (a .i) (a .size) (c .before .before .before .if2 .left) (ltb-false (a .size) (z .size) (c .before .if3 .left)),
+      below-left (z .count) (z .row) (z .size) (a .i) (a .size) (c .before .before .before .if2 .left)
+          (ltb-false (a .size) (z .size) (c .before .if3 .left)),
       counted-up (z .count) (a .size) (c .before .before .before .before .before .if1 .left),
     )
 

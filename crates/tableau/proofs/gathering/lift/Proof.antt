@@ -42,7 +42,8 @@ raise-requires c κs =
     let w : ℕ = length (s .args .pivot .now) in
     let at : ℕ = s .args .j * w in (
       omega (arith, length-take-le w (c .before .before .bring .last .0) (room (c .before)), s .pre .0 .0),
-      subst Within (sym (top-row w (s .args .j) (s .args .t .now) (s .pre .0 .1) (c .before .before .bring .ensures))) (within-take w (drop at (s .args .t .now)) (within-drop at (s .args .t .now) (s .pre .1 .1))),
+      subst Within (sym (top-row w (s .args .j) (s .args .t .now) (s .pre .0 .1) (c .before .before .bring .ensures)))
+          (within-take w (drop at (s .args .t .now)) (within-drop at (s .args .t .now) (s .pre .1 .1))),
     )
 
 slice-reshare-prefix-copy : tie.Need-slice-reshare-prefix-copy
@@ -62,9 +63,11 @@ same-length-2 c = search needs
 
 returns : tie.Need-returns
 returns c =
-    let s = c .before .before .before .before .before .before .before .before .before .before in
-    lifted (length (s .args .pivot .now)) (s .args .j) (s .args .t .now) (s .pre .0 .1) (c .before .before .before .before .before .before .before .before .bring .ensures) (s .args .c)
-    (c .before .before .before .before .before .raise .ensures) (wide (c .before .before .before .before .before)) (c .before .copy .ensures)
+    let r = c .before .before .before .before .before in
+    let d = r .before .before .before in
+    let s = d .before .before in
+    lifted (length (s .args .pivot .now)) (s .args .j) (s .args .t .now) (s .pre .0 .1) (d .bring .ensures) (s .args .c)
+    (r .raise .ensures) (wide r) (c .before .copy .ensures)
 
 pub lift-spec : {M : Type 1} → statement M
 lift-spec =

@@ -45,10 +45,14 @@ told :
 told c = rw (c .before .before .before .loop .inv .wide) at (c .round .ensures)
 
 -- the tail and the pivot keep their length
-same-tail : (c : tie.After-pivot Inv-loop μ-loop) → length (c .before .before .round .last .0) ≡ length (c .before .before .before .before .before .before .args .t .now)
+same-tail : (c : tie.After-pivot Inv-loop μ-loop) →
+    let r = c .before .before in
+    length (r .round .last .0) ≡ length (r .before .before .before .before .args .t .now)
 same-tail c = c .before .before .round .kept .0 ∙ c .before .before .before .before .before .loop .inv .same
 
-same-pivot : (c : tie.After-pivot Inv-loop μ-loop) → length (c .before .before .round .last .1 .1 .0) ≡ length (c .before .before .before .before .before .before .args .pivot .now)
+same-pivot : (c : tie.After-pivot Inv-loop μ-loop) →
+    let r = c .before .before in
+    length (r .round .last .1 .1 .0) ≡ length (r .before .before .before .before .args .pivot .now)
 same-pivot c = c .before .before .round .kept .1 .1 .0 ∙ c .before .before .before .before .before .loop .inv .wide
 
 -- after a round that meets no number beyond M
@@ -87,19 +91,24 @@ module _ (c : tie.Else1 Inv-loop μ-loop) where
   room = omega (arith, ends-inside (l .loop .inv .tail) (l .loop .inv .picked))
 
 -- the choice among the rows below
-chosen-next : (c : tie.After-choose Inv-loop μ-loop) → choiceOf (c .choose .result) ≡ choose (col (c .before .before .before .before .before .before)) (x-of (c .before .before .before .before .before .before) .below)
+chosen-next : (c : tie.After-choose Inv-loop μ-loop) →
+    let n = c .before .before .before .before .before .before in
+    choiceOf (c .choose .result) ≡ choose (col n) (x-of n .below)
 chosen-next c =
     let n = c .before .before .before .before .before .before in
     c .choose .ensures .is
     ∙ ap (λ (v : List ℤ). choose (col n) (chop (k n - 1) (w n) v)) (tail-is (w n) (u n))
-    ∙ ap (choose (col n)) (next-below (l n .loop .inv .tail) (l n .loop .inv .picked) (unmarked n) (rows-next n) (n .before .before .before .round .kept .0))
+    ∙ ap (choose (col n))
+    (next-below (l n .loop .inv .tail) (l n .loop .inv .picked) (unmarked n) (rows-next n) (n .before .before .before .round .kept .0))
 
 -- where there is none, the round was the last one
-done : (n : tie.Else1 Inv-loop μ-loop) → choose (col n) (x-of n .below) ≡ none → Gathers (gatheringOf (k n) (w n) (col n) (l n .before .args .t .now)) false (u n) (n .before .before .before .round .last .1 .1 .0)
+done : (n : tie.Else1 Inv-loop μ-loop) → choose (col n) (x-of n .below) ≡ none
+    → Gathers (gatheringOf (k n) (w n) (col n) (l n .before .args .t .now)) false (u n) (n .before .before .before .round .last .1 .1 .0)
 done n e =
-    subst (λ (y : Gathered). Gathers y false (u n) (n .before .before .before .round .last .1 .1 .0))
+    let r = n .before .before .before in
+    subst (λ (y : Gathered). Gathers y false (u n) (r .round .last .1 .1 .0))
     (sym (finished (l n .loop .inv .tail) (l n .loop .inv .picked) e) ∙ l n .loop .inv .rest)
-    (subst (λ (b : Bool). Gathers (x-of n) b (u n) (n .before .before .before .round .last .1 .1 .0)) (n .if1 .left) (told (n .before .before .before)))
+    (subst (λ (b : Bool). Gathers (x-of n) b (u n) (r .round .last .1 .1 .0)) (n .if1 .left) (told r))
 
 -- the pivot's entry is 1
 one : (c : tie.Then2 Inv-loop μ-loop) → natAbs (entry (col (c .before .before .before)) (x-of (c .before .before .before) .pivot)) ≡ 1
@@ -122,7 +131,9 @@ more c =
     going-on (l n .loop .inv .tail) (l n .loop .inv .picked) (unmarked n) (rows-next n) (n .before .before .before .round .kept .0) (z .row) (z .size)
     (sym (chosen-next (c .before .before)) ∙ sighted-some (z .count) (z .row) (z .size) (c .if3 .left))
 
-picked-next : (c : tie.Else3 Inv-loop μ-loop) → let n = c .before .before .before .before .before .before .before .before in Picked (k n) (w n) (col n) (u n) (c .before .before .choose .result .row + 1)
+picked-next : (c : tie.Else3 Inv-loop μ-loop) →
+    let n = c .before .before .before .before .before .before .before .before in
+    Picked (k n) (w n) (col n) (u n) (c .before .before .choose .result .row + 1)
 picked-next c =
     let n = c .before .before .before .before .before .before .before .before in
     record { some = l n .loop .inv .picked .some; size = c .before .before .choose .result .size; is = more c .2 }
@@ -144,7 +155,8 @@ returns c =
     let r = c .before .before .before in
     let l = c .before .before .before .before .before .before .loop in
     record {
-      answer = sym (ap (λ (y : Gathered). y .over) (sym (l .inv .rest)) ∙ marked (l .inv .tail) (l .inv .picked) (sym (told r .answer) ∙ c .if1 .taken));
+      answer =
+          sym (ap (λ (y : Gathered). y .over) (sym (l .inv .rest)) ∙ marked (l .inv .tail) (l .inv .picked) (sym (told r .answer) ∙ c .if1 .taken));
       left = λ e. absurd (true≢false e);
       row = λ e. absurd (true≢false e);
     }
@@ -174,7 +186,7 @@ sub-choose : tie.Need-sub-choose Inv-loop μ-loop
 sub-choose c = omega (arith, room (c .before .before .before), c .before .before .before .before .before .before .round .kept .0)
 
 part-choose-start : tie.Need-part-choose-start Inv-loop μ-loop
-part-choose-start c = omega (arith, room (c .before .before .before .before), c .before .before .before .before .before .before .before .round .kept .0)
+part-choose-start c = let n = c .before .before .before .before in omega (arith, room n, n .before .before .before .round .kept .0)
 
 part-choose-end : tie.Need-part-choose-end Inv-loop μ-loop
 part-choose-end c = search needs
@@ -185,7 +197,8 @@ sub-choose-2 c = omega (arith, c .before .before .before .before .before .before
 choose-requires : tie.Need-choose-requires Inv-loop μ-loop
 choose-requires c κs =
     let n = c .before .before .before .before .before in (
-      ap length (tail-is (w n) (u n)) ∙ omega (arith, length-drop (w n) (u n), tail-next n .wide, one-less (k n) (w n) (l n .loop .inv .picked .some)),
+      ap length (tail-is (w n) (u n))
+          ∙ omega (arith, length-drop (w n) (u n), tail-next n .wide, one-less (k n) (w n) (l n .loop .inv .picked .some)),
       l n .before .pre .0 .column,
     )
 
@@ -198,15 +211,19 @@ same-length-6 c = same-pivot (c .before .before .before .before .before .before 
 returns-3 : tie.Need-returns-3 Inv-loop μ-loop
 returns-3 c =
     let z = c .before .before .choose .result in
-    done (c .before .before .before .before .before .before .before .before) (sym (chosen-next (c .before .before)) ∙ sighted-none (z .row) (z .size) (c .if3 .taken))
+    done (c .before .before .before .before .before .before .before .before)
+    (sym (chosen-next (c .before .before)) ∙ sighted-none (z .row) (z .size) (c .if3 .taken))
 
 add-j : tie.Need-add-j Inv-loop μ-loop
-add-j c = omega (arith, chosen-low (tail-next (c .before .before .before .before .before .before .before .before .before)) (picked-next (c .before)), c .before .before .before .before .before .before .before .before .before .before .before .before .before .before .before .before .fits .rows)
+add-j c =
+    let n = c .before .before .before .before .before .before .before .before .before in
+    omega (arith, chosen-low (tail-next n) (picked-next (c .before)), l n .before .fits .rows)
 
 loop-less : tie.Need-loop-less Inv-loop μ-loop
 loop-less c =
     let m = more (c .before) in
-    omega (arith, m .1, ap sizeOf (m .2 .choice), ap sizeOf (c .before .before .before .before .before .before .before .before .before .before .before .before .before .before .before .loop .inv .picked .is .choice))
+    let n = c .before .before .before .before .before .before .before .before .before in
+    omega (arith, m .1, ap sizeOf (m .2 .choice), ap sizeOf (l n .loop .inv .picked .is .choice))
 
 loop-again : tie.Need-loop-again Inv-loop μ-loop
 loop-again c =

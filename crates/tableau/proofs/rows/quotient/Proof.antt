@@ -10,7 +10,9 @@ use Rattle.tableau.proofs.rows.quotient.Statement.{statement}
 use Rattle.tableau.proofs.rows.quotient.Tie as tie
 
 returns : tie.Need-returns
-returns c = toZ-ofZ (c .before .fits .e) ∙ sym (quotient-one (c .before .args .way) (c .before .args .e) (sym (toZ-ofZ (c .before .fits .p)) ∙ ap (toZ w64) (c .if1 .taken)))
+returns c =
+    let s = c .before in
+    toZ-ofZ (s .fits .e) ∙ sym (quotient-one (s .args .way) (s .args .e) (sym (toZ-ofZ (s .fits .p)) ∙ ap (toZ w64) (c .if1 .taken)))
 
 enum-told : tie.Need-enum-told
 enum-told c = search needs
@@ -25,10 +27,14 @@ floor-quotient-requires : tie.Need-floor-quotient-requires
 floor-quotient-requires c κs = search needs
 
 returns-2 : tie.Need-returns-2
-returns-2 c = cc (back (c .gathering-quotient .result) (c .gathering-quotient .ok), toZ-ofZ (c .before .before .before .before .fits .e), toZ-ofZ (c .before .before .before .before .fits .p))
+returns-2 c =
+    let s = c .before .before .before .before in
+    cc (back (c .gathering-quotient .result) (c .gathering-quotient .ok), toZ-ofZ (s .fits .e), toZ-ofZ (s .fits .p))
 
 returns-3 : tie.Need-returns-3
-returns-3 c = cc (back (c .floor-quotient .result) (c .floor-quotient .ok), toZ-ofZ (c .before .before .before .before .fits .e), toZ-ofZ (c .before .before .before .before .fits .p))
+returns-3 c =
+    let s = c .before .before .before .before in
+    cc (back (c .floor-quotient .result) (c .floor-quotient .ok), toZ-ofZ (s .fits .e), toZ-ofZ (s .fits .p))
 
 pub quotient-spec : {M : Type 1} → statement M
 quotient-spec =

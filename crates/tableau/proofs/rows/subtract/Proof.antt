@@ -28,7 +28,8 @@ same-length c = search needs
 returns : tie.Need-returns
 returns c =
     let s = c .before .before .before .before in
-    stops (s .args .pivot .now) (s .args .row .now) _ (ap (toZ w64) (sym (c .before .before .before .if1 .taken)) ∙ toZ-ofZ (s .fits .q)) (c .before .subtract-all .ensures)
+    stops (s .args .pivot .now) (s .args .row .now) _ (ap (toZ w64) (sym (c .before .before .before .if1 .taken)) ∙ toZ-ofZ (s .fits .q))
+    (c .before .subtract-all .ensures)
 
 subtract-all-requires-2 : tie.Need-subtract-all-requires-2
 subtract-all-requires-2 c κs = search needs
@@ -39,7 +40,8 @@ same-length-2 c = search needs
 returns-2 : tie.Need-returns-2
 returns-2 c =
     let s = c .before .before .before .before .before in
-    stops (s .args .pivot .now) (s .args .row .now) _ (ap (toZ w64) (sym (c .before .before .before .if2 .taken)) ∙ toZ-ofZ (s .fits .q)) (c .before .subtract-all2 .ensures)
+    stops (s .args .pivot .now) (s .args .row .now) _ (ap (toZ w64) (sym (c .before .before .before .if2 .taken)) ∙ toZ-ofZ (s .fits .q))
+    (c .before .subtract-all2 .ensures)
 
 subtract-all-requires-3 : tie.Need-subtract-all-requires-3
 subtract-all-requires-3 c κs = search needs

@@ -48,11 +48,15 @@ past c =
     omega (arith, c .before .loop .inv .written .same, length-plus (negℤ (toZ w64 (ofZ w64 (s .args .q)))) (s .args .pivot .now) (s .args .row .now))
 
 -- the row's number, as it is read
-read : (c : tie.After-less-product-arg Inv-loop μ-loop) → toZ w64 (ofZ w64 (entry (c .before .before .loop .i) (c .before .before .loop .row))) ≡ entry (c .before .before .loop .i) (c .before .before .before .args .row .now)
+read : (c : tie.After-less-product-arg Inv-loop μ-loop) →
+    let m = c .before .before in
+    toZ w64 (ofZ w64 (entry (m .loop .i) (m .loop .row))) ≡ entry (m .loop .i) (m .before .args .row .now)
 read c = back _ (c .less-product-arg .given) ∙ unread (c .before .before .loop .inv .written) (inside (c .before))
 
 -- the number that is stored is the difference's
-value : (c : tie.After-less-product Inv-loop μ-loop) → toZ w64 (ofZ w64 (c .less-product .result)) ≡ entry (c .before .before .before .before .loop .i) (goal (c .before .before .before .before .before))
+value : (c : tie.After-less-product Inv-loop μ-loop) →
+    let m = c .before .before .before .before in
+    toZ w64 (ofZ w64 (c .less-product .result)) ≡ entry (m .loop .i) (goal (m .before))
 value c =
     let m = c .before .before .before .before in
     let s = m .before in
@@ -78,13 +82,15 @@ shared-slice-copy-out-less-product : tie.Need-shared-slice-copy-out-less-product
 shared-slice-copy-out-less-product c = omega (arith, c .before .before .loop .inv .written .same, c .before .before .before .pre .0)
 
 less-product-requires : tie.Need-less-product-requires Inv-loop μ-loop
-less-product-requires c κs = (
-  rw (read (c .before)) (omega (arith, within-entry (c .before .before .before .before .args .row .now) (c .before .before .before .loop .i) (c .before .before .before .before .pre .1 .0 .0))),
-  (
-    rw (toZ-ofZ (c .before .before .before .before .fits .q)) (omega (arith, c .before .before .before .before .pre .1 .1)),
-    rw (back _ (c .less-product-arg2 .given)) (omega (arith, within-entry (c .before .before .before .before .args .pivot .now) (c .before .before .before .loop .i) (c .before .before .before .before .pre .1 .0 .1))),
-  ),
-)
+less-product-requires c κs =
+    let s = c .before .before .before .before in
+    let i = c .before .before .before .loop .i in (
+      rw (read (c .before)) (omega (arith, within-entry (s .args .row .now) i (s .pre .1 .0 .0))),
+      (
+        rw (toZ-ofZ (s .fits .q)) (omega (arith, s .pre .1 .1)),
+        rw (back _ (c .less-product-arg2 .given)) (omega (arith, within-entry (s .args .pivot .now) i (s .pre .1 .0 .1))),
+      ),
+    )
 
 mul-x : tie.Need-mul-x Inv-loop μ-loop
 mul-x c = search needs

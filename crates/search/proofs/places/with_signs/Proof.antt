@@ -1,0 +1,118 @@
+-- `search::places::with_signs` meets its contract: the pairs with the signs before y are beaten. Assumes nothing.
+use mathlib.Core.Path.{sym, _∙_, subst}
+use mathlib.Core.Logic.{⊎-elim}
+use Prim.Native.Nat.{ℕ, _-_, _<_}
+use native.Mathlib.Omega.{arith}
+use borrow.Author.Count.{below-more}
+use borrow.Author.Needs.{needs}
+use borrow.Author.Tests.{not-false}
+use Rattle.search.specs.Progress.{Beat, Kept, both}
+use Rattle.search.proofs.Pairing.{kept-same, kept-then, kept-beat, noted-inside, open-quiet, shut-by}
+use Rattle.search.proofs.places.with_signs.Statement.{statement}
+use Rattle.search.proofs.places.with_signs.Tie as tie
+
+abbrev Inv-loop : tie.InvT-loop
+Inv-loop here columns values basis order supports notes t z s x best₀ y₀ best y =
+    Kept (here .search) columns values basis order z best
+    × ((j : ℕ) → j < y → Beat (here .search) columns values basis order best (both s x t j))
+
+abbrev μ-loop : tie.MeasureT-loop
+μ-loop here columns values basis order supports notes t z s x best₀ y₀ best y = 2 - y
+
+loop-holds : tie.Need-loop-holds Inv-loop μ-loop
+loop-holds c = (kept-same (c .before .before .before .pre .5), λ j l. absurd (omega arith))
+
+is-shut-requires : tie.Need-is-shut-requires Inv-loop μ-loop
+is-shut-requires c κs =
+    let p = c .before .before .before .before .before .pre in
+    let r = p .0 .setup .searchable .ready in (
+      r .basis,
+      p .0 .room,
+      p .1,
+      omega (arith, p .4 .inside, r .few-vectors),
+      c .loop-test .taken,
+      noted-inside (p .0) (p .4) (c .before .loop .y) (c .loop-test .taken),
+    )
+
+both-requires : tie.Need-both-requires Inv-loop μ-loop
+both-requires c κs = search needs
+
+try-pair-requires : tie.Need-try-pair-requires Inv-loop μ-loop
+try-pair-requires c κs =
+    let s = c .before .before .before .before .before .before .before .before in
+    let p = s .pre in (
+      p .0 .setup,
+      p .0 .here,
+      p .0 .supported,
+      record {
+        s-inside = p .1;
+        t-inside = p .4 .inside;
+        apart = p .4 .apart;
+        marks = (s .args .lead .x, c .before .before .before .before .loop .y, c .both .ensures);
+        s-quiet = p .3 .quiet;
+        t-quiet = open-quiet (p .0) (p .4);
+      },
+      c .before .before .before .before .loop .inv .0 .incumbent,
+    )
+
+add-y : tie.Need-add-y Inv-loop μ-loop
+add-y c = omega arith
+
+loop-less : tie.Need-loop-less Inv-loop μ-loop
+loop-less c = omega arith
+
+-- after the sign y
+module _ (c : tie.Joined1 Inv-loop μ-loop) where
+  done :
+      let a = c .before .before .before .before .before .before .before .args in
+      let l = c .before .before .before .loop in
+      Kept (a .here .search) (a .columns .now) (a .values .now) (a .basis .now) (a .order .now) (l .best) (c .if1 .best)
+      × Beat (a .here .search) (a .columns .now) (a .values .now) (a .basis .now) (a .order .now) (c .if1 .best)
+      (both (a .lead .s) (a .lead .x) (a .t) (l .y))
+  done =
+      let s = c .before .before .before .before .before .before .before in
+      let a = s .args in
+      let p = s .pre in
+      let l = c .before .before .before .loop in
+      let r = c .before .is-shut in
+      ⊎-elim
+      (λ w.
+      let u = w .2 in
+      let B = Beat (a .here .search) (a .columns .now) (a .values .now) (a .basis .now) (a .order .now) (u .result) in
+      rw (w .3) (u .ensures .0, subst B (w .1 .ensures) (u .ensures .1)))
+      (λ w.
+      rw (w .1) (
+        kept-same (l .inv .0 .incumbent),
+        shut-by (p .0) (a .lead .x) (l .y) (l .best) (c .before .before .loop-test .taken) (p .3) (p .4)
+            (sym (r .ensures) ∙ not-false (r .result) (w .0 .left)),
+      ))
+      (c .if1 .came)
+
+loop-again : tie.Need-loop-again Inv-loop μ-loop
+loop-again c =
+    let a = c .before .before .before .before .before .before .before .args in
+    let i = c .before .before .before .loop .inv in
+    let d = done c in (
+      kept-then (i .0) (d .0),
+      below-more _ (c .before .before .before .loop .y) (λ j l. kept-beat (d .0) (both (a .lead .s) (a .lead .x) (a .t) j) (i .1 j l)) (d .1),
+    )
+
+returns : tie.Need-returns Inv-loop μ-loop
+returns c =
+    let i = c .before .loop .inv in
+    (i .0, λ y h. i .1 y (omega arith))
+
+pub with-signs-spec : {M : Type 1} → statement M
+with-signs-spec =
+    tie.close
+    (tie.spec
+    Inv-loop
+    μ-loop
+    loop-holds
+    is-shut-requires
+    both-requires
+    try-pair-requires
+    add-y
+    loop-less
+    loop-again
+    returns)
