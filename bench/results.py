@@ -15,6 +15,7 @@ HEAD = ["deck", "n × m, r", "answer", "form: ours, at most", "tuned", "FLINT", 
 
 # The targets that docs/PERFORMANCE.md names.
 MOST_OVER_TUNED = 2
+MOST_OVER_TUNED_HERE = 1.5
 PARI_COLUMNS = 16
 # What a tuned engine took before, and FLINT's form beside it, in microseconds: ratios that any machine can be held to.
 REFERENCE = {"mapped-16-1": (3.5, 37), "mapped-48-1": (43, 614), "mixed-48-2": (70, 476),
@@ -162,8 +163,8 @@ def targets(results):
               against_solver(results, "lpsolve")),
         judge("whole assignment within twice a tuned engine's time of before, by way of FLINT's form",
               against_reference(results), MOST_OVER_TUNED),
-        judge("whole assignment within twice the time of the tuned engine here",
-              against(results, "ours", "tuned"), MOST_OVER_TUNED),
+        judge("whole assignment within 1.5 times the time of the tuned engine here",
+              against(results, "ours", "tuned"), MOST_OVER_TUNED_HERE),
         search_target(results)])
 
 
