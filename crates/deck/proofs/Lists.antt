@@ -10,11 +10,11 @@ use lib.Seq.{drop-at, drop-drop, take-append-le}
 use Rattle.whole.specs.Lists.{zeros, entry}
 use Rattle.problem.specs.Kinds.{Slack, none, slack, slackOf, slackCount}
 use Rattle.sections.specs.Sections.{deckColumns, Line}
-use Rattle.sections.specs.Columns.{placed, withSlack, coefficientRow, coefficientRows, columnWidth, cell, cells}
+use Rattle.sections.specs.StatedColumns.{placed, withSlack, coefficientRow, coefficientRows, columnWidth, cell, cells}
 use Rattle.sections.specs.declared.Interval.{Interval}
 use Rattle.sections.specs.declared.Term.{Term}
 use Rattle.sections.proofs.Storage.{length-row, drop-zeros}
-use Rattle.deck.specs.Steps.{compacted, picked}
+use Rattle.deck.specs.ReaderTables.{compacted, picked}
 
 -- the first n numbers of a wider row are the row of n
 take-set : (n : ℕ) (u : List ℤ) (i : ℕ) (x : ℤ) → take n (set u i x) ≡ set (take n u) i x

@@ -12,7 +12,7 @@ use lib.IntN.{ℤ, pos}
 use lib.ListN.{length, take, drop, replicate, length-append, length-map}
 use lib.Seq.{length-take-le}
 use Rattle.whole.specs.Lists.{zeros, entry}
-use Rattle.text.specs.Buffers.{written}
+use Rattle.text.specs.Written.{written}
 use Rattle.text.specs.Positions.{nextAt}
 use Rattle.text.specs.declared.Token.{Token}
 use Rattle.text.specs.declared.Next.{Next}
@@ -21,15 +21,15 @@ use Rattle.problem.specs.declared.Refusal.{Refusal}
 use Rattle.problem.specs.declared.Refusal.the-variants.{Length, Layout}
 use Rattle.sections.specs.Rules.{Outcome, ok, no, then, onEnd, closed}
 use Rattle.sections.specs.Sections.{deckColumns, deckRows, coefficientCount, maxText, Line, intervalSection, rowSection}
-use Rattle.sections.specs.Columns.{lowerOf, upperOf, goalOf, rightOf, slackColumns, coefficientRows, columnWidth, columnCells, cell, cells, padded}
-use Rattle.sections.specs.Steps.{cursor, IntervalsDone, intervalsDone, intervalsLeft, RowsDone, rowsDone, rowsLeft}
+use Rattle.sections.specs.StatedColumns.{lowerOf, upperOf, goalOf, rightOf, slackColumns, coefficientRows, columnWidth, columnCells, cell, cells, padded}
+use Rattle.sections.specs.SectionsRead.{cursor, IntervalsDone, intervalsDone, intervalsLeft, RowsDone, rowsDone, rowsLeft}
 use Rattle.sections.specs.declared.Interval.{Interval}
 use Rattle.sections.specs.declared.Cursor.{Cursor}
 use Rattle.sections.specs.declared.Section.{Section}
 use Rattle.sections.specs.declared.Section.the-variants as section
 use Rattle.deck.specs.Posing.{Deck, deck, readDeck, columnsOf, posed}
 use Rattle.deck.specs.Reader.{DeckBuffers, deckBuffers, readDone, lengthsFit, turnedBack, accepted, read}
-use Rattle.deck.specs.Steps.{noneLeft, DeckStored, compacted, picked}
+use Rattle.deck.specs.ReaderTables.{noneLeft, DeckStored, compacted, picked}
 use Rattle.deck.specs.declared.Reading.the-variants.{Read}
 use Rattle.text.proofs.Copying.{written-all}
 use Rattle.sections.proofs.Storage.{padded-written, from-blank, wiped, cells-two, length-cells, length-rows}

@@ -1,4 +1,4 @@
 -- The root of the definitions.
 pub mod Posing
 pub mod Reader
-pub mod Steps
+pub mod ReaderTables

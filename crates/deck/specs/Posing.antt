@@ -14,7 +14,7 @@ use Rattle.problem.specs.Checks.{Posed}
 use Rattle.problem.specs.declared.Refusal.the-variants.{Layout}
 use Rattle.sections.specs.Rules.{Outcome, no, then, closed}
 use Rattle.sections.specs.Sections.{maxText, Line, intervalSection, rowSection}
-use Rattle.sections.specs.Columns.{slackColumns, coefficientRows, lowerOf, upperOf, goalOf, rightOf}
+use Rattle.sections.specs.StatedColumns.{slackColumns, coefficientRows, lowerOf, upperOf, goalOf, rightOf}
 use Rattle.sections.specs.declared.Interval.{Interval}
 
 pub record Deck : Type 0 where

@@ -17,7 +17,7 @@ use Rattle.problem.specs.declared.Refusal.{Refusal}
 use Rattle.problem.specs.declared.Refusal.the-variants.{Length}
 use Rattle.sections.specs.Rules.{Outcome, ok, no}
 use Rattle.sections.specs.Sections.{deckColumns, deckRows, coefficientCount}
-use Rattle.sections.specs.Columns.{padded}
+use Rattle.sections.specs.StatedColumns.{padded}
 use Rattle.deck.specs.Posing.{Deck, readDeck, posed}
 use Rattle.deck.specs.declared.Reading.{Reading}
 use Rattle.deck.specs.declared.Reading.the-variants.{Read, Refused}

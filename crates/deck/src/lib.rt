@@ -13,10 +13,10 @@ use text::buffers::fill;
 ghost use mathlib.Core.Path.{_≡_};
 ghost use Rattle.text.specs.Positions.{nextAt};
 ghost use Rattle.sections.specs.Sections.{deckRows, coefficientCount};
-ghost use Rattle.sections.specs.Columns.{columnCells, blank};
+ghost use Rattle.sections.specs.StatedColumns.{columnCells, blank};
 ghost use Rattle.deck.specs.Posing.{deck as deck·rule};
 ghost use Rattle.deck.specs.Reader.{deckBuffers, readDone, largest, read};
-ghost use Rattle.deck.specs.Steps.{noneLeft, DeckRead};
+ghost use Rattle.deck.specs.ReaderTables.{noneLeft, DeckRead};
 
 // What the reader returns: n and m, or why the text is turned back.
 pub enum Reading {

@@ -4,10 +4,10 @@ use text::buffers::copy;
 ghost use mathlib.Core.Path.{_≡_};
 ghost use Prim.Native.Nat.{_≤_, _<_};
 ghost use lib.ListN.{length};
-ghost use Rattle.text.specs.Buffers.{written};
+ghost use Rattle.text.specs.Written.{written};
 ghost use Rattle.sections.specs.Sections.{deckColumns, deckRows, coefficientCount};
-ghost use Rattle.sections.specs.Columns.{columnWidth, columnCells};
-ghost use Rattle.deck.specs.Steps.{compacted, picked};
+ghost use Rattle.sections.specs.StatedColumns.{columnWidth, columnCells};
+ghost use Rattle.deck.specs.ReaderTables.{compacted, picked};
 
 // The first n of each row's coefficients, without gaps.
 pub fn compact(table: &[i64], n: usize, m: usize, out: &mut [i64])

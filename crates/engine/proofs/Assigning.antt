@@ -15,15 +15,15 @@ use lib.ListN.{length, take}
 use Rattle.lattice.specs.Rows.{allZero, flat}
 use Rattle.lattice.specs.Span.{All}
 use Rattle.lattice.specs.Hermite.{Led, Rising}
-use Rattle.lattice.specs.FlatLaws.{length-chop}
+use Rattle.lattice.proofs.FlatLaws.{length-chop}
 use Rattle.problem.specs.Checks.{Posed, firstCause}
-use Rattle.problem.specs.CheckLaws.{Passes, passes, fits}
+use Rattle.problem.proofs.CheckLaws.{Passes, passes, fits}
 use Rattle.problem.specs.declared.Lent.{Lent}
 use Rattle.problem.specs.declared.Check.the-variants.{Passed, Failed}
 use Rattle.problem.specs.declared.Refusal.{Refusal}
 use Rattle.problem.specs.declared.Refusal.the-variants.{NoWholeNumbers, Standing}
 use Rattle.tableau.specs.RightSide.{basis, Found, none, some, Solved, rightSide, solve}
-use Rattle.tableau.specs.Theorems.{problem-basis, basis-rising, solve-tells}
+use Rattle.tableau.proofs.Theorems.{problem-basis, basis-rising, solve-tells}
 use Rattle.rightside.specs.Solutions.{answerOf, solutionOf}
 use Rattle.rightside.specs.declared.Solution.the-variants.{Over, None, Found as Met}
 use Rattle.rightside.proofs.Answers.{solution-over, solution-none}
@@ -32,7 +32,7 @@ use Rattle.settling.proofs.Keeping.{never}
 use Rattle.engine.specs.Assign.{Buffers, Done, done, n, m, matrix, columns, lentOf, refused, overLimit, settleOn, onSeated, solved, assignFit, assign, stands, formed, continueFit, continue}
 use Rattle.engine.specs.Demand.{Within, within-sized}
 use Rattle.engine.specs.Satisfied.{found-basis}
-use Rattle.engine.specs.Views.{basisOf}
+use Rattle.engine.specs.BasisPlace.{basisOf}
 use Rattle.engine.specs.Finish.{Finished, settledBy, onSeat, finished, Finishable}
 use Rattle.engine.proofs.Readiness.{table}
 use Rattle.engine.proofs.Forming.{Laid, laid-basis, laid-placed, start-small}

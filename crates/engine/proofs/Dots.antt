@@ -26,13 +26,13 @@ use mir.Val.{toZ, ofZ}
 use mir.Facts.{toZ-ofZ}
 use Rattle.whole.specs.Lists.{entry}
 use Rattle.whole.specs.Tests.{spans}
-use Rattle.whole.specs.Counted.{every-all}
+use Rattle.whole.proofs.Counted.{every-all}
 use Rattle.whole.proofs.Signed.{abs-add, abs-mul, sfits-abs}
 use Rattle.lattice.specs.Sums.{dot}
 use Rattle.problem.specs.Limits.{M, maxColumns, maxRows, maxCoefficient, anyBeyond}
 use Rattle.problem.specs.Checks.{allSpan}
-use Rattle.problem.specs.CheckLaws.{all-small}
-use Rattle.tableau.specs.Within.{within-entry}
+use Rattle.problem.proofs.CheckLaws.{all-small}
+use Rattle.tableau.proofs.Within.{within-entry}
 use Rattle.engine.specs.Standing.{maxSum, Summable, RowStandable}
 
 abbrev pub step : ℕ

@@ -10,11 +10,11 @@ use Prim.Native.Nat.{ℕ, _≤_}
 use lib.IntN.{ℤ, natAbs}
 use lib.ListN.{length}
 use Rattle.whole.specs.Lists.{entry}
-use Rattle.lattice.specs.RowLaws.{length-plus}
+use Rattle.lattice.proofs.RowLaws.{length-plus}
 use Rattle.problem.specs.Limits.{M, anyBeyond}
 use Rattle.problem.specs.declared.Refusal.the-variants.{Seating}
 use Rattle.problem.specs.declared.Answer.the-variants.{Refused}
-use Rattle.tableau.specs.Within.{within-entry}
+use Rattle.tableau.proofs.Within.{within-entry}
 use Rattle.settling.specs.Columns.{Columns}
 use Rattle.settling.specs.Ready.{Ready}
 use Rattle.settling.specs.Seating.{Seated, seated, far, seatOne, seat, leaves}

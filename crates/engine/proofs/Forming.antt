@@ -17,23 +17,25 @@ use Rattle.whole.specs.Lists.{entry, zeros}
 use Rattle.lattice.specs.Rows.{neg, allZero, flat, chop}
 use Rattle.lattice.specs.Span.{All, Len}
 use Rattle.lattice.specs.Hermite.{Rising}
-use Rattle.lattice.specs.FlatLaws.{length-chop, chop-flat}
+use Rattle.lattice.proofs.FlatLaws.{length-chop, chop-flat}
 use Rattle.problem.specs.Limits.{M, maxCoefficient, maxRight}
+use Rattle.tableau.specs.Within.{Within}
 use Rattle.problem.specs.Checks.{Posed, allSpan}
-use Rattle.problem.specs.CheckLaws.{Passes, Fits, fits, both-true}
+use Rattle.problem.proofs.CheckLaws.{Passes, Fits, fits, both-true}
 use Rattle.problem.specs.declared.Lent.{Lent}
 use Rattle.tableau.specs.Table.{tableau}
 use Rattle.tableau.specs.Elimination.{Left}
 use Rattle.tableau.specs.RightSide.{sweep, leading, remaining, basis, none, some, Solved, rightSide, form, solve}
-use Rattle.tableau.specs.Theorems.{problem-count, problem-wide, problem-rising}
-use Rattle.tableau.specs.Within.{Within, within-append, within-neg, within-zeros, within-drop, within-entry}
-use Rattle.tableau.specs.Buffers.{Formable}
+use Rattle.tableau.proofs.Theorems.{problem-count, problem-wide, problem-rising}
+use Rattle.tableau.proofs.Within.{within-append, within-neg, within-zeros, within-drop, within-entry}
+use Rattle.tableau.specs.LentTable.{Formable}
 use Rattle.rightside.specs.Solutions.{Solvable}
 use Rattle.tableau.proofs.Forms.{table-within, span-within}
 use Rattle.tableau.proofs.Staying.{flat-all, all-flat, eliminate-all}
 use Rattle.rightside.proofs.Sweeping.{sweep-within}
 use Rattle.engine.specs.Assign.{n, m, matrix, solved, formed}
-use Rattle.engine.specs.Views.{width, tableOf, basisOf, Parted, flat-length}
+use Rattle.engine.specs.BasisPlace.{width, tableOf, basisOf, Parted}
+use Rattle.engine.proofs.BasisLaws.{flat-length}
 use Rattle.engine.specs.Placed.{Placed}
 use Rattle.engine.proofs.Readiness.{view-lies, table, ready}
 

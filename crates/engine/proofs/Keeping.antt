@@ -17,7 +17,7 @@ use Rattle.lattice.specs.Rows.{chop}
 use Rattle.lattice.specs.Sums.{dot, sums}
 use Rattle.problem.specs.Limits.{anyBeyond}
 use Rattle.problem.specs.Checks.{Posed}
-use Rattle.problem.specs.CheckLaws.{Fits}
+use Rattle.problem.proofs.CheckLaws.{Fits}
 use Rattle.problem.specs.declared.Lent.{Lent}
 use Rattle.engine.specs.Assign.{n, m, matrix, stands}
 use Rattle.engine.specs.Standing.{keepsRow, standsIn, Standable}

@@ -15,7 +15,7 @@ use lib.Seq.{getD-drop}
 use Rattle.whole.specs.Lists.{entry}
 use Rattle.problem.specs.Limits.{M}
 use Rattle.problem.specs.Checks.{Posed}
-use Rattle.problem.specs.CheckLaws.{Fits}
+use Rattle.problem.proofs.CheckLaws.{Fits}
 use Rattle.problem.specs.declared.Problem.{Problem}
 use Rattle.problem.specs.declared.Lent.{Lent}
 use Rattle.settling.specs.Columns.{Columns, columnsIn, packed}
@@ -23,7 +23,7 @@ use Rattle.settling.specs.Views.{Viewed}
 use Rattle.settling.specs.Ready.{FitColumn, Ready}
 use Rattle.settling.proofs.Packing.{packed-length, packed-columns}
 use Rattle.engine.specs.Assign.{n, m, columns}
-use Rattle.engine.specs.Views.{width, basisView, basisStart}
+use Rattle.engine.specs.BasisPlace.{width, basisView, basisStart}
 
 -- a number of vector s, counted from row h on, lies in the table
 inside : (k h w m s j : ℕ) → h + suc s ≤ k → m + suc j ≤ w → h * w + m + (s * w + j) < k * w

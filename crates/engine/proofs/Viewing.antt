@@ -16,8 +16,8 @@ use lib.Dec.{ltb}
 use lib.IntN.{ℤ}
 use lib.ListN.{length, take, drop, length-drop}
 use lib.Seq.{take-all}
-use Rattle.whole.specs.Integers.{positive-above}
-use Rattle.lattice.specs.Span.{all-at}
+use Rattle.whole.proofs.Integers.{positive-above}
+use Rattle.lattice.proofs.Span.{all-at}
 use Rattle.lattice.specs.Hermite.{Led, Rising}
 use Rattle.problem.specs.Limits.{maxColumns, maxRows}
 use Rattle.problem.specs.declared.Problem.{Problem}
@@ -26,9 +26,11 @@ use Rattle.settling.specs.Columns.{Columns, columnsIn}
 use Rattle.settling.specs.Ready.{Ready}
 use Rattle.settling.specs.Moves.{vector}
 use Rattle.settling.specs.Seats as Seats
-use Rattle.settling.specs.Views.{vectors, rows-length}
+use Rattle.settling.specs.Views.{vectors}
+use Rattle.settling.proofs.Views.{rows-length}
 use Rattle.settling.specs.declared.Basis.{Basis}
-use Rattle.engine.specs.Views.{width, basisView, basisStart, tableOf, basisOf, placeOf, Parted, basis-in}
+use Rattle.engine.specs.BasisPlace.{width, basisView, basisStart, tableOf, basisOf, placeOf, Parted}
+use Rattle.engine.proofs.BasisLaws.{basis-in}
 use Rattle.engine.specs.Placed.{Placed, LedBasis}
 use Rattle.engine.specs.declared.views.Place.{Place}
 use Rattle.engine.proofs.Sizes.{maxTableau, product-small}

@@ -21,17 +21,17 @@ use Prim.Native.Nat.{ℕ, zero, suc}
 use native.Mathlib.Omega.{arith}
 use lib.IntN.{ℤ}
 use Rattle.lattice.specs.Sums.{Satisfies}
-use Rattle.lattice.specs.FlatLaws.{chop-rows, length-chop}
+use Rattle.lattice.proofs.FlatLaws.{chop-rows, length-chop}
 use Rattle.problem.specs.Answers.{noSteps, isVerdict}
 use Rattle.problem.specs.Checks.{Posed, firstCause}
-use Rattle.problem.specs.CheckLaws.{passes, Fits, fits}
+use Rattle.problem.proofs.CheckLaws.{passes, Fits, fits}
 use Rattle.problem.specs.declared.Refusal.the-variants.{Elimination, NoWholeNumbers}
 use Rattle.problem.specs.declared.Check.the-variants.{Passed}
 use Rattle.problem.specs.declared.Counts.{Counts}
 use Rattle.problem.specs.declared.Answer.the-variants.{Spent, Refused}
 use Rattle.tableau.specs.RightSide.{Found, none, some, solve}
 use Rattle.tableau.specs.Generators.{Sized}
-use Rattle.tableau.specs.Theorems.{solve-same}
+use Rattle.tableau.proofs.Theorems.{solve-same}
 use Rattle.settling.specs.Columns.{Columns, listed}
 use Rattle.settling.specs.Seating.{Seated, seated, far, seat}
 use Rattle.settling.specs.Moves.{moved}

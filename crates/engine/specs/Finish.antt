@@ -18,7 +18,7 @@ use Rattle.settling.specs.Columns.{Columns}
 use Rattle.settling.specs.Seating.{Seated, seated, far, seat}
 use Rattle.settling.specs.Settle.{settle}
 use Rattle.settling.specs.Strides.{strides}
-use Rattle.engine.specs.Views.{basisOf}
+use Rattle.engine.specs.BasisPlace.{basisOf}
 use Rattle.engine.specs.Placed.{Placed, LedBasis, Stridable}
 
 pub record Finished : Type 0 where

@@ -1,6 +1,6 @@
 -- The root of the definitions.
 pub mod Assign
-pub mod Views
+pub mod BasisPlace
 pub mod Placed
 pub mod Finish
 pub mod Standing

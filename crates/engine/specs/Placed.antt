@@ -14,7 +14,7 @@ use Rattle.lattice.specs.Hermite.{Led, Rising}
 use Rattle.problem.specs.Limits.{maxRows}
 use Rattle.problem.specs.declared.Problem.{Problem}
 use Rattle.settling.specs.Ready.{Ready}
-use Rattle.engine.specs.Views.{basisView, basisStart, basisOf, Parted}
+use Rattle.engine.specs.BasisPlace.{basisView, basisStart, basisOf, Parted}
 
 pub record Placed (p : Problem) (t v c : List ℤ) : Type 0 where
   pub few-rows : p .rows ≤ maxRows

@@ -6,27 +6,30 @@
 use mathlib.Core.Path.{_≡_, refl, sym, _∙_, ap, subst}
 use mathlib.Core.Bool.{Bool, true, false, not, cond, _||_, true≢false}
 use mathlib.Core.List.{List, [], _∷_, _++_}
-use Prim.Native.Nat.{ℕ, _+_}
+use Prim.Native.Nat.{ℕ}
 use native.Mathlib.Omega.{arith}
 use lib.IntN.{ℤ, pos, negsuc, _-ℤ_}
 use lib.ListN.{length, take, drop}
 use lib.Seq.{ext-getD}
 use Rattle.whole.specs.Lists.{entry, zeros}
 use Rattle.whole.specs.Tests.{isZero, every}
-use Rattle.whole.specs.Counted.{every-at}
-use Rattle.whole.specs.Integers.{rep, diff-rel, isZero-true}
+use Rattle.whole.proofs.Counted.{every-at}
+use Rattle.whole.proofs.Integers.{rep, diff-rel, isZero-true}
 use Rattle.lattice.specs.Rows.{plus, minus, neg, allZero}
-use Rattle.lattice.specs.RowLaws.{length-plus, plus-comm}
+use Rattle.lattice.proofs.RowLaws.{length-plus, plus-comm}
 use Rattle.lattice.specs.Sums.{sums}
-use Rattle.lattice.specs.SumLaws.{length-sums}
-use Rattle.lattice.specs.FlatLaws.{length-chop}
-use Rattle.lattice.specs.Span.{All, Len, Span, all-map, all-both, span-row, span-under, span-plus}
-use Rattle.lattice.specs.Hermite.{width, rows, Led, rows-led}
-use Rattle.lattice.specs.Coset.{Describes, coset-self}
+use Rattle.lattice.proofs.SumLaws.{length-sums}
+use Rattle.lattice.proofs.FlatLaws.{length-chop}
+use Rattle.lattice.specs.Span.{All, Len, Span}
+use Rattle.lattice.proofs.Span.{all-map, all-both, span-row, span-under, span-plus}
+use Rattle.lattice.specs.Hermite.{width, rows, Led}
+use Rattle.lattice.proofs.Hermite.{rows-led}
+use Rattle.lattice.specs.Coset.{Describes}
+use Rattle.lattice.proofs.Coset.{coset-self}
 use Rattle.problem.specs.Limits.{anyBeyond}
 use Rattle.problem.specs.Answers.{noSteps, isVerdict}
 use Rattle.problem.specs.Checks.{Posed, firstCause}
-use Rattle.problem.specs.CheckLaws.{both-true, passes, fits}
+use Rattle.problem.proofs.CheckLaws.{both-true, passes, fits}
 use Rattle.problem.specs.declared.Counts.{Counts}
 use Rattle.problem.specs.declared.Refusal.the-variants.{Standing}
 use Rattle.problem.specs.declared.Check.{Check}
@@ -35,7 +38,7 @@ use Rattle.problem.specs.declared.Answer.the-variants.{Fitted}
 use Rattle.tableau.specs.Elimination.{Left}
 use Rattle.tableau.specs.RightSide.{sweep, leading, remaining, basis, Found, none, some, Solved, rightSide, form, solve}
 use Rattle.tableau.specs.Generators.{Tells, Sized}
-use Rattle.tableau.specs.Theorems.{solve-tells, solve-none}
+use Rattle.tableau.proofs.Theorems.{solve-tells, solve-none}
 use Rattle.settling.specs.Seating.{Seated, seated, far, seat}
 use Rattle.settling.specs.Steps.{inBounds}
 use Rattle.settling.specs.Settle.{settle}

@@ -1,7 +1,7 @@
 ghost use mathlib.Core.Path.{_≡_};
 ghost use Prim.Native.Nat.{_≤_};
 ghost use Rattle.problem.specs.Limits.{maxColumns, maxRows};
-ghost use Rattle.engine.specs.Views.{Parted, placeBehind, placeOf};
+ghost use Rattle.engine.specs.BasisPlace.{Parted, placeBehind, placeOf};
 use problem::Problem;
 use rightside::leading_rows;
 use settling::Basis;

@@ -1,4 +1,10 @@
 -- The root of the laws that the proofs cite.
 pub mod Writing
 pub mod Scanning
-pub mod Parts
+pub mod LentParts
+pub mod Coset
+pub mod Span
+pub mod Hermite
+pub mod RowLaws
+pub mod FlatLaws
+pub mod SumLaws

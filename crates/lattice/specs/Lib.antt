@@ -1,9 +1,6 @@
 -- The root of the definitions and of the lattice's laws.
 pub mod Rows
 pub mod Sums
-pub mod RowLaws
 pub mod Span
-pub mod FlatLaws
-pub mod SumLaws
 pub mod Hermite
 pub mod Coset

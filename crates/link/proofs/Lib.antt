@@ -1,3 +1,5 @@
 -- The root of the laws that the proofs cite.
 pub mod Telling
 pub mod Sizes
+pub mod CallLaws
+pub mod ReadLaws

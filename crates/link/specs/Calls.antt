@@ -5,15 +5,12 @@
 --   told d             of a whole assignment or a Continue that has done d: the refusal's number, 0 for a verdict, and the report
 --   untold B r         where the report r has a wrong length: refusal 2, "nothing changed"
 --   called f P B r     either, by the length of r; f is `assign` or `continue`
---   called-told, called-untold   which of the two it is
 -- Assumes nothing.
-use mathlib.Core.Path.{_≡_}
 use mathlib.Core.Bool.{cond}
 use mathlib.Core.List.{List, [], _∷_}
 use Prim.Native.Nat.{ℕ}
 use lib.Dec.{eqb}
 use lib.ListN.{length}
-use borrow.Author.Tests.{eq-eqb, ne-eqb}
 use Rattle.problem.specs.Answers.{refusalNumber, answerNumber, answerCounts}
 use Rattle.problem.specs.Checks.{Posed}
 use Rattle.problem.specs.declared.Problem.{Problem}
@@ -53,12 +50,3 @@ untold B r = returned (refusalNumber Length) B r
 
 unfoldable pub called : (Posed → Buffers → Done) → Posed → Buffers → List ℕ → Called
 called f P B r = cond (eqb (length r) reportLength) (told (f P B)) (untold B r)
-
-module _ (f : Posed → Buffers → Done) (P : Posed) (B : Buffers) (r : List ℕ) where
-  pub called-told : length r ≡ reportLength → called f P B r ≡ told (f P B)
-  unfolding called
-  called-told e = rw (eq-eqb (length r) reportLength e)
-
-  pub called-untold : (length r ≡ reportLength → ⊥) → called f P B r ≡ untold B r
-  unfolding called
-  called-untold e = rw (ne-eqb (length r) reportLength e)

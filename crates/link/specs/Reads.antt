@@ -5,15 +5,12 @@
 --   readTold d        of a reader that has done d: the number, the five buffers of a problem, and the sizes
 --   readUntold B z    where the sizes z have a wrong length: refusal 2, "nothing changed"
 --   readCalled s B z  either, by the length of z; s is the text
---   read-called-told, read-called-untold   which of the two it is
 -- Assumes nothing.
-use mathlib.Core.Path.{_≡_}
 use mathlib.Core.Bool.{cond}
 use mathlib.Core.List.{List, [], _∷_}
 use Prim.Native.Nat.{ℕ}
 use lib.Dec.{eqb}
 use lib.ListN.{length}
-use borrow.Author.Tests.{eq-eqb, ne-eqb}
 use Rattle.problem.specs.Answers.{refusalNumber}
 use Rattle.problem.specs.declared.Refusal.the-variants.{Length}
 use Rattle.deck.specs.Reader.{DeckBuffers, ReadDone, read}
@@ -47,11 +44,3 @@ readUntold B z = readReturned (refusalNumber Length) B z
 
 unfoldable pub readCalled : List ℕ → DeckBuffers → List ℕ → ReadCalled
 readCalled s B z = cond (eqb (length z) sizesLength) (readTold (read s B)) (readUntold B z)
-
-pub read-called-told : (s : List ℕ) (B : DeckBuffers) (z : List ℕ) → length z ≡ sizesLength → readCalled s B z ≡ readTold (read s B)
-unfolding readCalled
-read-called-told s B z e = rw (eq-eqb (length z) sizesLength e)
-
-pub read-called-untold : (s : List ℕ) (B : DeckBuffers) (z : List ℕ) → (length z ≡ sizesLength → ⊥) → readCalled s B z ≡ readUntold B z
-unfolding readCalled
-read-called-untold s B z e = rw (ne-eqb (length z) sizesLength e)

@@ -3,4 +3,3 @@ pub mod Limits
 pub mod Kinds
 pub mod Answers
 pub mod Checks
-pub mod CheckLaws

@@ -14,13 +14,14 @@ use lib.ListN.{length, take, drop, length-append, length-replicate, replicate-ap
 use lib.Seq.{drop-at}
 use Rattle.whole.specs.Lists.{zeros}
 use Rattle.lattice.specs.Rows.{neg, allZero, chop}
-use Rattle.lattice.specs.RowLaws.{length-neg}
+use Rattle.lattice.proofs.RowLaws.{length-neg}
 use Rattle.problem.specs.declared.Problem.{Problem}
 use Rattle.tableau.specs.Elimination.{Left}
 use Rattle.tableau.specs.RightSide as RightSide
 use Rattle.tableau.specs.RightSide.{none, some, Solved, sweep, leading, remaining, basis, rightSide, leftOf, listLeft}
 use Rattle.rightside.specs.Solutions.{answerOf, solutionOf, startOf, startAfter, Righted, righted}
-use Rattle.tableau.specs.Within.{Within, within-append, within-neg, within-zeros}
+use Rattle.tableau.specs.Within.{Within}
+use Rattle.tableau.proofs.Within.{within-append, within-neg, within-zeros}
 use Rattle.rightside.specs.Sweeps.{Findable, foundOf}
 use Rattle.rightside.specs.declared.Solution.{Solution}
 use Rattle.rightside.specs.declared.Solution.the-variants.{Over, None, Found}

@@ -15,13 +15,15 @@ use lib.IntN.{ℤ}
 use lib.ListN.{length, take, drop, length-drop}
 use lib.Seq.{length-take-le, take-at, drop-at}
 use Rattle.lattice.specs.Rows.{lead, chop}
-use Rattle.lattice.specs.Span.{All, all-append}
-use Rattle.lattice.specs.Hermite.{Rising, rising-parts}
-use Rattle.lattice.specs.FlatLaws.{chop-split, chop-take, length-chop}
+use Rattle.lattice.specs.Span.{All}
+use Rattle.lattice.proofs.Span.{all-append}
+use Rattle.lattice.specs.Hermite.{Rising}
+use Rattle.lattice.proofs.Hermite.{rising-parts}
+use Rattle.lattice.proofs.FlatLaws.{chop-split, chop-take, length-chop}
 use Rattle.tableau.specs.RightSide.{leading, remaining}
-use Rattle.tableau.specs.RightLaws.{rising-split}
-use Rattle.tableau.specs.Steps.{Leads}
-use Rattle.tableau.specs.Within.{within-take, within-drop}
+use Rattle.tableau.proofs.RightLaws.{rising-split}
+use Rattle.tableau.specs.RowSteps.{Leads}
+use Rattle.tableau.proofs.Within.{within-take, within-drop}
 use Rattle.rightside.specs.Sweeps.{Sweepable}
 
 leading-few : (m : ℕ) (T : List (List ℤ)) → length (leading m T) ≤ length T

@@ -18,8 +18,8 @@ use Rattle.lattice.specs.Hermite.{Rising}
 use Rattle.problem.specs.Limits.{maxRight}
 use Rattle.problem.specs.declared.Problem.{Problem}
 use Rattle.tableau.specs.RightSide.{Solved, sweep, leading, rightSide, solve}
-use Rattle.tableau.specs.Buffers.{Formable, matrixOf, formOf}
-use Rattle.tableau.specs.Theorems.{problem-rising}
+use Rattle.tableau.specs.LentTable.{Formable, matrixOf, formOf}
+use Rattle.tableau.proofs.Theorems.{problem-rising}
 use Rattle.tableau.proofs.Forms.{Formed, count, span-within}
 use Rattle.rightside.specs.Solutions.{Solvable, solvedOf, answerOf, solutionOf, tableauAfter, startOf, startAfter}
 use Rattle.rightside.specs.Sweeps.{Findable, foundOf}

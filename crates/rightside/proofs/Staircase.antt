@@ -17,11 +17,11 @@ use lib.IntN.{ℤ}
 use lib.ListN.{length, take, drop, length-drop}
 use lib.Seq.{length-take-le, drop-drop}
 use Rattle.lattice.specs.Rows.{lead, chop}
-use Rattle.lattice.specs.RowLaws.{lead-behind}
+use Rattle.lattice.proofs.RowLaws.{lead-behind}
 use Rattle.lattice.specs.Hermite.{Rising}
-use Rattle.lattice.specs.FlatLaws.{chop-next}
+use Rattle.lattice.proofs.FlatLaws.{chop-next}
 use Rattle.tableau.specs.RightSide.{leading}
-use Rattle.tableau.specs.RightLaws.{rising-none}
+use Rattle.tableau.proofs.RightLaws.{rising-none}
 
 pub record Walks (w : ℕ) (t : List ℤ) (at left c : ℕ) : Type 0 where
   pub room : at + left * w ≡ length t

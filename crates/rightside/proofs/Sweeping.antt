@@ -13,13 +13,15 @@ use native.Mathlib.Omega.{arith}
 use lib.IntN.{ℤ, pos, negsuc}
 use lib.ListN.{length, drop}
 use Rattle.whole.specs.Lists.{entry, zeros}
-use Rattle.whole.specs.Integers.{Positive, positive-nonzero}
+use Rattle.whole.specs.Tests.{Positive}
+use Rattle.whole.proofs.Integers.{positive-nonzero}
 use Rattle.lattice.specs.Rows.{ZeroTo, lead, chop}
 use Rattle.lattice.specs.Span.{All}
 use Rattle.tableau.specs.Elimination.{Left, kept, reduced}
 use Rattle.tableau.specs.RightSide.{further, sweep}
-use Rattle.tableau.specs.Within.{Within, neither, within-take, within-drop}
-use Rattle.tableau.specs.Steps.{Pivot, Leads, leftAfter}
+use Rattle.tableau.specs.Within.{Within}
+use Rattle.tableau.proofs.Within.{neither, within-take, within-drop}
+use Rattle.tableau.specs.RowSteps.{Pivot, Leads, leftAfter}
 use Rattle.tableau.proofs.Stepping.{left-by}
 use Rattle.tableau.proofs.Walking.{reduced-step}
 use Rattle.rightside.specs.Sweeps.{Sweepable, Swept}

@@ -21,7 +21,7 @@ use Rattle.problem.specs.Limits.{maxRight}
 use Rattle.problem.specs.Checks.{allSpan}
 use Rattle.problem.specs.declared.Problem.{Problem}
 use Rattle.tableau.specs.RightSide.{Found, none, some, Solved, rightSide, listLeft, solve}
-use Rattle.tableau.specs.Buffers.{Formable, matrixOf}
+use Rattle.tableau.specs.LentTable.{Formable, matrixOf}
 use Rattle.rightside.specs.declared.Solution.{Solution}
 use Rattle.rightside.specs.declared.Solution.the-variants as code
 

@@ -19,7 +19,7 @@ use Rattle.problem.specs.declared.Problem.{Problem}
 use Rattle.tableau.specs.Elimination.{Left}
 use Rattle.tableau.specs.RightSide.{Solved, sweep, rightSide}
 use Rattle.tableau.specs.Within.{Within}
-use Rattle.tableau.specs.Steps.{Leads, leftAfter}
+use Rattle.tableau.specs.RowSteps.{Leads, leftAfter}
 
 pub record Sweepable (w k : ℕ) (t : List ℤ) : Type 0 where
   pub long : length t ≡ k * w

@@ -9,7 +9,7 @@ ghost use Rattle.lattice.specs.Hermite.{Rising};
 ghost use Rattle.rightside.specs.Sweeps.{sweptOf, Swept, Sweepable, Findable, foundOf};
 ghost use Rattle.rightside.specs.Solutions.{Solvable, solvedOf, solutionOf, tableauAfter, startAfter, rightedOf};
 ghost use Rattle.tableau.specs.RightSide.{leading};
-ghost use Rattle.tableau.specs.Steps.{Leads};
+ghost use Rattle.tableau.specs.RowSteps.{Leads};
 ghost use Rattle.tableau.specs.Within.{Within};
 use lattice::all_zero;
 use lattice::copy;

@@ -2,5 +2,5 @@
 pub mod Lowering
 pub mod Steps
 pub mod Runs
-pub mod Calls
+pub mod CallRuns
 pub mod Cases

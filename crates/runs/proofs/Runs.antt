@@ -17,7 +17,7 @@ use Prim.Native.Nat.{ℕ, zero, suc, _+_, _<_, _≤_}
 use native.Mathlib.Omega.{arith}
 use lib.IntN.{ℤ}
 use lib.ListN.{length}
-use Rattle.whole.specs.Counted.{every-all}
+use Rattle.whole.proofs.Counted.{every-all}
 use Rattle.problem.specs.Answers.{noSteps, answerCounts}
 use Rattle.problem.specs.declared.Counts.{Counts}
 use Rattle.problem.specs.declared.Answer.the-variants.{Spent}
@@ -28,7 +28,7 @@ use Rattle.settling.specs.declared.Part.the-variants.{Bounds, Goals}
 use Rattle.settling.specs.declared.Step.{Step}
 use Rattle.settling.specs.declared.Step.the-variants.{Rest, Take}
 use Rattle.settling.specs.Columns.{Columns}
-use Rattle.settling.specs.Parts.{lt-or-ge}
+use Rattle.settling.proofs.Fronts.{lt-or-ge}
 use Rattle.settling.specs.Moves.{moved}
 use Rattle.settling.specs.Measures.{fraction, below}
 use Rattle.settling.specs.Steps.{inBounds, partIf, partOf, stepOf, nextStep}

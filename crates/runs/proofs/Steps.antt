@@ -21,7 +21,7 @@ use Rattle.settling.specs.declared.Part.{Part}
 use Rattle.settling.specs.declared.Part.the-variants.{Bounds, Goals}
 use Rattle.settling.specs.declared.Step.the-variants.{Take}
 use Rattle.settling.specs.Columns.{Column, Columns, valued, cell}
-use Rattle.settling.specs.Parts.{lt-or-ge}
+use Rattle.settling.proofs.Fronts.{lt-or-ge}
 use Rattle.settling.specs.Moves.{change, moved}
 use Rattle.settling.specs.Measures.{fraction, below, ratio, measure}
 use Rattle.settling.specs.Steps.{partOf, isRanked, isCompared, measureAt, nextStep}

@@ -1,4 +1,4 @@
 -- The root of the definitions.
 pub mod Sorted
 pub mod Runs
-pub mod Calls
+pub mod CallRuns

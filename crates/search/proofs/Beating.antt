@@ -16,14 +16,14 @@ use native.Mathlib.Nat.{eq-or-lt-of-le}
 use native.Mathlib.Omega.{arith}
 use lib.IntN.{ℤ, pos, _+ℤ_, _*ℤ_, *ℤ-zero}
 use lib.ListN.{length, getD}
-use Rattle.whole.specs.Counted.{every-at}
-use Rattle.whole.specs.Integers.{add-none, isZero-true}
+use Rattle.whole.proofs.Counted.{every-at}
+use Rattle.whole.proofs.Integers.{add-none, isZero-true}
 use Rattle.whole.specs.Lists.{entry}
 use Rattle.whole.specs.Tests.{isZero, every}
-use Rattle.problem.specs.CheckLaws.{both-true}
+use Rattle.problem.proofs.CheckLaws.{both-true}
 use Rattle.settling.specs.declared.Move.{Move}
 use Rattle.settling.specs.Moves.{vector, changes}
-use Rattle.settling.specs.Parts.{lt-or-ge}
+use Rattle.settling.proofs.Fronts.{lt-or-ge}
 use Rattle.settling.specs.Steps.{measureAt, passesAt, improves}
 use Rattle.settling.specs.Views.{vectors}
 use Rattle.settling.proofs.Blocking.{unchanged, blocked, passes-up}

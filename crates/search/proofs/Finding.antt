@@ -26,7 +26,8 @@ use Rattle.whole.specs.Tests.{isZero}
 use Rattle.problem.specs.Limits.{maxColumns}
 use Rattle.settling.specs.declared.Basis.{Basis}
 use Rattle.settling.specs.Moves.{vector}
-use Rattle.settling.specs.Views.{vectors, Viewed, vector-long}
+use Rattle.settling.specs.Views.{vectors, Viewed}
+use Rattle.settling.proofs.Views.{vector-long}
 use Rattle.search.specs.Sets.{has, firstOf, restOf, supportOf, touches, Indexed, Held, Holdable, Blank}
 use Rattle.search.proofs.Setting.{none-has, double-first, double-later, add-has, add-small, first-has, rest-has, rest-in}
 

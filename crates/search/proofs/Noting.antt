@@ -13,7 +13,7 @@ use native.Mathlib.Omega.{arith}
 use lib.ListN.{length, set, length-set}
 use lib.Seq.{getD-set-same, getD-set-other}
 use Rattle.problem.specs.Limits.{maxColumns}
-use Rattle.settling.specs.Parts.{lt-or-ge}
+use Rattle.settling.proofs.Fronts.{lt-or-ge}
 use Rattle.search.specs.Notes.{noteWidth, notesLong, topAt, noteAt}
 
 module _ (l : List ℕ) (s : ℕ) where

@@ -26,7 +26,7 @@ use Rattle.settling.specs.declared.Move.{Move}
 use Rattle.settling.specs.declared.Step.{Step}
 use Rattle.settling.specs.declared.Step.the-variants.{Rest, Take}
 use Rattle.settling.specs.Moves.{single, pair, signPairs, singles, pairsWith, pairs, moves}
-use Rattle.settling.specs.Parts.{lt-or-ge}
+use Rattle.settling.proofs.Fronts.{lt-or-ge}
 use Rattle.settling.specs.Steps.{firstMove, firstColumn}
 use Rattle.settling.proofs.Stepping.{Listed}
 use Rattle.search.specs.Numbers.{Sign, firstPair, span, mark, numberOf, numberAt, signOf, moveOf, stepIn, Beaten, Hit, Stands}

@@ -24,10 +24,10 @@ use borrow.Author.Tests.{ltb-true, ltb-false, lt-ltb, le-ltb, not-true, not-fals
 use lib.Dec.{ltb}
 use lib.IntN.{ℤ, _+ℤ_, _*ℤ_, +ℤ-comm}
 use lib.ListN.{length, getD}
-use Rattle.whole.specs.Integers.{add-none, isZero-true}
+use Rattle.whole.proofs.Integers.{add-none, isZero-true}
 use Rattle.whole.specs.Lists.{entry}
 use Rattle.whole.specs.Tests.{every}
-use Rattle.problem.specs.CheckLaws.{both-true}
+use Rattle.problem.proofs.CheckLaws.{both-true}
 use Rattle.problem.specs.Limits.{maxColumns}
 use Rattle.settling.specs.declared.Basis.{Basis}
 use Rattle.settling.specs.declared.Measure.{Measure}
@@ -35,9 +35,10 @@ use Rattle.settling.specs.declared.Move.{Move}
 use Rattle.settling.specs.declared.Part.{Part}
 use Rattle.settling.specs.Columns.{Columns, valued}
 use Rattle.settling.specs.Moves.{single, pair, moves, vector, change, changes}
-use Rattle.settling.specs.Parts.{lt-or-ge}
+use Rattle.settling.proofs.Fronts.{lt-or-ge}
 use Rattle.settling.specs.Steps.{passes, passesAt, measureAt, improves}
-use Rattle.settling.specs.Views.{vectors, OfBasis, moved-at}
+use Rattle.settling.specs.Views.{vectors, OfBasis}
+use Rattle.settling.proofs.Views.{moved-at}
 use Rattle.settling.proofs.Stepping.{Listed}
 use Rattle.search.specs.declared.Search.{Search}
 use Rattle.search.specs.declared.places.Pair.{Pair}

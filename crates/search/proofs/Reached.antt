@@ -16,7 +16,7 @@ use lib.Dec.{eqb}
 use lib.IntN.{ℤ, natAbs}
 use lib.ListN.{length}
 use Rattle.whole.specs.Lists.{entry}
-use Rattle.whole.specs.Counted.{every-at}
+use Rattle.whole.proofs.Counted.{every-at}
 use Rattle.problem.specs.Limits.{M}
 use Rattle.settling.specs.declared.Basis.{Basis}
 use Rattle.settling.specs.declared.Part.{Part}
@@ -25,7 +25,8 @@ use Rattle.settling.specs.Columns.{width, columnAt, columnsIn, cell}
 use Rattle.settling.specs.Measures.{distance}
 use Rattle.settling.specs.Steps.{inBounds, partIf, partOf, isAllowed, rankedAt}
 use Rattle.settling.specs.Ready.{Ready}
-use Rattle.settling.specs.Sizes.{Sized, allowed-sized, fit-sized}
+use Rattle.settling.specs.Sizes.{Sized}
+use Rattle.settling.proofs.Sizes.{allowed-sized, fit-sized}
 use Rattle.settling.proofs.Blocking.{Proper, fit-proper}
 use Rattle.search.specs.declared.Search.{Search}
 use Rattle.search.specs.Searches.{columnsOf, Measurable, Searchable}

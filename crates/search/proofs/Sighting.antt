@@ -25,8 +25,9 @@ use Rattle.settling.specs.declared.Basis.{Basis}
 use Rattle.settling.specs.declared.Measure.{Measure}
 use Rattle.settling.specs.Columns.{cell}
 use Rattle.settling.specs.Moves.{vector, moves, change, changes}
-use Rattle.settling.specs.Parts.{lt-or-ge}
-use Rattle.settling.specs.Sizes.{Room, measure-room}
+use Rattle.settling.proofs.Fronts.{lt-or-ge}
+use Rattle.settling.specs.Sizes.{Room}
+use Rattle.settling.proofs.Sizes.{measure-room}
 use Rattle.settling.specs.Steps.{measureAt, improves}
 use Rattle.settling.specs.Views.{vectors, OfBasis}
 use Rattle.settling.proofs.Stepping.{Listed}

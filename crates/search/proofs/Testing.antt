@@ -20,8 +20,8 @@ use borrow.Author.Tests.{lt-ltb, ltb-true, not-false}
 use lib.Dec.{ltb}
 use lib.IntN.{ℤ, natAbs, _+ℤ_, _*ℤ_, +ℤ-idr, *ℤ-zero}
 use lib.ListN.{length, getD}
-use Rattle.whole.specs.Counted.{every-all}
-use Rattle.whole.specs.Integers.{add-none, isZero-true}
+use Rattle.whole.proofs.Counted.{every-all}
+use Rattle.whole.proofs.Integers.{add-none, isZero-true}
 use Rattle.whole.specs.Lists.{entry}
 use Rattle.whole.specs.Tests.{isZero, every}
 use Rattle.whole.proofs.Signed.{abs-add}
@@ -32,7 +32,8 @@ use Rattle.settling.specs.Columns.{width, valued, columnAt}
 use Rattle.settling.specs.Moves.{vector, change}
 use Rattle.settling.specs.Sizes.{Room}
 use Rattle.settling.specs.Steps.{isAllowed, passes}
-use Rattle.settling.specs.Views.{vectors, OfBasis, vector-long, vector-small, sum-small, moved-at}
+use Rattle.settling.specs.Views.{vectors, OfBasis}
+use Rattle.settling.proofs.Views.{vector-long, vector-small, sum-small, moved-at}
 use Rattle.settling.proofs.Passing.{passes-still}
 use Rattle.search.specs.declared.Search.{Search}
 use Rattle.search.specs.declared.probes.Sum.{Sum}

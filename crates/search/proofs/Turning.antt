@@ -15,7 +15,7 @@ use borrow.Author.Tests.{eqb-true, eq-eqb, ltb-true, ltb-false}
 use lib.Dec.{ltb, eqb}
 use lib.IntN.{ℤ}
 use lib.ListN.{length, take, getD, length-take}
-use Rattle.whole.specs.Counted.{every-at, every-all}
+use Rattle.whole.proofs.Counted.{every-at, every-all}
 use Rattle.problem.specs.Limits.{maxColumns}
 use Rattle.settling.specs.declared.Basis.{Basis}
 use Rattle.settling.specs.declared.Move.{Move}
@@ -27,7 +27,8 @@ use Rattle.settling.specs.Measures.{distance, measure}
 use Rattle.settling.specs.Moves.{moved}
 use Rattle.settling.specs.Ready.{Ready}
 use Rattle.settling.specs.Steps.{inBounds, partIf, partOf, isRanked, isAllowed, rankedAt, largerAt, ranking, firstColumn, stepAt, stepOf, nextStep}
-use Rattle.settling.specs.Views.{vectors, moved-length}
+use Rattle.settling.specs.Views.{vectors}
+use Rattle.settling.proofs.Views.{moved-length}
 use Rattle.settling.proofs.Blocking.{Proper, weak}
 use Rattle.settling.proofs.Insertion.{Each, each-at, each-ranked, ranked-each}
 use Rattle.settling.proofs.Rankings.{ranking-below, ranking-in, ranking-falls}

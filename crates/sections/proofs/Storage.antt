@@ -8,12 +8,12 @@ use lib.IntN.{ℤ, pos}
 use lib.ListN.{length, take, drop, set, replicate, length-append, length-map, length-replicate, length-set}
 use lib.Seq.{take-at, drop-at, drop-drop}
 use Rattle.whole.specs.Lists.{zeros}
-use Rattle.text.specs.Buffers.{written}
+use Rattle.text.specs.Written.{written}
 use Rattle.problem.specs.Kinds.{Slack, none, slack, slackOf, slackCount}
 use Rattle.problem.specs.Kinds as kinds
 use Rattle.sections.specs.Sections.{deckColumns, Line}
-use Rattle.sections.specs.Columns.{rightOf, placed, withSlack, slackColumn, slackColumns, coefficientRow, coefficientRows}
-use Rattle.sections.specs.Columns.{columnWidth, columnCells, cell, cells, padded, blank}
+use Rattle.sections.specs.StatedColumns.{rightOf, placed, withSlack, slackColumn, slackColumns, coefficientRow, coefficientRows}
+use Rattle.sections.specs.StatedColumns.{columnWidth, columnCells, cell, cells, padded, blank}
 use Rattle.sections.specs.declared.Interval.{Interval}
 use Rattle.sections.specs.declared.Term.{Term}
 use Rattle.text.proofs.Copying.{written-all, written-then}

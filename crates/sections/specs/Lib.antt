@@ -1,5 +1,5 @@
 -- The root of the definitions.
 pub mod Rules
 pub mod Sections
-pub mod Columns
-pub mod Steps
+pub mod StatedColumns
+pub mod SectionsRead

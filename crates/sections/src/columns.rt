@@ -5,9 +5,9 @@ use text::buffers::copy;
 ghost use mathlib.Core.Path.{_≡_};
 ghost use Prim.Native.Nat.{_*_, _<_};
 ghost use lib.ListN.{length};
-ghost use Rattle.text.specs.Buffers.{written};
+ghost use Rattle.text.specs.Written.{written};
 ghost use Rattle.sections.specs.Sections.{deckColumns};
-ghost use Rattle.sections.specs.Columns.{columnWidth, columnCells, cell};
+ghost use Rattle.sections.specs.StatedColumns.{columnWidth, columnCells, cell};
 
 // Puts a column's numbers side by side.
 pub fn put_column(columns: &mut [i64], i: usize, v: Interval)

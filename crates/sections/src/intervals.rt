@@ -15,8 +15,8 @@ use problem::Refusal;
 use text::buffers::fill;
 ghost use mathlib.Core.Path.{_≡_};
 ghost use Rattle.sections.specs.Sections.{topGoal, interval as interval·rule, intervalSection};
-ghost use Rattle.sections.specs.Columns.{columnCells, blank};
-ghost use Rattle.sections.specs.Steps.{intervalGotOf, IntervalsRead, intervalsDone, intervalsLeft};
+ghost use Rattle.sections.specs.StatedColumns.{columnCells, blank};
+ghost use Rattle.sections.specs.SectionsRead.{intervalGotOf, IntervalsRead, intervalsDone, intervalsLeft};
 
 // An interval and the place after it.
 enum IntervalGot {

@@ -21,15 +21,15 @@ ghost use mathlib.Core.List.{[]};
 ghost use Prim.Native.Nat.{_+_, _*_, _<_, _≤_};
 ghost use lib.IntN.{natAbs};
 ghost use lib.ListN.{length};
-ghost use Rattle.text.specs.Buffers.{written};
+ghost use Rattle.text.specs.Written.{written};
 ghost use Rattle.problem.specs.Limits.{maxRight};
 ghost use Rattle.problem.specs.Kinds.{slackOf, slackCount};
 ghost use Rattle.sections.specs.Sections.{deckColumns, deckRows, coefficientCount, rowOf, kindOf, withRoom, kindNumber, leastNumber};
 ghost use Rattle.sections.specs.Sections.{row as row·rule, coefficient as coefficient·rule, term as term·rule, terms, line as line·rule};
 ghost use Rattle.sections.specs.Sections.{rowSection};
-ghost use Rattle.sections.specs.Columns.{slackColumn, withSlack, columnWidth, columnCells, cells, blank};
-ghost use Rattle.sections.specs.Steps.{gotOf, rowGotOf, kindGotOf, termGotOf, slackIs, TermsRead, LineRead, Lengths, RowStored, OneRead};
-ghost use Rattle.sections.specs.Steps.{RowsRead, rowsDone, rowsLeft};
+ghost use Rattle.sections.specs.StatedColumns.{slackColumn, withSlack, columnWidth, columnCells, cells, blank};
+ghost use Rattle.sections.specs.SectionsRead.{gotOf, rowGotOf, kindGotOf, termGotOf, slackIs, TermsRead, LineRead, Lengths, RowStored, OneRead};
+ghost use Rattle.sections.specs.SectionsRead.{RowsRead, rowsDone, rowsLeft};
 
 // A row's kind and number, and the place after them.
 enum RowGot {

@@ -9,7 +9,7 @@ ghost use lib.IntN.{pos, natAbs};
 ghost use lib.Signed.{leZ};
 ghost use Rattle.sections.specs.Rules.{inside, within as within·rule};
 ghost use Rattle.sections.specs.Sections.{spanning as spanning·rule};
-ghost use Rattle.sections.specs.Steps.{gotOf};
+ghost use Rattle.sections.specs.SectionsRead.{gotOf};
 
 pub fn at_most(a: i64, b: i64) -> bool
     ensures { λ r. ⌜ r ≡ leZ a b ⌝ }

@@ -18,9 +18,9 @@ use lib.IntN.{ℤ, pos, negsuc, natAbs}
 use lib.ListN.{length, drop, set, length-drop}
 use lib.Seq.{getD-drop}
 use Rattle.whole.specs.Lists.{entry}
-use Rattle.whole.specs.Integers.{add-none}
+use Rattle.whole.proofs.Integers.{add-none}
 use Rattle.lattice.specs.Rows.{plus, lead}
-use Rattle.lattice.specs.RowLaws.{length-plus, entry-plus}
+use Rattle.lattice.proofs.RowLaws.{length-plus, entry-plus}
 use Rattle.lattice.specs.Hermite.{Rising}
 use Rattle.lattice.proofs.Writing.{Written, starts, goes-on, passes, ends}
 use Rattle.problem.specs.Limits.{M, beyond, anyBeyond}
@@ -28,8 +28,9 @@ use Rattle.settling.specs.declared.Basis.{Basis}
 use Rattle.settling.specs.Moves.{vector}
 use Rattle.settling.specs.Seating.{Seated, seated, far}
 use Rattle.settling.specs.Seats.{within, Addable}
-use Rattle.settling.specs.Parts.{lt-or-ge}
-use Rattle.settling.specs.Views.{vectors, vectors-drop}
+use Rattle.settling.proofs.Fronts.{lt-or-ge}
+use Rattle.settling.specs.Views.{vectors}
+use Rattle.settling.proofs.Views.{vectors-drop}
 
 -- ---- leads that rise
 module _ (B : Basis) (l : List ℤ) (c s : ℕ) (h : s < B .vectors) (a : Rising c (drop s (vectors B l))) where

@@ -16,9 +16,9 @@ use native.Mathlib.Omega.{arith}
 use borrow.Author.Tests.{eqb-true, eqb-false, not-true}
 use lib.IntN.{ℤ, pos, natAbs}
 use lib.Signed.{leZ}
-use Rattle.whole.specs.Counted.{every-at, every-all}
+use Rattle.whole.proofs.Counted.{every-at, every-all}
 use Rattle.whole.specs.Tests.{isZero, every}
-use Rattle.problem.specs.CheckLaws.{both-true}
+use Rattle.problem.proofs.CheckLaws.{both-true}
 use Rattle.settling.specs.declared.Cell.{Cell}
 use Rattle.settling.specs.declared.Move.{Move}
 use Rattle.settling.specs.declared.Measure.{Measure}
@@ -29,7 +29,7 @@ use Rattle.settling.specs.Moves.{changes}
 use Rattle.settling.specs.Measures.{fraction, below, distance, ratio, measure}
 use Rattle.settling.specs.Steps.{isRanked, isCompared, isAllowed, passes, measureAt, largerAt, passesAt, improves}
 use Rattle.settling.specs.Ready.{FitColumn}
-use Rattle.settling.specs.Sizes.{inside-above}
+use Rattle.settling.proofs.Sizes.{inside-above}
 use Rattle.settling.proofs.Orders.{Weak, under-past, below-weak}
 
 -- ---- every

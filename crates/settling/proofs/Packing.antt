@@ -16,7 +16,7 @@ use Rattle.settling.specs.declared.Wish.{Wish}
 use Rattle.settling.specs.declared.Wish.the-variants.{Unset, Set}
 use Rattle.settling.specs.Columns.{Column, width, columnAt, columnsIn, wishOf, withGoal, listed, recordOf, packedFrom, packed}
 use Rattle.settling.specs.Packing.{put}
-use Rattle.settling.specs.Parts.{lt-or-ge}
+use Rattle.settling.proofs.Fronts.{lt-or-ge}
 
 -- ---- how long it is
 -- a record with the wish w

@@ -26,13 +26,14 @@ use Rattle.settling.specs.declared.Part.the-variants.{Bounds, Goals}
 use Rattle.settling.specs.declared.Step.{Step}
 use Rattle.settling.specs.declared.Step.the-variants.{Rest, Take}
 use Rattle.settling.specs.Columns.{Columns, cell, columnsIn}
-use Rattle.settling.specs.Parts.{lt-or-ge}
+use Rattle.settling.proofs.Fronts.{lt-or-ge}
 use Rattle.settling.specs.Measures.{distance}
 use Rattle.settling.specs.Moves.{single, pair, signPairs, singles, pairsWith, pairs, moves, moved}
 use Rattle.settling.specs.Steps.{partOf, isAllowed, nextStep}
 use Rattle.settling.specs.Settle.{ended, atRest, counted, onStep, settleFrom}
-use Rattle.settling.specs.Sizes.{inside-small}
-use Rattle.settling.specs.Views.{vectors, OfBasis, rows-length, moved-length}
+use Rattle.settling.proofs.Sizes.{inside-small}
+use Rattle.settling.specs.Views.{vectors, OfBasis}
+use Rattle.settling.proofs.Views.{rows-length, moved-length}
 use Rattle.settling.specs.Ready.{Ready}
 use Rattle.settling.proofs.Stepping.{Listed, next-taken, taken-allowed}
 

@@ -17,20 +17,20 @@ use lib.IntN.{ℤ, pos, _+ℤ_, +ℤ-idr}
 use lib.ListN.{length, List·getD-eq-default}
 use Rattle.whole.specs.Lists.{entry}
 use Rattle.whole.specs.Tests.{isZero, every}
-use Rattle.whole.specs.Counted.{every-at}
-use Rattle.whole.specs.Integers.{isZero-true}
-use Rattle.problem.specs.CheckLaws.{both-true}
+use Rattle.whole.proofs.Counted.{every-at}
+use Rattle.whole.proofs.Integers.{isZero-true}
+use Rattle.problem.proofs.CheckLaws.{both-true}
 use Rattle.settling.specs.declared.Move.{Move}
 use Rattle.settling.specs.declared.Part.{Part}
 use Rattle.settling.specs.declared.Step.{Step}
 use Rattle.settling.specs.declared.Step.the-variants.{Rest, Take}
 use Rattle.settling.specs.Columns.{Columns, cell}
-use Rattle.settling.specs.Parts.{lt-or-ge}
+use Rattle.settling.proofs.Fronts.{lt-or-ge}
 use Rattle.settling.specs.Moves.{moves, change, changes, moved}
 use Rattle.settling.specs.Measures.{below}
 use Rattle.settling.specs.Steps.{partOf, isCompared, isAllowed, passes, measureAt, rankedAt, largerAt, passesAt, improves}
 use Rattle.settling.specs.Steps.{ranking, orElse, firstMove, firstColumn, stepAt, stepOf, nextStep}
-use Rattle.settling.specs.Views.{moved-length, moved-at}
+use Rattle.settling.proofs.Views.{moved-length, moved-at}
 use Rattle.settling.proofs.Insertion.{Each, each-ranked}
 use Rattle.settling.proofs.Passing.{passes-measured}
 

@@ -11,6 +11,4 @@ pub mod Strides
 pub mod Views
 pub mod Ready
 pub mod Sizes
-pub mod Parts
 pub mod Seats
-pub mod StrideLaws

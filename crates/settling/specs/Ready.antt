@@ -2,6 +2,7 @@
 --   FitColumn c       bounds and goals lie within the limits, and a column with a goal has a lower bound of 1 or more
 --   Ready B v t l     the values v and the table t have a number and a record for each column of the view B, and each column fits; the values and the
 --                     basis l lie within ±M, and a problem has room for as many columns as there are vectors
+--   StridesReady B d l   a list d with a number for each column of the view B of the basis l
 -- Assumes nothing.
 use mathlib.Core.Path.{_≡_}
 use mathlib.Core.Bool.{true, _||_}
@@ -32,3 +33,7 @@ pub record Ready (B : Basis) (v t l : List ℤ) : Type 0 where
   pub values-small : (j : ℕ) → natAbs (entry j v) ≤ M
   pub table-long : length t ≡ width * B .columns
   pub columns : (j : ℕ) → FitColumn (columnAt t j)
+
+pub record StridesReady (B : Basis) (d : List ℕ) (l : List ℤ) : Type 0 where
+  pub long : length d ≡ B .columns
+  pub basis : Viewed B l

@@ -1,7 +1,7 @@
 ghost use mathlib.Core.Path.{_≡_};
 ghost use Prim.Native.Nat.{_<_};
 ghost use Rattle.settling.specs.Strides as Strides;
-ghost use Rattle.settling.specs.StrideLaws.{StridesReady};
+ghost use Rattle.settling.specs.Ready.{StridesReady};
 ghost use Rattle.settling.specs.Views.{vectors, Viewed};
 use crate::Basis;
 use whole::divisor;

@@ -29,7 +29,7 @@ use Rattle.problem.specs.declared.Answer.{Answer}
 use Rattle.problem.specs.declared.Answer.the-variants.{Refused}
 use Rattle.sections.specs.Rules.{Outcome, ok, no}
 use Rattle.sections.specs.Sections.{deckColumns, deckRows}
-use Rattle.sections.specs.Columns.{coefficientRows, lowerOf, upperOf, goalOf, rightOf, padded}
+use Rattle.sections.specs.StatedColumns.{coefficientRows, lowerOf, upperOf, goalOf, rightOf, padded}
 use Rattle.deck.specs.Posing.{Deck, readDeck, columnsOf, posed}
 use Rattle.deck.specs.Reader.{DeckBuffers, ReadDone, deckBuffers, readDone, lengthsFit, onDeck, read}
 use Rattle.deck.specs.declared.Reading.{Reading}

@@ -34,7 +34,7 @@ use Rattle.settling.specs.Settle.{settleFrom, settle}
 use Rattle.settling.specs.Strides.{stride, stridesFrom}
 use Rattle.engine.specs.Assign.{Buffers, Done, n, m, columns, settleOn, assign}
 use Rattle.sections.specs.Sections.{intervals, terms, lines}
-use Rattle.sections.specs.Columns.{slackColumns, placed, coefficientRows}
+use Rattle.sections.specs.StatedColumns.{slackColumns, placed, coefficientRows}
 use Rattle.deck.specs.Posing.{readDeck, posed}
 use Rattle.report.specs.Listing.{linesFrom, listing}
 use Rattle.solve.specs.Program.{printed}

@@ -17,7 +17,7 @@ use lib.IntN.{ℤ, natAbs}
 use lib.ListN.{length, take, drop}
 use Rattle.whole.specs.Lists.{entry}
 use Rattle.lattice.specs.Rows.{chop}
-use Rattle.lattice.specs.FlatLaws.{chop-split, chop-next, row-number, length-chop}
+use Rattle.lattice.proofs.FlatLaws.{chop-split, chop-next, row-number, length-chop}
 use Rattle.tableau.specs.Elimination.{Choice, none, at, shifted, prefer, choose}
 use Rattle.tableau.specs.Choices.{sighted, choiceOf, below, counted, nonzeros, Chooses}
 use Rattle.tableau.specs.declared.gathering.Choice as code

@@ -18,23 +18,23 @@ use lib.Dec.{lit≤}
 use lib.IntN.{ℤ, pos, natAbs}
 use lib.ListN.{length}
 use Rattle.whole.specs.Lists.{entry, zeros}
-use Rattle.whole.specs.Tests.{spans, every}
-use Rattle.whole.specs.Integers.{Positive, positive}
+use Rattle.whole.specs.Tests.{spans, every, positive, Positive}
 use Rattle.lattice.specs.Rows.{lead, flat, chop}
 use Rattle.lattice.specs.Span.{All, Len, Independent}
 use Rattle.lattice.specs.Hermite.{Echelon, done, skip, step, width, indent, rows, Hermite}
-use Rattle.lattice.specs.FlatLaws.{flat-chop, chop-flat, length-chop}
+use Rattle.lattice.proofs.FlatLaws.{flat-chop, chop-flat, length-chop}
 use Rattle.problem.specs.Limits.{M, maxCoefficient, anyBeyond}
+use Rattle.tableau.specs.Within.{Within}
 use Rattle.problem.specs.Checks.{allSpan}
 use Rattle.problem.specs.declared.Problem.{Problem}
 use Rattle.tableau.specs.Table.{tableauFrom, tableau}
 use Rattle.tableau.specs.Elimination.{Run, eliminate}
 use Rattle.tableau.specs.RightSide.{form}
-use Rattle.tableau.specs.TableLaws.{tableau-length, tableau-independent}
-use Rattle.tableau.specs.FormLaws.{Eliminated, eliminated}
-use Rattle.tableau.specs.Within.{Within}
-use Rattle.tableau.specs.Steps.{Leads}
-use Rattle.tableau.specs.Buffers.{Formable, matrixOf, formOf, formAfter, Outcome, outcome, eliminatedOf}
+use Rattle.tableau.proofs.TableLaws.{tableau-length, tableau-independent}
+use Rattle.tableau.specs.Theorems.{Eliminated}
+use Rattle.tableau.proofs.FormLaws.{eliminated}
+use Rattle.tableau.specs.RowSteps.{Leads}
+use Rattle.tableau.specs.LentTable.{Formable, matrixOf, formOf, formAfter, Outcome, outcome, eliminatedOf}
 use Rattle.tableau.proofs.Staying.{flat-all, all-flat, eliminate-all, eliminate-count}
 use Rattle.tableau.proofs.Tableaus.{tableau-within}
 

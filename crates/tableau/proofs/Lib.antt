@@ -11,3 +11,10 @@ pub mod Staying
 pub mod Passing
 pub mod Tableaus
 pub mod Forms
+pub mod GatherLaws
+pub mod FormLaws
+pub mod FoundLaws
+pub mod RightLaws
+pub mod TableLaws
+pub mod Within
+pub mod Theorems

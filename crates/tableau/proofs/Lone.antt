@@ -12,9 +12,9 @@ use lib.ListN.{getD, set, take, drop}
 use Rattle.whole.specs.Lists.{entry}
 use Rattle.lattice.specs.Rows.{chop}
 use Rattle.lattice.specs.Span.{All}
-use Rattle.lattice.specs.FlatLaws.{flat-chop, chop-next, chop-row}
+use Rattle.lattice.proofs.FlatLaws.{flat-chop, chop-next, chop-row}
 use Rattle.tableau.specs.Elimination.{Left, kept, lowered, Run, each, Choice, none, at, prefer, choose, Gathered, exchange, clear}
-use Rattle.tableau.specs.GatherLaws.{chosen-stands}
+use Rattle.tableau.proofs.GatherLaws.{chosen-stands}
 use Rattle.tableau.specs.Choices.{counted, nonzeros}
 use Rattle.tableau.specs.Tails.{Tail, Picked, lowerFirst, liftedRow, Lifted, Gathers, roundOf, gatheringOf}
 use Rattle.tableau.proofs.Rounds.{swapped, chosen-low, round-is, below-wide}

@@ -21,15 +21,18 @@ use lib.ListN.{length, take, drop, length-append, length-drop}
 use lib.Seq.{length-take-le}
 use Rattle.whole.specs.Lists.{entry}
 use Rattle.lattice.specs.Rows.{ZeroTo, flat, chop}
-use Rattle.lattice.specs.RowLaws.{ZeroTo-next, ZeroTo-plus, ZeroTo-neg}
-use Rattle.lattice.specs.Span.{All, Len, all-both, all-append, steps-length, steps-all}
-use Rattle.lattice.specs.FlatLaws.{flat-append, flat-chop, chop-next, chop-rows, chop-take, chop-split, length-chop, front-rows, front-rest}
+use Rattle.lattice.proofs.RowLaws.{ZeroTo-next, ZeroTo-plus, ZeroTo-neg}
+use Rattle.lattice.specs.Span.{All, Len}
+use Rattle.lattice.proofs.Span.{all-both, all-append, steps-length, steps-all}
+use Rattle.lattice.proofs.FlatLaws.{flat-append, flat-chop, chop-next, chop-rows, chop-take, chop-split, length-chop, front-rows, front-rest}
 use Rattle.tableau.specs.Elimination.{Run, each, reduced, Choice, none, at, choose, Gathered, Passed, passColumn, passColumns, eliminate}
-use Rattle.tableau.specs.GatherLaws.{Stands, choose-stands, Alone, gather-steps, gather-alone, gathering-first}
-use Rattle.tableau.specs.Within.{Within, neither, within-append, within-take, within-drop}
-use Rattle.tableau.specs.Steps.{StopsRun, eachOf, Pivot}
+use Rattle.tableau.specs.Gathering.{Alone}
+use Rattle.tableau.proofs.GatherLaws.{Stands, choose-stands, gather-steps, gather-alone, gathering-first}
+use Rattle.tableau.specs.Within.{Within}
+use Rattle.tableau.proofs.Within.{neither, within-append, within-take, within-drop}
+use Rattle.tableau.specs.RowSteps.{StopsRun, eachOf, Pivot}
 use Rattle.tableau.specs.Tails.{Tail, Picked, gatheringOf}
-use Rattle.tableau.specs.Columns.{Standing, aboveOf, belowOf, passedOf, tableOf}
+use Rattle.tableau.specs.ColumnPass.{Standing, aboveOf, belowOf, passedOf, tableOf}
 use Rattle.tableau.specs.declared.rows.Way.the-variants.{Above}
 use Rattle.tableau.proofs.Walking.{stepping, each-wide, each-count}
 use Rattle.tableau.proofs.Staying.{flat-all, all-flat, each-all, gather-all, gather-count}

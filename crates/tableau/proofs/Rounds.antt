@@ -17,15 +17,18 @@ use lib.IntN.{ℤ, pos, negsuc}
 use lib.ListN.{length, take, drop, length-append, length-drop}
 use lib.Seq.{length-take-le, take-at, drop-at, drop-drop}
 use Rattle.whole.specs.Lists.{entry}
-use Rattle.whole.specs.Integers.{Positive, positive-of}
+use Rattle.whole.specs.Tests.{Positive}
+use Rattle.whole.proofs.Integers.{positive-of}
 use Rattle.lattice.specs.Rows.{ZeroTo, flat, chop}
-use Rattle.lattice.specs.RowLaws.{length-neg, ZeroTo-neg}
-use Rattle.lattice.specs.Span.{All, all-at}
-use Rattle.lattice.specs.FlatLaws.{chop-next, chop-row, chop-set, length-chop, row-in-table, first-wide}
+use Rattle.lattice.proofs.RowLaws.{length-neg, ZeroTo-neg}
+use Rattle.lattice.specs.Span.{All}
+use Rattle.lattice.proofs.Span.{all-at}
+use Rattle.lattice.proofs.FlatLaws.{chop-next, chop-row, chop-set, length-chop, row-in-table, first-wide}
 use Rattle.tableau.specs.Elimination.{Gathered, Choice, at, exchange, signed, clear, round}
-use Rattle.tableau.specs.GatherLaws.{chosen-stands, round-lead}
-use Rattle.tableau.specs.Within.{Within, within-take, within-drop, within-append}
-use Rattle.tableau.specs.Steps.{StopsRun, eachOf, Pivot}
+use Rattle.tableau.proofs.GatherLaws.{chosen-stands, round-lead}
+use Rattle.tableau.specs.Within.{Within}
+use Rattle.tableau.proofs.Within.{within-take, within-drop, within-append}
+use Rattle.tableau.specs.RowSteps.{StopsRun, eachOf, Pivot}
 use Rattle.tableau.specs.Tails.{Tail, Picked, lowerFirst, liftedRow, Lifted, Gathers, roundOf}
 use Rattle.tableau.specs.declared.rows.Way.the-variants.{Below}
 use Rattle.tableau.proofs.Lifting.{one-less, lowered-first, lowered-next}

@@ -14,10 +14,12 @@ use lib.IntN.{ℤ, pos, negsuc}
 use lib.ListN.{length, getD, set, length-set, length-append}
 use Rattle.whole.specs.Lists.{entry}
 use Rattle.lattice.specs.Rows.{flat}
-use Rattle.lattice.specs.Span.{All, all-append}
+use Rattle.lattice.specs.Span.{All}
+use Rattle.lattice.proofs.Span.{all-append}
 use Rattle.problem.specs.Limits.{anyBeyond}
+use Rattle.tableau.specs.Within.{Within}
 use Rattle.tableau.specs.Elimination.{Left, each, reduced, Choice, none, at, choose, Gathered, exchange, signed, clear, round, gather, Passed, passColumn, passColumns, eliminate}
-use Rattle.tableau.specs.Within.{Within, within-append, within-left, within-right, within-neg, neither}
+use Rattle.tableau.proofs.Within.{within-append, within-left, within-right, within-neg, neither}
 use Rattle.tableau.specs.declared.rows.Way.the-variants.{Below, Above}
 use Rattle.tableau.proofs.Walking.{Step, stepping, each-count}
 

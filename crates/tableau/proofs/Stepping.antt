@@ -20,14 +20,16 @@ use lib.Signed.{_<ℤ_, _≤ℤ_}
 use lib.ListN.{length, take, drop, take-append-drop, List·getD-eq-default}
 use Rattle.whole.specs.Lists.{entry, zeros}
 use Rattle.whole.specs.Quotient.{floorQuotient, gatheringQuotient}
-use Rattle.whole.specs.Integers.{rep, diff-rel, Positive, positive, positive-nonzero, gatheringQuotient-left, floorQuotient-low, floorQuotient-high, add-none}
+use Rattle.whole.specs.Tests.{positive, Positive}
+use Rattle.whole.proofs.Integers.{rep, diff-rel, positive-nonzero, gatheringQuotient-left, floorQuotient-low, floorQuotient-high, add-none}
 use Rattle.whole.proofs.Signed.{abs-add, abs-mul, abs-neg}
 use Rattle.lattice.specs.Rows.{plus, ZeroTo}
-use Rattle.lattice.specs.RowLaws.{plus-none}
+use Rattle.lattice.proofs.RowLaws.{plus-none}
 use Rattle.problem.specs.Limits.{anyBeyond}
+use Rattle.tableau.specs.Within.{Within}
 use Rattle.tableau.specs.Elimination.{Left, subtract, kept, lowered, reduced}
-use Rattle.tableau.specs.Within.{Within, within-take, beyond-append}
-use Rattle.tableau.specs.Steps.{Stops, quotientOf, stepOf, Pivot, leftAfter}
+use Rattle.tableau.proofs.Within.{within-take, beyond-append}
+use Rattle.tableau.specs.RowSteps.{Stops, quotientOf, stepOf, Pivot, leftAfter}
 use Rattle.tableau.specs.declared.rows.Way.{Way}
 use Rattle.tableau.specs.declared.rows.Way.the-variants.{Below, Above}
 

@@ -17,10 +17,11 @@ use lib.Seq.{length-take-le, take-all}
 use Rattle.whole.specs.Lists.{entry, zeros}
 use Rattle.lattice.specs.Rows.{unit, flat, chop}
 use Rattle.lattice.specs.Span.{All}
-use Rattle.lattice.specs.FlatLaws.{chop-row, length-chop, row-number, put-take}
+use Rattle.lattice.proofs.FlatLaws.{chop-row, length-chop, row-number, put-take}
 use Rattle.problem.specs.Limits.{M, anyBeyond}
+use Rattle.tableau.specs.Within.{Within}
 use Rattle.tableau.specs.Table.{column, tableauFrom, tableau}
-use Rattle.tableau.specs.Within.{Within, within-append, within-entry, within-zeros}
+use Rattle.tableau.proofs.Within.{within-append, within-entry, within-zeros}
 use Rattle.tableau.proofs.Staying.{flat-all}
 
 pub column-length : (j m n : ℕ) (a : List ℤ) → length (column j (chop m n a)) ≡ m

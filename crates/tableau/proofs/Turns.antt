@@ -17,11 +17,13 @@ use lib.ListN.{length, take, drop}
 use lib.Seq.{take-at, drop-at}
 use Rattle.whole.specs.Lists.{entry}
 use Rattle.lattice.specs.Rows.{ZeroTo, flat, chop}
-use Rattle.lattice.specs.RowLaws.{ZeroTo-plus, ZeroTo-neg}
-use Rattle.lattice.specs.Span.{All, Len, steps-length, steps-all}
-use Rattle.lattice.specs.FlatLaws.{chop-next, chop-flat, flat-chop, length-chop}
+use Rattle.lattice.proofs.RowLaws.{ZeroTo-plus, ZeroTo-neg}
+use Rattle.lattice.specs.Span.{All, Len}
+use Rattle.lattice.proofs.Span.{steps-length, steps-all}
+use Rattle.lattice.proofs.FlatLaws.{chop-next, chop-flat, flat-chop, length-chop}
 use Rattle.tableau.specs.Elimination.{Gathered, Choice, none, at, choose, clear, onward}
-use Rattle.tableau.specs.GatherLaws.{Chosen, chosen-stands, round-steps, round-lead, round-next, gathering, following, gathering-round}
+use Rattle.tableau.specs.Gathering.{Chosen, gathering}
+use Rattle.tableau.proofs.GatherLaws.{chosen-stands, round-steps, round-lead, round-next, following, gathering-round}
 use Rattle.tableau.specs.Within.{Within}
 use Rattle.tableau.specs.Tails.{Tail, Picked, lowerFirst, roundOf, gatheringOf}
 use Rattle.tableau.proofs.Walking.{each-count}

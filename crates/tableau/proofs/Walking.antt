@@ -19,12 +19,13 @@ use Rattle.whole.specs.Lists.{entry}
 use Rattle.whole.specs.Tests.{isZero}
 use Rattle.whole.specs.Quotient.{gatheringQuotient}
 use Rattle.lattice.specs.Rows.{flat, chop}
-use Rattle.lattice.specs.RowLaws.{length-plus}
+use Rattle.lattice.proofs.RowLaws.{length-plus}
 use Rattle.lattice.specs.Span.{All, Len}
-use Rattle.lattice.specs.FlatLaws.{chop-next, put-take, put-drop}
+use Rattle.lattice.proofs.FlatLaws.{chop-next, put-take, put-drop}
 use Rattle.tableau.specs.Elimination.{Left, kept, subtract, lowered, reduced, Run, each}
-use Rattle.tableau.specs.Within.{Within, within-append, within-take, within-drop}
-use Rattle.tableau.specs.Steps.{StopsRun, stepOf}
+use Rattle.tableau.specs.Within.{Within}
+use Rattle.tableau.proofs.Within.{within-append, within-take, within-drop}
+use Rattle.tableau.specs.RowSteps.{StopsRun, stepOf}
 use Rattle.tableau.specs.declared.rows.Way.{Way}
 use Rattle.tableau.specs.declared.rows.Way.the-variants.{Below, Above}
 

@@ -10,7 +10,7 @@
 -- unbounded numbers, and refusal 7 reads the mark.
 -- Rows and columns are counted from 0; the rows above row k are kept in one list, the rows from k on in another.
 -- Assumes nothing.
-use mathlib.Core.Bool.{Bool, true, false, cond, _||_}
+use mathlib.Core.Bool.{Bool, false, cond, _||_}
 use mathlib.Core.List.{List, [], _∷_, _++_}
 use Prim.Native.Nat.{ℕ, zero, suc}
 use lib.Dec.{leb}

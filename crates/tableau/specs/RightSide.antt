@@ -10,13 +10,13 @@
 --   solve n A b     the tableau and the right side of n columns, the matrix A and the right sides b
 -- "starting list" is document 01's term: the reduced representative of the coset of solutions. The basis is the kernel basis in Hermite form.
 -- Assumes nothing.
-use mathlib.Core.Bool.{Bool, true, false, cond, _||_}
+use mathlib.Core.Bool.{Bool, false, cond, _||_}
 use mathlib.Core.List.{List, [], _∷_, _++_, map}
 use Prim.Native.Nat.{ℕ, _+_}
 use lib.Dec.{ltb}
 use lib.IntN.{ℤ}
 use lib.ListN.{length, take, drop}
-use Rattle.whole.specs.Lists.{entry, zeros}
+use Rattle.whole.specs.Lists.{zeros}
 use Rattle.lattice.specs.Rows.{neg, allZero, lead}
 use Rattle.tableau.specs.Table.{tableau}
 use Rattle.tableau.specs.Elimination.{Left, kept, reduced, Run, eliminate}

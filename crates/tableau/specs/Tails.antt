@@ -18,7 +18,7 @@ use Rattle.whole.specs.Lists.{entry}
 use Rattle.lattice.specs.Rows.{ZeroTo, flat, chop}
 use Rattle.lattice.specs.Span.{All}
 use Rattle.tableau.specs.Elimination.{Gathered, signed, round}
-use Rattle.tableau.specs.GatherLaws.{Chosen, gathering}
+use Rattle.tableau.specs.Gathering.{Chosen, gathering}
 use Rattle.tableau.specs.Within.{Within}
 
 pub record Tail (k w c : ℕ) (t : List ℤ) : Type 0 where

@@ -1,10 +1,10 @@
 ghost use mathlib.Core.Path.{_≡_};
 ghost use Prim.Native.Nat.{_*_, _-_, _<_};
 ghost use lib.ListN.{length, drop};
-ghost use Rattle.tableau.specs.Buffers.{eliminatedOf};
+ghost use Rattle.tableau.specs.LentTable.{eliminatedOf};
 ghost use Rattle.tableau.specs.Choices.{nonzeros};
-ghost use Rattle.tableau.specs.Columns.{Standing, belowOf, passedOf, tableOf};
-ghost use Rattle.tableau.specs.Steps.{StopsRun};
+ghost use Rattle.tableau.specs.ColumnPass.{Standing, belowOf, passedOf, tableOf};
+ghost use Rattle.tableau.specs.RowSteps.{StopsRun};
 ghost use Rattle.tableau.specs.Tails.{Picked};
 ghost use Rattle.tableau.specs.Within.{Within};
 use crate::gathering::Choice;

@@ -4,7 +4,7 @@ ghost use Prim.Native.Nat.{_+_, _*_, _<_};
 ghost use lib.ListN.{length};
 ghost use Rattle.lattice.specs.Rows.{unit, flat, chop};
 ghost use Rattle.tableau.specs.Table.{column, tableau};
-ghost use Rattle.tableau.specs.Buffers.{Formable, matrixOf};
+ghost use Rattle.tableau.specs.LentTable.{Formable, matrixOf};
 use problem::Problem;
 
 // Column j of a matrix whose rows have n coefficients.

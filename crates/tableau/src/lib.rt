@@ -4,9 +4,9 @@ ghost use Prim.Native.Nat.{_*_, _≤_};
 ghost use lib.ListN.{length};
 ghost use Rattle.tableau.specs.Table.{maxWidth};
 ghost use Rattle.tableau.specs.Elimination.{reduced};
-ghost use Rattle.tableau.specs.Steps.{Pivot, leftAfter};
+ghost use Rattle.tableau.specs.RowSteps.{Pivot, leftAfter};
 ghost use Rattle.tableau.specs.Within.{Within};
-ghost use Rattle.tableau.specs.Buffers.{Formable, formOf, formAfter, outcome, eliminatedOf};
+ghost use Rattle.tableau.specs.LentTable.{Formable, formOf, formAfter, outcome, eliminatedOf};
 
 mod elimination;
 mod filling;

@@ -1,7 +1,7 @@
 ghost use mathlib.Core.Path.{_≡_};
 ghost use Prim.Native.Nat.{_*_};
 ghost use lib.ListN.{length};
-ghost use Rattle.tableau.specs.Steps.{StopsRun, eachOf, Pivot};
+ghost use Rattle.tableau.specs.RowSteps.{StopsRun, eachOf, Pivot};
 ghost use Rattle.tableau.specs.Within.{Within};
 use crate::rows::Way;
 use crate::rows::step;

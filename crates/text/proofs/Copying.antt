@@ -6,7 +6,7 @@ use native.Mathlib.Numerals.{add-one}
 use native.Mathlib.Omega.{arith}
 use lib.ListN.{replicate, length-replicate, replicate-append-replicate, length, take, drop, set, getD, length-append, length-drop, take-append-drop}
 use lib.Seq.{set-split, take-at, drop-at, drop-drop, drop-length, length-take-le, take-length, paste, paste-zero, paste-suc}
-use Rattle.text.specs.Buffers.{written, Wrote}
+use Rattle.text.specs.Written.{written, Wrote}
 
 module _ {A : Type 0} where
   pub length-written : (o : List A) (at : ℕ) (w : List A) → at + length w ≤ length o → length (written o at w) ≡ length o

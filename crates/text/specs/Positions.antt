@@ -5,9 +5,9 @@
 --   nextAt s at      the first token at or after a position, and where it ends (Next is declared in src/); the laws tokens-found and
 --                    tokens-end of proofs/Scanning say that it is the head of `tokens (drop at s)`, and that the rest stands after it
 -- Assumes nothing.
-use mathlib.Core.Bool.{Bool, true, false, cond}
+use mathlib.Core.Bool.{cond}
 use mathlib.Core.List.{List, [], _∷_}
-use Prim.Native.Nat.{ℕ, zero, suc, _+_}
+use Prim.Native.Nat.{ℕ, suc, _+_}
 use lib.Dec.{ltb}
 use lib.ListN.{length, take, drop}
 use Rattle.text.specs.declared.Next.{Next}

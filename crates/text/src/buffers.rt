@@ -2,7 +2,7 @@
 ghost use mathlib.Core.Path.{_≡_};
 ghost use Prim.Native.Nat.{_+_, _-_, _≤_};
 ghost use lib.ListN.{length, replicate};
-ghost use Rattle.text.specs.Buffers.{written};
+ghost use Rattle.text.specs.Written.{written};
 
 // Copies numbers into a buffer from a place on.
 pub fn copy(out: &mut [i64], at: usize, numbers: &[i64])

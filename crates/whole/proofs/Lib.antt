@@ -1,3 +1,5 @@
 -- The root of the laws that the proofs cite.
 pub mod Signed
 pub mod Euclid
+pub mod Counted
+pub mod Integers

@@ -1,7 +1,5 @@
 -- The root of the definitions.
 pub mod Lists
 pub mod Tests
-pub mod Counted
 pub mod Quotient
 pub mod Divisor
-pub mod Integers

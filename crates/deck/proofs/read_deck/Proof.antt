@@ -4,10 +4,10 @@ use mathlib.Core.Bool.{true}
 use native.Mathlib.Omega.{arith}
 use borrow.Author.Tests.{not-true, not-false}
 use Rattle.sections.specs.Rules.{no}
-use Rattle.sections.specs.Columns.{blank}
+use Rattle.sections.specs.StatedColumns.{blank}
 use Rattle.deck.specs.Posing.{deck}
 use Rattle.deck.specs.Reader.{DeckBuffers, deckBuffers, lengthsFit}
-use Rattle.deck.specs.Steps.{DeckStored}
+use Rattle.deck.specs.ReaderTables.{DeckStored}
 use Rattle.deck.proofs.Whole.{read-short, read-long, read-not, sizes, accepting}
 use borrow.Author.Needs.{needs}
 use Rattle.deck.proofs.read_deck.Statement.{statement}

@@ -3,8 +3,8 @@ use mathlib.Core.Path.{_≡_, sym, ap, _∙_}
 use lib.ListN.{length}
 use Rattle.sections.specs.Rules.{no}
 use Rattle.sections.specs.Sections.{deckRows, intervalSection, rowSection}
-use Rattle.sections.specs.Columns.{columnCells}
-use Rattle.sections.specs.Steps.{intervalsDone, rowsDone}
+use Rattle.sections.specs.StatedColumns.{columnCells}
+use Rattle.sections.specs.SectionsRead.{intervalsDone, rowsDone}
 use Rattle.sections.proofs.Storage.{length-blank}
 use Rattle.deck.proofs.Whole.{IntervalsFound, intervals-found, intervals-refused, few-intervals, rows-found, rows-refused, deck-intervals, deck-rows, left-over, stored}
 use borrow.Author.Needs.{needs}

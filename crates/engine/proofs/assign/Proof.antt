@@ -11,14 +11,14 @@ use lib.ListN.{length, take, drop}
 use Rattle.whole.specs.Lists.{zeros}
 use Rattle.lattice.specs.Rows.{flat}
 use Rattle.problem.specs.Checks.{Posed, firstCause}
-use Rattle.problem.specs.CheckLaws.{Passes, passes, Fits, fits}
+use Rattle.problem.proofs.CheckLaws.{Passes, passes, Fits, fits}
 use Rattle.problem.specs.declared.Check.the-variants.{Passed}
 use Rattle.problem.specs.declared.Refusal.the-variants.{Elimination, NoWholeNumbers}
 use Rattle.rightside.specs.Solutions.{solutionOf}
 use Rattle.rightside.specs.declared.Solution.the-variants.{Over, None, Found}
 use Rattle.rightside.proofs.Answers.{solution-over, solution-none, solution-found, start-found}
 use Rattle.settling.specs.Columns.{Columns, width, listed, columnsIn, packed}
-use Rattle.settling.specs.Parts.{part-length, part-back, part-fits}
+use Rattle.settling.proofs.Fronts.{part-length, part-back, part-fits}
 use Rattle.settling.proofs.Packing.{packed-length}
 use Rattle.engine.specs.Assign.{Buffers, posed, buffers, columns, lentOf, refused, solved, assign}
 use Rattle.engine.specs.Finish.{finished, Finishable}

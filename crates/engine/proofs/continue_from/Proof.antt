@@ -12,12 +12,12 @@ use Rattle.whole.specs.Lists.{zeros}
 use Rattle.lattice.specs.Rows.{flat}
 use Rattle.problem.specs.Limits.{anyBeyond}
 use Rattle.problem.specs.Checks.{Posed, firstCause}
-use Rattle.problem.specs.CheckLaws.{Passes, passes, Fits, fits, both-true}
+use Rattle.problem.proofs.CheckLaws.{Passes, passes, Fits, fits, both-true}
 use Rattle.problem.specs.declared.Check.the-variants.{Passed}
 use Rattle.problem.specs.declared.Refusal.the-variants.{Elimination}
-use Rattle.tableau.specs.Within.{within-entry}
+use Rattle.tableau.proofs.Within.{within-entry}
 use Rattle.settling.specs.Columns.{Columns, width, listed, columnsIn, packed}
-use Rattle.settling.specs.Parts.{part-length, part-back, part-fits}
+use Rattle.settling.proofs.Fronts.{part-length, part-back, part-fits}
 use Rattle.settling.proofs.Packing.{packed-length}
 use Rattle.engine.specs.Assign.{Buffers, posed, buffers, columns, lentOf, refused, stands, formed}
 use Rattle.engine.specs.Finish.{settledOver}

@@ -8,7 +8,7 @@ use native.Mathlib.Omega.{arith}
 use lib.IntN.{ℤ}
 use lib.ListN.{length, drop, length-drop}
 use Rattle.lattice.specs.Rows.{chop}
-use Rattle.lattice.proofs.Parts.{tail-is}
+use Rattle.lattice.proofs.LentParts.{tail-is}
 use Rattle.tableau.specs.RightSide.{Solved, rightSide}
 use Rattle.rightside.specs.Solutions.{solutionOf, Righted}
 use Rattle.rightside.specs.Sweeps.{foundOf}

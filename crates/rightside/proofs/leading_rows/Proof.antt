@@ -3,7 +3,7 @@
 use mathlib.Core.Path.{_≡_}
 use native.Mathlib.Omega.{arith}
 use Rattle.lattice.specs.Rows.{lead}
-use Rattle.lattice.proofs.Parts.{part-is}
+use Rattle.lattice.proofs.LentParts.{part-is}
 use Rattle.rightside.proofs.Staircase.{ahead, row, lead-is, Counts, count-starts, count-on, count-stops, count-ends}
 use borrow.Author.Needs.{needs}
 use Rattle.rightside.proofs.leading_rows.Statement.{statement}

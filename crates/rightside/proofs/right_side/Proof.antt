@@ -11,7 +11,7 @@ use lib.ListN.{length, take}
 use lib.Seq.{length-take-le}
 use Rattle.whole.specs.Lists.{zeros}
 use Rattle.lattice.specs.Rows.{allZero, chop}
-use Rattle.lattice.proofs.Parts.{tail-is}
+use Rattle.lattice.proofs.LentParts.{tail-is}
 use Rattle.tableau.specs.Within.{Within}
 use Rattle.tableau.specs.RightSide.{sweep, leading, remaining}
 use Rattle.rightside.specs.Sweeps.{Swept, Sweepable}

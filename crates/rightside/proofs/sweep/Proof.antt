@@ -4,7 +4,7 @@ use mathlib.Core.Path.{_≡_, refl, _∙_}
 use native.Mathlib.Omega.{arith}
 use lib.ListN.{length}
 use Rattle.lattice.specs.Rows.{lead}
-use Rattle.lattice.proofs.Parts.{part-is}
+use Rattle.lattice.proofs.LentParts.{part-is}
 use Rattle.tableau.specs.Elimination.{reduced}
 use Rattle.rightside.specs.Sweeps.{Swept}
 use Rattle.rightside.proofs.Staircase.{ahead, lead-is}

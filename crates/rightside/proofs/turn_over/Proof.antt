@@ -1,7 +1,7 @@
 -- `rightside::turn_over` meets its contract: from the left, each right side's negative is stored. Assumes nothing.
 use mathlib.Core.Path.{_≡_, sym, _∙_, ap, ap₂}
 use mathlib.Core.List.{List, _++_}
-use Prim.Native.Nat.{ℕ, _+_, _-_, _≤_}
+use Prim.Native.Nat.{ℕ, _-_, _≤_}
 use native.Mathlib.Omega.{arith}
 use borrow.Author.Needs.{needs}
 use lib.IntN.{ℤ, pos, negℤ}
@@ -10,9 +10,9 @@ use lib.Seq.{take-at}
 use Rattle.whole.specs.Lists.{entry}
 use Rattle.whole.proofs.Signed.{back}
 use Rattle.lattice.specs.Rows.{neg}
-use Rattle.lattice.specs.RowLaws.{length-neg, entry-neg}
+use Rattle.lattice.proofs.RowLaws.{length-neg, entry-neg}
 use Rattle.lattice.proofs.Writing.{Written, starts, goes-on}
-use Rattle.tableau.specs.Within.{within-entry}
+use Rattle.tableau.proofs.Within.{within-entry}
 use Rattle.rightside.proofs.turn_over.Statement.{statement}
 use Rattle.rightside.proofs.turn_over.Tie as tie
 

@@ -3,8 +3,8 @@ use mathlib.Core.Path.{sym, _∙_, ap}
 use lib.Seq.{length-take-le}
 use Rattle.whole.specs.Lists.{zeros}
 use Rattle.tableau.specs.Elimination.{Run}
-use Rattle.tableau.specs.Steps.{StopsRun}
-use Rattle.tableau.specs.Buffers.{eliminatedOf}
+use Rattle.tableau.specs.RowSteps.{StopsRun}
+use Rattle.tableau.specs.LentTable.{eliminatedOf}
 use Rattle.tableau.proofs.Forms.{outcome-by}
 use borrow.Author.Needs.{needs}
 use Rattle.tableau.proofs.eliminate.Statement.{statement}

@@ -2,7 +2,7 @@
 use mathlib.Core.Path.{sym, _∙_, ap, subst}
 use native.Mathlib.Omega.{arith}
 use Rattle.tableau.specs.Within.{Within}
-use Rattle.tableau.specs.Buffers.{Outcome}
+use Rattle.tableau.specs.LentTable.{Outcome}
 use Rattle.tableau.proofs.Forms.{table-within, form-outcome}
 use borrow.Author.Needs.{needs}
 use Rattle.tableau.proofs.form.Statement.{statement}

@@ -9,7 +9,8 @@ use mir.Syntax.{w64}
 use mir.Val.{toZ, ofZ, SFits}
 use mir.Facts.{toZ-ofZ}
 use Rattle.whole.specs.Quotient.{floorQuotient}
-use Rattle.whole.specs.Integers.{Positive, above-positive, floor-by-machine}
+use Rattle.whole.specs.Tests.{Positive}
+use Rattle.whole.proofs.Integers.{above-positive, floor-by-machine}
 use Rattle.whole.proofs.Signed.{over, rem-fits, floor-fits}
 use Rattle.whole.proofs.floor_quotient.Statement.{statement}
 use Rattle.whole.proofs.floor_quotient.Tie as tie

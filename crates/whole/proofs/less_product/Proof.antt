@@ -1,13 +1,13 @@
 -- `whole::less_product` meets its contract: 2 to the 31st and its square together stay below 2 to the 63rd. Assumes nothing.
 use mathlib.Core.Path.{_≡_}
-use Prim.Native.Nat.{_+_, _*_, _≤_}
+use Prim.Native.Nat.{_≤_}
 use native.Mathlib.Nat.{mul-le-mul}
 use native.Mathlib.Omega.{arith}
 use lib.IntN.{ℤ, natAbs, negℤ, _+ℤ_, _*ℤ_, _-ℤ_}
 use mir.Syntax.{w64}
 use mir.Val.{SFits}
 use mir.Facts.{toZ-ofZ}
-use Rattle.whole.specs.Integers.{rep, diff-rel}
+use Rattle.whole.proofs.Integers.{rep, diff-rel}
 use Rattle.whole.proofs.Signed.{abs-add, abs-mul, abs-neg, sfits-abs}
 use Rattle.whole.proofs.less_product.Statement.{statement}
 use Rattle.whole.proofs.less_product.Tie as tie

@@ -5,7 +5,7 @@ use lib.IntN.{ℤ, pos, negℤ, _-ℤ_}
 use mir.Syntax.{w64}
 use mir.Val.{SFits}
 use mir.Facts.{toZ-ofZ}
-use Rattle.whole.specs.Integers.{rep, diff-rel}
+use Rattle.whole.proofs.Integers.{rep, diff-rel}
 use Rattle.whole.proofs.Signed.{abs-neg, sfits-abs}
 use Rattle.whole.proofs.negated.Statement.{statement}
 use Rattle.whole.proofs.negated.Tie as tie

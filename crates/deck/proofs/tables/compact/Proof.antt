@@ -6,9 +6,9 @@ use native.Mathlib.Omega.{arith}
 use lib.IntN.{ℤ}
 use lib.ListN.{length, take, drop, length-append, length-drop}
 use lib.Seq.{length-take-le}
-use Rattle.text.specs.Buffers.{written}
+use Rattle.text.specs.Written.{written}
 use Rattle.sections.specs.Sections.{deckColumns, deckRows, coefficientCount}
-use Rattle.deck.specs.Steps.{compacted}
+use Rattle.deck.specs.ReaderTables.{compacted}
 use Rattle.text.proofs.Copying.{written-none, written-then}
 use Rattle.deck.proofs.Lists.{compacted-more, compacted-end}
 use Rattle.deck.proofs.tables.compact.Statement.{statement}

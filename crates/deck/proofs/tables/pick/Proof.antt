@@ -10,10 +10,10 @@ use lib.Seq.{drop-drop}
 use mir.Syntax.{w64}
 use mir.Val.{toZ, ofZ}
 use Rattle.whole.specs.Lists.{entry}
-use Rattle.text.specs.Buffers.{written}
+use Rattle.text.specs.Written.{written}
 use Rattle.sections.specs.Sections.{deckColumns}
-use Rattle.sections.specs.Columns.{columnWidth}
-use Rattle.deck.specs.Steps.{picked}
+use Rattle.sections.specs.StatedColumns.{columnWidth}
+use Rattle.deck.specs.ReaderTables.{picked}
 use Rattle.text.proofs.Copying.{written-none, written-one, written-then, written-all}
 use Rattle.deck.proofs.Lists.{entry-drop, picked-more, picked-end}
 use Rattle.deck.proofs.tables.pick.Statement.{statement}

@@ -14,7 +14,7 @@ use Rattle.settling.specs.Columns.{Columns, columnsIn}
 use Rattle.settling.specs.Seating.{SeatDone, leaves}
 use Rattle.settling.specs.Seating as Seating
 use Rattle.engine.specs.declared.views.Place.{Place}
-use Rattle.engine.specs.Views.{basisOf}
+use Rattle.engine.specs.BasisPlace.{basisOf}
 use Rattle.engine.specs.Finish.{settledBy}
 use Rattle.engine.proofs.Finishing.{finished-far, finished-seated, seated-long, seated-small, ready-with}
 use Rattle.engine.proofs.Sizes.{maxTableau}

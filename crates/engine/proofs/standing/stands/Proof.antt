@@ -2,7 +2,7 @@
 use mathlib.Core.List.{List}
 use lib.IntN.{ℤ}
 use Rattle.problem.specs.declared.Problem.{Problem}
-use Rattle.problem.specs.CheckLaws.{all-small}
+use Rattle.problem.proofs.CheckLaws.{all-small}
 use Rattle.engine.specs.Standing.{Standable, keepsRow}
 use mathlib.Core.Path.{_≡_, sym, _∙_, ap, ap₂}
 use mathlib.Core.Bool.{Bool, true, _&&_}
@@ -11,7 +11,7 @@ use native.Mathlib.Omega.{arith}
 use borrow.Author.Needs.{needs}
 use lib.ListN.{length}
 use Rattle.whole.specs.Tests.{every}
-use Rattle.whole.specs.Counted.{SoFar, starts, goes-on, ends, fails}
+use Rattle.whole.proofs.Counted.{SoFar, starts, goes-on, ends, fails}
 use Rattle.problem.specs.Limits.{M}
 use Rattle.problem.specs.Checks.{allSpan}
 use Rattle.problem.proofs.Laws.{passed, failed}

@@ -3,7 +3,7 @@ use mathlib.Core.Path.{_∙_, ap}
 use Prim.Native.Nat.{ℕ, _+_}
 use native.Mathlib.Omega.{arith}
 use Rattle.rightside.proofs.Parting.{few-leading}
-use Rattle.engine.specs.Views.{placeBehind}
+use Rattle.engine.specs.BasisPlace.{placeBehind}
 use borrow.Author.Needs.{needs}
 use Rattle.engine.proofs.views.basis_place.Statement.{statement}
 use Rattle.engine.proofs.views.basis_place.Tie as tie

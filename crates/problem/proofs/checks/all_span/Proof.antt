@@ -9,7 +9,7 @@ use lib.IntN.{ℤ, pos}
 use lib.ListN.{length, getD}
 use Rattle.whole.proofs.Signed.{back}
 use Rattle.whole.specs.Tests.{spans}
-use Rattle.whole.specs.Counted.{SoFar, starts, goes-on, ends, fails}
+use Rattle.whole.proofs.Counted.{SoFar, starts, goes-on, ends, fails}
 use Rattle.problem.proofs.Laws.{passed, failed}
 use Rattle.problem.proofs.checks.all_span.Statement.{statement}
 use Rattle.problem.proofs.checks.all_span.Tie as tie

@@ -8,7 +8,7 @@ use borrow.Author.Needs.{needs}
 use lib.IntN.{ℤ, pos}
 use lib.ListN.{length, getD}
 use Rattle.whole.proofs.Signed.{back}
-use Rattle.whole.specs.Counted.{SoFar, starts, goes-on, ends, fails}
+use Rattle.whole.proofs.Counted.{SoFar, starts, goes-on, ends, fails}
 use Rattle.problem.specs.Checks.{goalFits}
 use Rattle.problem.proofs.Laws.{passed, failed}
 use Rattle.problem.proofs.checks.goals_fit.Statement.{statement}

@@ -10,7 +10,8 @@ use lib.ListN.{length, take, drop}
 use mir.Syntax.{w64}
 use mir.Val.{toZ, ofZ}
 use Rattle.whole.proofs.Signed.{back}
-use Rattle.settling.specs.Views.{OfBasis, vector-end, vector-part}
+use Rattle.settling.specs.Views.{OfBasis}
+use Rattle.settling.proofs.Views.{vector-end, vector-part}
 use Rattle.search.specs.declared.places.Place.{Place}
 use Rattle.search.specs.declared.probes.Sum.{Sum}
 use Rattle.search.specs.Progress.{alone}

@@ -10,7 +10,7 @@ use mir.Val.{toZ, ofZ}
 use borrow.Author.Needs.{needs}
 use Rattle.whole.specs.Lists.{entry}
 use Rattle.whole.specs.Tests.{isZero}
-use Rattle.settling.specs.Views.{vectors-at}
+use Rattle.settling.proofs.Views.{vectors-at}
 use Rattle.settling.proofs.Machine.{read}
 use Rattle.search.proofs.places.holds.Statement.{statement}
 use Rattle.search.proofs.places.holds.Tie as tie

@@ -9,7 +9,7 @@ use lib.IntN.{ℤ}
 use lib.ListN.{length, take, drop}
 use mir.Syntax.{w64}
 use mir.Val.{toZ, ofZ}
-use Rattle.settling.specs.Views.{vector-end, vector-part}
+use Rattle.settling.proofs.Views.{vector-end, vector-part}
 use Rattle.settling.proofs.Machine.{read}
 use Rattle.search.specs.declared.Search.{Search}
 use Rattle.search.specs.declared.places.Pair.{Pair}

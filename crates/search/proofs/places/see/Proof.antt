@@ -9,8 +9,7 @@ use Rattle.problem.specs.Limits.{maxColumns}
 use Rattle.search.specs.declared.places.Place.{Place}
 use Rattle.search.specs.Numbers.{numberAt}
 use Rattle.search.specs.Progress.{alone, Stand, Saw}
-use Rattle.search.proofs.Sighting.{here-column, here-room, Seeing}
-use Rattle.search.proofs.Sighting.{see-starts, see-begins, see-since, see-more, see-at, see-hit, see-ends}
+use Rattle.search.proofs.Sighting.{here-column, here-room, Seeing, see-starts, see-begins, see-since, see-more, see-at, see-hit, see-ends}
 use Rattle.search.proofs.places.see.Statement.{statement}
 use Rattle.search.proofs.places.see.Tie as tie
 

@@ -4,7 +4,7 @@ use native.Mathlib.Omega.{arith}
 use borrow.Author.Needs.{needs}
 use lib.ListN.{getD}
 use Rattle.settling.specs.Columns.{cell}
-use Rattle.settling.specs.Sizes.{measure-room}
+use Rattle.settling.proofs.Sizes.{measure-room}
 use Rattle.search.specs.Numbers.{numberAt}
 use Rattle.search.specs.Searches.{columnsOf, better}
 use Rattle.search.proofs.Beating.{still-beat, none-beat, blocked-beat}

@@ -5,7 +5,8 @@ use native.Mathlib.Omega.{arith}
 use lib.ListN.{length}
 use Rattle.problem.specs.Limits.{maxColumns}
 use Rattle.settling.specs.Moves.{vector}
-use Rattle.settling.specs.Views.{vectors, vector-long}
+use Rattle.settling.specs.Views.{vectors}
+use Rattle.settling.proofs.Views.{vector-long}
 use Rattle.search.proofs.Finding.{shifted, Filled, fill-starts, fill-holdable, fill-more, fill-ends}
 use Rattle.search.proofs.sets.find_sets.Statement.{statement}
 use Rattle.search.proofs.sets.find_sets.Tie as tie

@@ -5,7 +5,8 @@ use native.Mathlib.Omega.{arith}
 use borrow.Author.Needs.{needs}
 use lib.ListN.{length, take, drop}
 use Rattle.settling.specs.Moves.{vector}
-use Rattle.settling.specs.Views.{vectors, vectors-is, vector-long}
+use Rattle.settling.specs.Views.{vectors}
+use Rattle.settling.proofs.Views.{vectors-is, vector-long}
 use Rattle.search.specs.Sets.{supportOf}
 use Rattle.search.proofs.Finding.{support-end}
 use Rattle.search.proofs.sets.support_at.Statement.{statement}

@@ -9,7 +9,7 @@ use Rattle.problem.specs.Limits.{maxBound}
 use Rattle.problem.specs.declared.Refusal.the-variants.{Goal}
 use Rattle.sections.specs.Rules.{within}
 use Rattle.sections.specs.Sections.{upperFrom, topGoal}
-use Rattle.sections.specs.Steps.{gotOf}
+use Rattle.sections.specs.SectionsRead.{gotOf}
 use Rattle.sections.proofs.Parts.{interval-read, interval-lower, interval-upper, interval-goal}
 use Rattle.sections.proofs.intervals.read_interval.Statement.{statement}
 use Rattle.sections.proofs.intervals.read_interval.Tie as tie

@@ -4,9 +4,9 @@ use native.Mathlib.Omega.{arith}
 use lib.ListN.{length}
 use Rattle.sections.specs.Rules.{no}
 use Rattle.sections.specs.Sections.{intervalSection}
-use Rattle.sections.specs.Columns.{columnCells}
+use Rattle.sections.specs.StatedColumns.{columnCells}
 use Rattle.sections.specs.declared.Section.the-variants.{Refused}
-use Rattle.sections.specs.Steps.{intervalsDone, intervalsLeft}
+use Rattle.sections.specs.SectionsRead.{intervalsDone, intervalsLeft}
 use Rattle.sections.proofs.Storage.{length-blank, wiped}
 use borrow.Author.Needs.{needs}
 use Rattle.sections.proofs.intervals.read_intervals.Statement.{statement}

@@ -10,14 +10,14 @@ use lib.ListN.{length}
 use mir.Syntax.{w64}
 use mir.Val.{toZ, ofZ}
 use mir.Facts.{toZ-ofZ}
-use Rattle.text.specs.Buffers.{written}
+use Rattle.text.specs.Written.{written}
 use Rattle.problem.specs.declared.Refusal.the-variants.{Size}
 use Rattle.sections.specs.declared.Interval.{Interval}
 use Rattle.sections.specs.declared.Section.the-variants.{Read}
 use Rattle.sections.specs.Rules.{Outcome, ok, within}
 use Rattle.sections.specs.Sections.{deckColumns, interval, intervals, intervalSection}
-use Rattle.sections.specs.Columns.{columnWidth, columnCells, cell, cells, padded, blank}
-use Rattle.sections.specs.Steps.{gotOf, intervalGotOf, cursor, intervalsDone, intervalsLeft}
+use Rattle.sections.specs.StatedColumns.{columnWidth, columnCells, cell, cells, padded, blank}
+use Rattle.sections.specs.SectionsRead.{gotOf, intervalGotOf, cursor, intervalsDone, intervalsLeft}
 use Rattle.sections.proofs.Numbers.{count-in}
 use Rattle.sections.proofs.Parts.{intervals-more, intervals-stop, intervals-end, intervals-count, intervals-no}
 use Rattle.sections.proofs.Storage.{length-snoc, padded-none, length-blank, cells-more}

@@ -5,12 +5,12 @@ use Prim.Native.Nat.{ℕ, _+_, _*_}
 use native.Mathlib.Omega.{arith}
 use borrow.Author.Needs.{needs}
 use lib.IntN.{ℤ}
-use Rattle.sections.specs.Columns.{placed, withSlack, blank}
-use Rattle.text.specs.Buffers.{written}
+use Rattle.sections.specs.StatedColumns.{placed, withSlack, blank}
+use Rattle.text.specs.Written.{written}
 use Rattle.problem.specs.Kinds.{slackOf, slackCount}
 use Rattle.problem.specs.declared.Row.{Row}
 use Rattle.sections.specs.Sections.{deckColumns, line}
-use Rattle.sections.specs.Steps.{LineStored}
+use Rattle.sections.specs.SectionsRead.{LineStored}
 use Rattle.sections.proofs.Storage.{blank-is}
 use Rattle.sections.proofs.Parts.{line-room}
 use Rattle.sections.proofs.rows.next_row.Statement.{statement}

@@ -7,11 +7,11 @@ use lib.IntN.{ℤ, pos}
 use mir.Syntax.{w64}
 use mir.Val.{SFits, toZ, ofZ}
 use mir.Facts.{toZ-ofZ}
-use Rattle.text.specs.Buffers.{written}
+use Rattle.text.specs.Written.{written}
 use Rattle.problem.specs.Limits.{maxBound}
 use Rattle.problem.specs.Kinds.{none, slack, slackOf, slackColumns}
-use Rattle.sections.specs.Columns.{slackInterval, columnWidth, cells}
-use Rattle.sections.specs.Steps.{slackIs}
+use Rattle.sections.specs.StatedColumns.{slackInterval, columnWidth, cells}
+use Rattle.sections.specs.SectionsRead.{slackIs}
 use Rattle.text.proofs.Copying.{written-none}
 use Rattle.sections.proofs.Storage.{cells-one}
 use borrow.Author.Needs.{needs}

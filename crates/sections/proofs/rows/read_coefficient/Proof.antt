@@ -4,7 +4,7 @@ use borrow.Author.Needs.{needs}
 use lib.IntN.{ℤ, pos, natAbs}
 use mir.Syntax.{w64}
 use mir.Val.{toZ, ofZ}
-use Rattle.sections.specs.Steps.{gotOf}
+use Rattle.sections.specs.SectionsRead.{gotOf}
 use Rattle.sections.proofs.Numbers.{coefficient-zero, coefficient-read, coefficient-no}
 use Rattle.sections.proofs.rows.read_coefficient.Statement.{statement}
 use Rattle.sections.proofs.rows.read_coefficient.Tie as tie

@@ -11,8 +11,8 @@ use mir.Facts.{toZ-ofZ}
 use Rattle.problem.specs.declared.Refusal.the-variants.{Term as WrongTerm}
 use Rattle.sections.specs.Rules.{within, no}
 use Rattle.sections.specs.Sections.{deckColumns, rowOf, terms}
-use Rattle.sections.specs.Columns.{placed}
-use Rattle.sections.specs.Steps.{gotOf, rowGotOf, TermsStored}
+use Rattle.sections.specs.StatedColumns.{placed}
+use Rattle.sections.specs.SectionsRead.{gotOf, rowGotOf, TermsStored}
 use Rattle.sections.proofs.Parts.{line-read, line-row, line-count, line-terms}
 use Rattle.sections.proofs.Storage.{length-blank}
 use Rattle.sections.proofs.rows.read_line.Statement.{statement}

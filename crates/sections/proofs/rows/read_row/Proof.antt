@@ -10,7 +10,7 @@ use Rattle.problem.specs.Limits.{maxRight}
 use Rattle.problem.specs.declared.Refusal.the-variants.{Coefficient}
 use Rattle.sections.specs.Rules.{within}
 use Rattle.sections.specs.Sections.{kindOf, leastNumber, rowOf}
-use Rattle.sections.specs.Steps.{gotOf, kindGotOf}
+use Rattle.sections.specs.SectionsRead.{gotOf, kindGotOf}
 use Rattle.sections.proofs.Parts.{row-read, row-kind, row-number, number-small}
 use Rattle.sections.proofs.rows.read_row.Statement.{statement}
 use Rattle.sections.proofs.rows.read_row.Tie as tie

@@ -4,9 +4,9 @@ use native.Mathlib.Omega.{arith}
 use lib.ListN.{length}
 use Rattle.sections.specs.Rules.{no}
 use Rattle.sections.specs.Sections.{deckRows, coefficientCount, rowSection}
-use Rattle.sections.specs.Columns.{columnCells}
+use Rattle.sections.specs.StatedColumns.{columnCells}
 use Rattle.sections.specs.declared.Section.the-variants.{Refused}
-use Rattle.sections.specs.Steps.{rowsDone, rowsLeft}
+use Rattle.sections.specs.SectionsRead.{rowsDone, rowsLeft}
 use Rattle.sections.proofs.Storage.{length-blank, wiped}
 use borrow.Author.Needs.{needs}
 use Rattle.sections.proofs.rows.read_rows.Statement.{statement}

@@ -8,7 +8,7 @@ use mir.Val.{toZ, ofZ}
 use mir.Facts.{toZ-ofZ}
 use Rattle.problem.specs.declared.Refusal.the-variants.{Term as WrongTerm}
 use Rattle.sections.specs.Rules.{within}
-use Rattle.sections.specs.Steps.{gotOf}
+use Rattle.sections.specs.SectionsRead.{gotOf}
 use Rattle.sections.proofs.Parts.{term-read, term-index, term-coefficient}
 use Rattle.sections.proofs.rows.read_term.Statement.{statement}
 use Rattle.sections.proofs.rows.read_term.Tie as tie

@@ -12,8 +12,8 @@ use mir.Val.{toZ, ofZ}
 use Rattle.sections.specs.declared.Term.{Term}
 use Rattle.sections.specs.Rules.{ok}
 use Rattle.sections.specs.Sections.{deckColumns, term, terms}
-use Rattle.sections.specs.Columns.{placed}
-use Rattle.sections.specs.Steps.{termGotOf}
+use Rattle.sections.specs.StatedColumns.{placed}
+use Rattle.sections.specs.SectionsRead.{termGotOf}
 use Rattle.sections.proofs.Parts.{term-in, terms-more, terms-stop, terms-end}
 use Rattle.sections.proofs.Storage.{placed-none, placed-more}
 use Rattle.sections.proofs.rows.read_terms.Statement.{statement}

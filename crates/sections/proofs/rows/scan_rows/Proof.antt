@@ -10,15 +10,15 @@ use lib.ListN.{length, length-append, length-map}
 use mir.Syntax.{w64}
 use mir.Val.{toZ, ofZ}
 use mir.Facts.{toZ-ofZ}
-use Rattle.text.specs.Buffers.{written}
+use Rattle.text.specs.Written.{written}
 use Rattle.problem.specs.Kinds.{slackOf}
 use Rattle.problem.specs.declared.Refusal.the-variants.{Size}
 use Rattle.sections.specs.declared.Interval.{Interval}
 use Rattle.sections.specs.declared.Cursor.{Cursor}
 use Rattle.sections.specs.Rules.{Outcome, ok, no, within}
 use Rattle.sections.specs.Sections.{deckColumns, deckRows, coefficientCount, Line, line, lines, rowSection}
-use Rattle.sections.specs.Columns.{rightOf, slackColumn, slackColumns, coefficientRows, columnWidth, columnCells, cells, blank}
-use Rattle.sections.specs.Steps.{gotOf, Lengths, OneStored, cursor, rowsDone, rowsLeft}
+use Rattle.sections.specs.StatedColumns.{rightOf, slackColumn, slackColumns, coefficientRows, columnWidth, columnCells, cells, blank}
+use Rattle.sections.specs.SectionsRead.{gotOf, Lengths, OneStored, cursor, rowsDone, rowsLeft}
 use Rattle.sections.specs.declared.Section.the-variants.{Read}
 use Rattle.text.proofs.Copying.{written-none}
 use Rattle.sections.proofs.Numbers.{count-in}

@@ -5,7 +5,7 @@ use native.Mathlib.Omega.{arith}
 use borrow.Author.Needs.{needs}
 use mir.Syntax.{w64}
 use mir.Val.{toZ, ofZ}
-use Rattle.text.specs.Buffers.{written}
+use Rattle.text.specs.Written.{written}
 use Rattle.sections.specs.Sections.{deckColumns}
 use Rattle.text.proofs.Copying.{written-one}
 use Rattle.sections.proofs.rows.store_row.Statement.{statement}

@@ -5,7 +5,7 @@ use borrow.Author.Needs.{needs}
 use lib.Signed.{ltZ}
 use mir.Syntax.{w64}
 use mir.Val.{toZ, ofZ}
-use Rattle.settling.specs.Sizes.{distance-under, distance-over, distance-inside}
+use Rattle.settling.proofs.Sizes.{distance-under, distance-over, distance-inside}
 use Rattle.settling.proofs.Machine.{read}
 use Rattle.settling.proofs.measures.distance.Statement.{statement}
 use Rattle.settling.proofs.measures.distance.Tie as tie

@@ -6,7 +6,7 @@ use mir.Syntax.{w64}
 use mir.Val.{SFits}
 use mir.Facts.{toZ-ofZ}
 use Rattle.whole.proofs.Signed.{sfits-abs}
-use Rattle.settling.specs.Sizes.{abs-less}
+use Rattle.settling.proofs.Sizes.{abs-less}
 use Rattle.settling.proofs.measures.gap.Statement.{statement}
 use Rattle.settling.proofs.measures.gap.Tie as tie
 

@@ -8,7 +8,8 @@ use Rattle.problem.proofs.Laws.{passed, failed}
 use Rattle.settling.specs.declared.Measure.{Measure}
 use Rattle.settling.specs.Measures as Measures
 use Rattle.settling.specs.Steps.{isAllowed, isCompared}
-use Rattle.settling.specs.Sizes.{Sized, allowed-sized, measure-room}
+use Rattle.settling.specs.Sizes.{Sized}
+use Rattle.settling.proofs.Sizes.{allowed-sized, measure-room}
 use Rattle.settling.proofs.Passing.{passes-far, passes-still, passes-free, passes-measured}
 use Rattle.settling.proofs.measures.passes.Statement.{statement}
 use Rattle.settling.proofs.measures.passes.Tie as tie

@@ -11,7 +11,7 @@ use mir.Facts.{toZ-ofZ}
 use Rattle.whole.specs.Lists.{entry}
 use Rattle.whole.proofs.Signed.{back}
 use Rattle.lattice.specs.Rows.{plus}
-use Rattle.lattice.specs.RowLaws.{length-plus, entry-plus}
+use Rattle.lattice.proofs.RowLaws.{length-plus, entry-plus}
 use Rattle.lattice.proofs.Writing.{Written, starts, goes-on, ends, unread}
 use Rattle.settling.proofs.moves.add_row.Statement.{statement}
 use Rattle.settling.proofs.moves.add_row.Tie as tie

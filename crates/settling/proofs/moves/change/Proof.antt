@@ -8,7 +8,7 @@ use mir.Syntax.{w64}
 use mir.Val.{toZ, ofZ}
 use Rattle.whole.specs.Lists.{entry}
 use Rattle.whole.proofs.Signed.{back}
-use Rattle.settling.specs.Views.{vectors-at}
+use Rattle.settling.proofs.Views.{vectors-at}
 use Rattle.settling.proofs.Machine.{read}
 use Rattle.settling.proofs.moves.change.Statement.{statement}
 use Rattle.settling.proofs.moves.change.Tie as tie

@@ -1,12 +1,12 @@
 -- `settling::moves::combine` meets its contract: each product is no larger than M, and twice M fits. Assumes nothing.
 use native.Mathlib.Omega.{arith}
-use lib.IntN.{ℤ, _+ℤ_, _*ℤ_}
+use lib.IntN.{_+ℤ_, _*ℤ_}
 use mir.Syntax.{w64}
 use mir.Val.{SFits}
 use mir.Facts.{toZ-ofZ}
 use Rattle.whole.proofs.Signed.{sfits-abs}
 use Rattle.problem.specs.Limits.{M}
-use Rattle.settling.specs.Views.{unit-small, sum-small}
+use Rattle.settling.proofs.Views.{unit-small, sum-small}
 use Rattle.settling.proofs.moves.combine.Statement.{statement}
 use Rattle.settling.proofs.moves.combine.Tie as tie
 

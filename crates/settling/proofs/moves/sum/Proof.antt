@@ -1,6 +1,6 @@
 -- `settling::moves::sum` meets its contract: three times M fits. Assumes nothing.
 use native.Mathlib.Omega.{arith}
-use lib.IntN.{ℤ, _+ℤ_}
+use lib.IntN.{_+ℤ_}
 use mir.Syntax.{w64}
 use mir.Val.{SFits}
 use mir.Facts.{toZ-ofZ}

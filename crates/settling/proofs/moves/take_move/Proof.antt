@@ -13,15 +13,16 @@ use mir.Syntax.{w64}
 use mir.Val.{toZ, ofZ}
 use Rattle.whole.specs.Lists.{entry}
 use Rattle.whole.specs.Tests.{isZero}
-use Rattle.whole.specs.Integers.{isZero-true}
+use Rattle.whole.proofs.Integers.{isZero-true}
 use Rattle.whole.proofs.Signed.{abs-add}
 use Rattle.lattice.specs.Rows.{plus}
-use Rattle.lattice.specs.RowLaws.{length-plus, entry-plus, plus-none}
+use Rattle.lattice.proofs.RowLaws.{length-plus, entry-plus, plus-none}
 use Rattle.lattice.proofs.Writing.{starts, ends}
 use Rattle.problem.specs.Limits.{M}
 use Rattle.settling.specs.Moves.{vector, moved}
-use Rattle.settling.specs.Parts.{lt-or-ge}
-use Rattle.settling.specs.Views.{vectors, vector-end, vector-part, vector-long, vector-small, unit-small, moved-length}
+use Rattle.settling.proofs.Fronts.{lt-or-ge}
+use Rattle.settling.specs.Views.{vectors}
+use Rattle.settling.proofs.Views.{vector-end, vector-part, vector-long, vector-small, unit-small, moved-length}
 use Rattle.settling.proofs.Machine.{read}
 use Rattle.settling.proofs.moves.take_move.Statement.{statement}
 use Rattle.settling.proofs.moves.take_move.Tie as tie

@@ -11,7 +11,7 @@ use Rattle.settling.specs.declared.Cell.{Cell}
 use Rattle.settling.specs.Columns.{Columns, columnsIn}
 use Rattle.settling.specs.Ideals as Ideals
 use Rattle.settling.specs.Seating.{idealAt, gapAt}
-use Rattle.settling.specs.Seats.{gap-small}
+use Rattle.settling.proofs.Seats.{gap-small}
 use Rattle.settling.proofs.Machine.{read}
 use borrow.Author.Needs.{needs}
 use Rattle.settling.proofs.seating.gap_at.Statement.{statement}

@@ -7,7 +7,7 @@ use mir.Val.{SFits}
 use mir.Facts.{toZ-ofZ}
 use Rattle.whole.specs.Quotient.{floorQuotient}
 use Rattle.whole.proofs.Signed.{abs-add, abs-mul, sfits-abs, back}
-use Rattle.settling.specs.Seats.{twice-above}
+use Rattle.settling.proofs.Seats.{twice-above}
 use Rattle.settling.proofs.seating.nearest_quotient.Statement.{statement}
 use Rattle.settling.proofs.seating.nearest_quotient.Tie as tie
 

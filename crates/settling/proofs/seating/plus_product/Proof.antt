@@ -1,11 +1,11 @@
 -- `settling::seating::plus_product` meets its contract: the product, and its sum with a value, are below 2 to the 63rd. Assumes nothing.
 use native.Mathlib.Omega.{arith}
-use lib.IntN.{ℤ, _+ℤ_, _*ℤ_}
+use lib.IntN.{_+ℤ_, _*ℤ_}
 use mir.Syntax.{w64}
 use mir.Val.{SFits}
 use mir.Facts.{toZ-ofZ}
 use Rattle.whole.proofs.Signed.{sfits-abs}
-use Rattle.settling.specs.Seats.{product-small}
+use Rattle.settling.proofs.Seats.{product-small}
 use Rattle.settling.proofs.seating.plus_product.Statement.{statement}
 use Rattle.settling.proofs.seating.plus_product.Tie as tie
 

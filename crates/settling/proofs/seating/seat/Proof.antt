@@ -8,7 +8,7 @@ use borrow.Author.Tests.{not-true, not-false}
 use borrow.Author.Needs.{needs}
 use lib.IntN.{ℤ}
 use lib.ListN.{length, take, drop}
-use Rattle.settling.specs.Parts.{part-length, part-back, part-fits}
+use Rattle.settling.proofs.Fronts.{part-length, part-back, part-fits}
 use Rattle.settling.specs.Columns.{columnsIn}
 use Rattle.settling.specs.Seating.{Seated, seated, far, seatDone, leaves}
 use Rattle.settling.specs.Seating as Seating

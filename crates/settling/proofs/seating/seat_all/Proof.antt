@@ -9,7 +9,7 @@ use borrow.Author.Tests.{not-true, not-false}
 use lib.IntN.{ℤ}
 use lib.ListN.{length, take, drop}
 use Rattle.lattice.specs.Rows.{lead}
-use Rattle.lattice.specs.RowLaws.{lead-behind}
+use Rattle.lattice.proofs.RowLaws.{lead-behind}
 use Rattle.lattice.specs.Hermite.{Rising}
 use Rattle.problem.specs.Limits.{anyBeyond}
 use Rattle.settling.specs.declared.Basis.{Basis}
@@ -17,9 +17,10 @@ use Rattle.settling.specs.Columns.{Columns, columnsIn}
 use Rattle.settling.specs.Moves.{vector}
 use Rattle.settling.specs.Seating.{seated, far, seatOne}
 use Rattle.settling.specs.Seating as Seating
-use Rattle.settling.specs.Seats.{within, Addable, Led, Seatable, placeable, row-end, row-addable, still-seatable}
-use Rattle.settling.specs.Seats.{seat-end, seat-far, seat-on}
-use Rattle.settling.specs.Views.{vectors, vector-part}
+use Rattle.settling.specs.Seats.{within, Addable, Led, Seatable}
+use Rattle.settling.proofs.Seats.{row-end, row-addable, placeable, still-seatable, seat-end, seat-far, seat-on}
+use Rattle.settling.specs.Views.{vectors}
+use Rattle.settling.proofs.Views.{vector-part}
 use Rattle.settling.proofs.Adding.{rises-row, rises-on, within-true, within-false}
 use Rattle.settling.proofs.seating.seat_all.Statement.{statement}
 use Rattle.settling.proofs.seating.seat_all.Tie as tie

@@ -14,7 +14,8 @@ use Rattle.lattice.specs.Rows as Rows
 use Rattle.problem.specs.Limits.{M, maxBound}
 use Rattle.settling.specs.Columns.{Columns, columnsIn}
 use Rattle.settling.specs.Seating.{gapAt, seatOne}
-use Rattle.settling.specs.Seats.{within, gap-small, quotient-small}
+use Rattle.settling.specs.Seats.{within}
+use Rattle.settling.proofs.Seats.{gap-small, quotient-small}
 use Rattle.settling.proofs.seating.seat_one.Statement.{statement}
 use Rattle.settling.proofs.seating.seat_one.Tie as tie
 

@@ -10,8 +10,9 @@ use Rattle.whole.specs.Divisor as Divisor
 use Rattle.whole.proofs.Signed.{back}
 use Rattle.settling.specs.Moves.{vector}
 use Rattle.settling.specs.Strides as Strides
-use Rattle.settling.specs.StrideLaws.{stride-none, stride-past, stride-up, stride-one}
-use Rattle.settling.specs.Views.{vectors, vectors-at}
+use Rattle.settling.proofs.StrideLaws.{stride-none, stride-past, stride-up, stride-one}
+use Rattle.settling.specs.Views.{vectors}
+use Rattle.settling.proofs.Views.{vectors-at}
 use Rattle.settling.proofs.strides.stride.Statement.{statement}
 use Rattle.settling.proofs.strides.stride.Tie as tie
 

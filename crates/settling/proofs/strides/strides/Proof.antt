@@ -1,7 +1,7 @@
 -- `settling::strides::strides` meets its contract: from the left, each column gets its stride. Assumes nothing.
 use Prim.Native.Nat.{_-_}
 use native.Mathlib.Omega.{arith}
-use Rattle.settling.specs.StrideLaws.{Filled, filled-none, filled-on, filled-all}
+use Rattle.settling.proofs.StrideLaws.{Filled, filled-none, filled-on, filled-all}
 use Rattle.settling.specs.Views.{vectors}
 use Rattle.settling.proofs.strides.strides.Statement.{statement}
 use Rattle.settling.proofs.strides.strides.Tie as tie

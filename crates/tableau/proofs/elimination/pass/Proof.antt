@@ -9,10 +9,11 @@ use borrow.Rule.Slice.PartMut.{putMid}
 use lib.IntN.{ℤ}
 use lib.ListN.{length, take, drop, length-append}
 use lib.Seq.{length-take-le, take-at, drop-at}
-use Rattle.lattice.proofs.Parts.{tail-is, tail-back}
-use Rattle.tableau.specs.Within.{Within, within-take}
-use Rattle.tableau.specs.Steps.{StopsRun, Pivot, eachOf}
-use Rattle.tableau.specs.Columns.{passedOf, tableOf}
+use Rattle.lattice.proofs.LentParts.{tail-is, tail-back}
+use Rattle.tableau.specs.Within.{Within}
+use Rattle.tableau.proofs.Within.{within-take}
+use Rattle.tableau.specs.RowSteps.{StopsRun, Pivot, eachOf}
+use Rattle.tableau.specs.ColumnPass.{passedOf, tableOf}
 use Rattle.tableau.specs.declared.rows.Way.the-variants.{Above}
 use Rattle.tableau.specs.Tails.{Gathers, gatheringOf}
 use Rattle.tableau.proofs.Passing.{tail-of, room-of, rows-of, pivot-of, passed-over, passed-stops}

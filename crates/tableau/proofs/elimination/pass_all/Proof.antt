@@ -9,12 +9,12 @@ use borrow.Author.Needs.{needs}
 use lib.IntN.{ℤ}
 use lib.ListN.{length, drop}
 use Rattle.lattice.specs.Rows.{chop}
-use Rattle.lattice.proofs.Parts.{tail-is}
+use Rattle.lattice.proofs.LentParts.{tail-is}
 use Rattle.tableau.specs.Elimination.{Run, none, choose, passColumns, eliminate}
 use Rattle.tableau.specs.Choices.{Chooses}
 use Rattle.tableau.specs.Tails.{Picked}
-use Rattle.tableau.specs.Columns.{Standing, aboveOf, belowOf, passedOf, tableOf}
-use Rattle.tableau.specs.Steps.{StopsRun}
+use Rattle.tableau.specs.ColumnPass.{Standing, aboveOf, belowOf, passedOf, tableOf}
+use Rattle.tableau.specs.RowSteps.{StopsRun}
 use Rattle.tableau.proofs.Choosing.{sighted-none, sighted-some}
 use Rattle.tableau.proofs.Passing.{columns-over, columns-on, columns-skip, tail-of, room-of, passed-above, passed-below, passed-on, skipped-on, starts, starts-all, picked-of, ends-columns, ends-rows}
 use Rattle.tableau.proofs.elimination.pass_all.Statement.{statement}

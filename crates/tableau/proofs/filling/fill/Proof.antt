@@ -5,8 +5,8 @@ use Prim.Native.Nat.{ℕ, _+_, _-_}
 use native.Mathlib.Omega.{arith}
 use lib.IntN.{ℤ}
 use lib.ListN.{length}
-use Rattle.lattice.proofs.Parts.{part-is, part-back}
-use Rattle.tableau.specs.Buffers.{matrixOf}
+use Rattle.lattice.proofs.LentParts.{part-is, part-back}
+use Rattle.tableau.specs.LentTable.{matrixOf}
 use Rattle.tableau.proofs.Tableaus.{Filled, starts, goes-on, ends, ahead, row-wide}
 use Rattle.tableau.proofs.filling.fill.Statement.{statement}
 use Rattle.tableau.proofs.filling.fill.Tie as tie

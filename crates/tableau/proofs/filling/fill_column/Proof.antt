@@ -6,7 +6,7 @@ use borrow.Author.Needs.{needs}
 use lib.ListN.{length}
 use Rattle.whole.proofs.Signed.{back}
 use Rattle.lattice.specs.Rows.{chop}
-use Rattle.lattice.specs.FlatLaws.{in-table}
+use Rattle.lattice.proofs.FlatLaws.{in-table}
 use Rattle.lattice.proofs.Writing.{Written, starts, goes-on, ends}
 use Rattle.tableau.specs.Table.{column}
 use Rattle.tableau.proofs.Tableaus.{column-length, column-number}

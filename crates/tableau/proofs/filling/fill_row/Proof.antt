@@ -1,13 +1,13 @@
 -- `tableau::filling::fill_row` meets its contract: the first m numbers are the column, the others the unit list. Assumes nothing.
 use mathlib.Core.Path.{_≡_, sym, _∙_, ap, ap₂}
 use mathlib.Core.List.{List, _++_}
-use Prim.Native.Nat.{ℕ, _+_, _-_}
+use Prim.Native.Nat.{ℕ}
 use native.Mathlib.Omega.{arith}
 use lib.IntN.{ℤ}
 use lib.ListN.{length, take, drop, length-append, length-drop}
 use lib.Seq.{length-take-le, take-at, drop-at}
 use Rattle.lattice.specs.Rows.{unit, chop}
-use Rattle.lattice.proofs.Parts.{tail-is, tail-back}
+use Rattle.lattice.proofs.LentParts.{tail-is, tail-back}
 use Rattle.tableau.specs.Table.{column}
 use borrow.Author.Needs.{needs}
 use Rattle.tableau.proofs.filling.fill_row.Statement.{statement}

@@ -10,7 +10,7 @@ use lib.ListN.{length}
 use Rattle.whole.specs.Lists.{entry}
 use Rattle.whole.proofs.Signed.{back}
 use Rattle.lattice.specs.Rows.{chop}
-use Rattle.lattice.specs.FlatLaws.{in-table, length-chop}
+use Rattle.lattice.proofs.FlatLaws.{in-table, length-chop}
 use Rattle.tableau.specs.Choices.{Chooses}
 use Rattle.tableau.specs.declared.gathering.Choice.{Choice}
 use Rattle.tableau.proofs.Choosing.{few, no-rows, next-row}

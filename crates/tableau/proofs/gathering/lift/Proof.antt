@@ -5,7 +5,8 @@ use Prim.Native.Nat.{ℕ, _*_, _≤_}
 use native.Mathlib.Omega.{arith}
 use lib.ListN.{length, drop, length-append}
 use lib.Seq.{length-take-le}
-use Rattle.tableau.specs.Within.{Within, within-take, within-drop}
+use Rattle.tableau.specs.Within.{Within}
+use Rattle.tableau.proofs.Within.{within-take, within-drop}
 use Rattle.tableau.proofs.Lifting.{top-row, lifted}
 use borrow.Author.Needs.{needs}
 use Rattle.tableau.proofs.gathering.lift.Statement.{statement}

@@ -5,7 +5,7 @@ use Prim.Native.Nat.{ℕ}
 use native.Mathlib.Omega.{arith}
 use lib.IntN.{ℤ}
 use lib.ListN.{length}
-use Rattle.lattice.proofs.Parts.{tail-is, tail-back}
+use Rattle.lattice.proofs.LentParts.{tail-is, tail-back}
 use Rattle.tableau.specs.Within.{Within}
 use Rattle.tableau.proofs.Rounds.{ends-inside, lift-asks, pivot-is, below-is-wide, below-is-small, round-stops}
 use borrow.Author.Needs.{needs}

@@ -11,9 +11,9 @@ use lib.ListN.{length, take, drop, length-drop}
 use Rattle.whole.specs.Lists.{entry}
 use Rattle.whole.proofs.Signed.{back}
 use Rattle.lattice.specs.Rows.{flat, chop}
-use Rattle.lattice.proofs.Parts.{tail-is}
+use Rattle.lattice.proofs.LentParts.{tail-is}
 use Rattle.tableau.specs.Elimination.{Gathered, none, choose}
-use Rattle.tableau.specs.GatherLaws.{Chosen}
+use Rattle.tableau.specs.Gathering.{Chosen}
 use Rattle.tableau.specs.Choices.{choiceOf}
 use Rattle.tableau.specs.Tails.{Tail, Picked, Gathers, roundOf, gatheringOf}
 use Rattle.tableau.proofs.Choosing.{sighted-none, sighted-some}

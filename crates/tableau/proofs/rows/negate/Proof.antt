@@ -10,9 +10,9 @@ use borrow.Author.Needs.{needs}
 use Rattle.whole.specs.Lists.{entry}
 use Rattle.whole.proofs.Signed.{back}
 use Rattle.lattice.specs.Rows.{neg}
-use Rattle.lattice.specs.RowLaws.{length-neg, entry-neg}
+use Rattle.lattice.proofs.RowLaws.{length-neg, entry-neg}
 use Rattle.lattice.proofs.Writing.{Written, starts, goes-on, ends, unread}
-use Rattle.tableau.specs.Within.{within-entry}
+use Rattle.tableau.proofs.Within.{within-entry}
 use Rattle.tableau.proofs.rows.negate.Statement.{statement}
 use Rattle.tableau.proofs.rows.negate.Tie as tie
 

@@ -10,12 +10,12 @@ use lib.ListN.{length-drop}
 use mir.Syntax.{w64}
 use mir.Val.{toZ, ofZ}
 use Rattle.whole.specs.Lists.{entry}
-use Rattle.whole.specs.Integers.{positive-above}
+use Rattle.whole.proofs.Integers.{positive-above}
 use Rattle.whole.proofs.Signed.{back}
-use Rattle.lattice.proofs.Parts.{tail-is, tail-back}
-use Rattle.tableau.specs.Within.{within-drop, within-entry}
+use Rattle.lattice.proofs.LentParts.{tail-is, tail-back}
+use Rattle.tableau.proofs.Within.{within-drop, within-entry}
 use Rattle.tableau.specs.Elimination.{Left, kept}
-use Rattle.tableau.specs.Steps.{Stops, quotientOf}
+use Rattle.tableau.specs.RowSteps.{Stops, quotientOf}
 use Rattle.tableau.proofs.Stepping.{inside, quotient-small, step-none, step-idle, step-parts}
 use borrow.Author.Needs.{needs}
 use Rattle.tableau.proofs.rows.step.Statement.{statement}

@@ -8,7 +8,7 @@ use mir.Val.{toZ}
 use mir.Facts.{toZ-ofZ}
 use Rattle.lattice.specs.Rows.{plus}
 use Rattle.problem.specs.Limits.{anyBeyond}
-use Rattle.tableau.specs.Steps.{Stops}
+use Rattle.tableau.specs.RowSteps.{Stops}
 use borrow.Author.Needs.{needs}
 use Rattle.tableau.proofs.rows.subtract.Statement.{statement}
 use Rattle.tableau.proofs.rows.subtract.Tie as tie

@@ -16,10 +16,10 @@ use borrow.Author.Needs.{needs}
 use Rattle.whole.specs.Lists.{entry}
 use Rattle.whole.proofs.Signed.{back}
 use Rattle.lattice.specs.Rows.{plus}
-use Rattle.lattice.specs.RowLaws.{length-plus, entry-plus}
+use Rattle.lattice.proofs.RowLaws.{length-plus, entry-plus}
 use Rattle.lattice.proofs.Writing.{Written, starts, goes-on, ends, unread}
 use Rattle.problem.specs.Limits.{M, beyond, anyBeyond}
-use Rattle.tableau.specs.Within.{within-entry, beyond-none, beyond-next}
+use Rattle.tableau.proofs.Within.{within-entry, beyond-none, beyond-next}
 use Rattle.tableau.proofs.rows.subtract_all.Statement.{statement}
 use Rattle.tableau.proofs.rows.subtract_all.Tie as tie
 

@@ -5,9 +5,9 @@ use mathlib.Core.Bool.{true≢false}
 use Prim.Native.Nat.{_+_, _-_}
 use native.Mathlib.Omega.{arith}
 use lib.ListN.{length}
-use Rattle.lattice.proofs.Parts.{part-is, part-back}
+use Rattle.lattice.proofs.LentParts.{part-is, part-back}
 use Rattle.tableau.specs.Elimination.{Left}
-use Rattle.tableau.specs.Steps.{Stops, stepOf}
+use Rattle.tableau.specs.RowSteps.{Stops, stepOf}
 use Rattle.tableau.proofs.Walking.{Walk, starts, goes-on, stops, ends, ahead, row, row-wide, row-small, stepping}
 use Rattle.tableau.proofs.tables.each.Statement.{statement}
 use Rattle.tableau.proofs.tables.each.Tie as tie

@@ -7,7 +7,7 @@ use lib.ListN.{length, replicate, length-set}
 use mir.Syntax.{w64}
 use mir.Val.{toZ}
 use mir.Facts.{toZ-ofZ}
-use Rattle.text.specs.Buffers.{written}
+use Rattle.text.specs.Written.{written}
 use Rattle.text.proofs.Copying.{fill-none, fill-more}
 use Rattle.text.proofs.buffers.fill.Statement.{statement}
 use Rattle.text.proofs.buffers.fill.Tie as tie

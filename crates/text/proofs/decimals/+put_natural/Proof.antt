@@ -1,6 +1,6 @@
 -- `text::decimals::put_natural` meets its contract: the digits of the tenth and then the last are the definition's, and a tenth is less. Assumes nothing.
 use mathlib.Core.Path.{ap, subst}
-use Prim.Native.Nat.{_+_, _/_, _≤_, ℕ, _<_}
+use Prim.Native.Nat.{_/_, _≤_, ℕ, _<_}
 use native.Mathlib.Nat.{mod-lt}
 use native.Mathlib.Omega.{arith}
 use borrow.Author.Needs.{needs}

@@ -1,10 +1,8 @@
--- Laws of elimination: it is made of elementary row steps, and leaves the Hermite form.
+-- The laws of specs/FormLaws.
 --   skips c H            c columns of zeros before H
---   ..-steps             a column, and all columns, are row steps
 --   reduced-residue      to reduce a row above by the pivot's row as it is found, and then by the later rows, is to reduce it by the form
 --   Formed d c A B       the last d of c + d columns leave a Hermite form of d columns: the rows A above reduced by it, its rows, and rows of zeros
 --   passColumns-formed   they do, where the rows B from row k on have only zeros in the first c columns
---   Eliminated n T       the table T of n columns leaves a Hermite form with T's span
 --   eliminated           so it does, where T's rows are independent
 -- Assumes nothing.
 use mathlib.Core.Path.{_≡_, refl, sym, _∙_, ap, ap₂, subst}
@@ -16,14 +14,17 @@ use lib.ListN.{length}
 use lib.IntN.{ℤ, pos, negℤ, _+ℤ_, _*ℤ_}
 use Rattle.whole.specs.Lists.{entry, zeros}
 use Rattle.whole.specs.Quotient.{floorQuotient}
-use Rattle.whole.specs.Integers.{add-none}
+use Rattle.whole.proofs.Integers.{add-none}
 use Rattle.lattice.specs.Rows.{plus, Zero, ZeroTo}
-use Rattle.lattice.specs.RowLaws.{length-plus, ZeroTo-next, ZeroTo-all, ZeroTo-plus, ZeroTo-neg}
-use Rattle.lattice.specs.Span.{All, Len, Same, all-map, all-both, all-append, Independent, _~_, same, _then_, add, front, back, unders, steps-all, steps-length, steps-span, steps-independent, independent-nonzero}
+use Rattle.lattice.proofs.RowLaws.{length-plus, ZeroTo-next, ZeroTo-all, ZeroTo-plus, ZeroTo-neg}
+use Rattle.lattice.specs.Span.{All, Len, Independent, _~_, same, _then_, add}
+use Rattle.lattice.proofs.Span.{all-map, all-both, all-append, front, back, unders, steps-all, steps-length, steps-span, steps-independent, independent-nonzero}
 use Rattle.lattice.specs.Hermite.{Echelon, done, skip, step, width, indent, rows, Hermite}
-use Rattle.lattice.specs.Coset.{residue, residue-length, residue-reduced, residue-coset, residue-equal, coset-turn, coset-sums}
+use Rattle.lattice.proofs.Coset.{residue, residue-length, residue-reduced, residue-coset, residue-equal, coset-turn, coset-sums}
 use Rattle.tableau.specs.Elimination.{Left, reduced, each, Choice, none, at, choose, Gathered, gather, Passed, passColumn, passColumns, eliminate}
-use Rattle.tableau.specs.GatherLaws.{each-steps, gather-steps, choose-stands, Stands, Alone, gather-alone}
+use Rattle.tableau.specs.Gathering.{Alone}
+use Rattle.tableau.proofs.GatherLaws.{each-steps, gather-steps, choose-stands, Stands, gather-alone}
+use Rattle.tableau.specs.Theorems.{Eliminated}
 
 -- ---- row steps
 reduced-steps : (c : ℕ) (r s : List ℤ) (B : List (List ℤ)) → (r ∷ s ∷ B) ~ (r ∷ reduced c r s .row ∷ B)
@@ -229,14 +230,6 @@ passColumns-formed (suc d) c A B l z = go B (choose c B) refl (choose-stands c B
         formed-step d c A b B j p e (w .0) (w .1) z
         (ih (x .above) (x .below) (on (x .above ++ x .below) (steps-length (c + suc d) (passColumn-steps c A (b ∷ B) (at j p)) l))
         (next-zero d c A b B j p e (w .0) (w .1) z))
-
--- ---- the whole elimination
-pub record Eliminated (n : ℕ) (T : List (List ℤ)) : Type 0 where
-  pub form : Echelon
-  pub wide : width form ≡ n
-  pub hermite : Hermite form
-  pub is : eliminate n T .table ≡ rows form
-  pub keeps : Same n T (eliminate n T .table)
 
 pub eliminated : (n : ℕ) (T : List (List ℤ)) → All (Len n) T → Independent n T → Eliminated n T
 unfolding eliminate

@@ -17,15 +17,15 @@ use lib.IntN.{ℤ, pos, negsuc, natAbs}
 use lib.ListN.{length, List·getD-eq-default}
 use lib.Signed.{leZ}
 use Rattle.whole.specs.Lists.{entry}
-use Rattle.whole.specs.Tests.{isZero, spans, inRange, every}
-use Rattle.whole.specs.Counted.{every-at}
+use Rattle.whole.specs.Tests.{isZero, spans, inRange}
+use Rattle.whole.proofs.Counted.{every-at}
 use Rattle.problem.specs.Limits.{maxColumns, maxRows, maxCoefficient, maxRight, maxBound, maxGoal, maxSteps}
 use Rattle.problem.specs.Checks.{Posed, sizesFit, rowLengthsFit, columnLengthsFit, lentFit, allSpan, rowsFit, boundFits, boundsFit, goalFits, goalsFit, limitFits, orNext, firstCause}
 use Rattle.problem.specs.declared.Lent.{Lent}
 use Rattle.problem.specs.declared.Refusal.{Refusal}
 use Rattle.problem.specs.declared.Refusal.the-variants.{Size, Length, Coefficient, Bound, Goal, Limit}
 use Rattle.problem.specs.declared.Check.{Check}
-use Rattle.problem.specs.declared.Check.the-variants.{Passed, Failed}
+use Rattle.problem.specs.declared.Check.the-variants.{Passed}
 
 pub record Passes (P : Posed) (L : Lent) : Type 0 where
   pub sizes : sizesFit maxColumns maxRows (P .problem) ≡ true

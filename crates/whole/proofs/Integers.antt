@@ -1,12 +1,9 @@
--- The laws of whole numbers that the proofs cite, and those of the quotients.
---   a ⊖ b                    a − b, of naturals; shut
+-- The laws of specs/Integers.
 --   rep x                    x as such a difference
 --   diff, diff-rel           the rules that turn sums, products, equations and orders of differences into statements on naturals, which
 --                            `omega` proves. So an identity, or a linear fact with its hypotheses as arrows, is one line:
 --                            law x y = rw (rep x, rep y) (simp diff-rel (omega arith))
 --   add-none, isZero-true    a multiple of 0 adds nothing; the test's meaning
---   Positive p               p is above 0
---   multiple-..              multiples of a positive number: when they are 0, when two numbers that differ by one are equal
 --   floorQuotient-low, -high what the floor quotient leaves lies in 0 to p − 1
 --   floor-by-machine         the floor quotient is the machine's, which cuts towards 0, less 1 where the remainder is below 0
 --   gatheringQuotient-left   what the gathering quotient leaves has a magnitude below p. Callers use no other law of it
@@ -21,7 +18,7 @@ use borrow.Author.Tests.{eqb-true, le-ltb}
 use lib.Dec.{T, ltb, ltb→lt, nltb→le, leb→le, le→leb, lt→ltb}
 use lib.IntN.{ℤ, pos, negsuc, negℤ, natAbs, subℕ, _+ℤ_, _-ℤ_, _*ℤ_}
 use lib.Signed.{_≤ℤ_, _<ℤ_, ltZ, quotZ, remZ}
-use Rattle.whole.specs.Tests.{isZero}
+use Rattle.whole.specs.Tests.{isZero, Positive, positive}
 use Rattle.whole.specs.Quotient.{floorQuotient, gatheringQuotient}
 
 -- ---- the parts of a number above and below 0, shut
@@ -163,10 +160,6 @@ add-none c x y e = ap (λ (t : ℤ). x +ℤ c *ℤ t) e ∙ rw (rep c, rep x) (s
 pub isZero-true : (x : ℤ) → isZero x ≡ true → x ≡ pos 0
 isZero-true (pos n) t = ap pos (eqb-true n 0 t)
 isZero-true (negsuc n) t = absurd (omega (arith, eqb-true (suc n) 0 t))
-
--- ---- multiples of a number above 0
-pub data Positive : ℤ → Type 0 where
-  positive : (k : ℕ) → Positive (pos (suc k))
 
 pub positive-of : (n : ℕ) → 0 < n → Positive (pos n)
 positive-of zero h = absurd (omega arith)

@@ -1,16 +1,12 @@
--- Laws of gathering: it is made of elementary row steps, it ends, and what it leaves.
+-- The laws of specs/GatherLaws.
 --   each-steps           where f only takes multiples of r away, `each f` is row steps
---   ..-steps             so are an exchange, a sign, clearing, a round and gathering
 --   Stands c B z         z tells of the rows B: they have nothing but 0 at c, or row j has the magnitude p there, above 0
 --   choose-stands        what `choose` chooses does
---   Chosen n c b B j p   column c is one of n, the rows b and B have n numbers, and the choice among them is row j with the magnitude p
 --   round-lead, -below   after a round the pivot's entry is p, and the magnitudes below it are smaller. Of the gathering quotient this uses the
 --                        law `gatheringQuotient-left` alone
 --   round-next           so the next round's choice is none, or a smaller one
---   Alone c b B          b's entry at c is above 0, and those of B are 0
 --   gather-alone         p rounds or more leave that: gathering ends
 --   gather-fuel          more rounds than p change nothing, not the mark either
---   gathering c b B      the whole of it, with no count of rounds in sight
 --   gathering-first      it is what `passColumn` calls
 --   gathering-round      it is one round, and the whole from there while a lower entry is not 0: one turn of a loop
 -- Assumes nothing.
@@ -26,10 +22,12 @@ use lib.ListN.{length, getD, set}
 use Rattle.whole.specs.Lists.{entry}
 use Rattle.whole.specs.Tests.{isZero}
 use Rattle.whole.specs.Quotient.{gatheringQuotient}
-use Rattle.whole.specs.Integers.{isZero-true, Positive, positive-of, gatheringQuotient-left}
-use Rattle.lattice.specs.RowLaws.{entry-plus, entry-neg}
-use Rattle.lattice.specs.Span.{All, Len, all-at, _~_, same, _then_, under, swap, sign, add, steps-length}
+use Rattle.whole.proofs.Integers.{isZero-true, positive-of, gatheringQuotient-left}
+use Rattle.lattice.proofs.RowLaws.{entry-plus, entry-neg}
+use Rattle.lattice.specs.Span.{All, Len, _~_, same, _then_, under, swap, sign, add}
+use Rattle.lattice.proofs.Span.{all-at, steps-length}
 use Rattle.tableau.specs.Elimination.{Left, subtract, kept, lowered, each, Choice, none, at, prefer, choose, Gathered, exchange, signed, clear, round, onward, gather}
+use Rattle.tableau.specs.Gathering.{Alone, Chosen, gathering, magnitude}
 
 -- ---- row steps
 pub each-steps : (r : List ℤ) (f : List ℤ → Left) → ((s : List ℤ) (B : List (List ℤ)) → (r ∷ s ∷ B) ~ (r ∷ f s .row ∷ B)) → (A B : List (List ℤ))
@@ -145,12 +143,6 @@ unfolding each
 each-below n c p r [] h l e a = tt
 each-below n c p r (s ∷ B) h l e a = (lowered-below c p r s l e (omega (arith, a .0)), each-below n c p r B h l e (a .1))
 
--- what the laws ask for
-pub record Chosen (n c : ℕ) (b : List ℤ) (B : List (List ℤ)) (j p : ℕ) : Type 0 where
-  pub within : c < n
-  pub wide : All (Len n) (b ∷ B)
-  pub choice : choose c (b ∷ B) ≡ at j p
-
 module _ {n c : ℕ} {b : List ℤ} {B : List (List ℤ)} {j p : ℕ} (h : Chosen n c b B j p) where
   pub chosen-stands : Stands c (b ∷ B) (at j p)
   chosen-stands = subst (Stands c (b ∷ B)) (h .choice) (choose-stands c (b ∷ B))
@@ -193,10 +185,6 @@ unfolding gather
 gather-none zero c b B = refl
 gather-none (suc f) c b B = refl
 
-pub record Alone (c : ℕ) (b : List ℤ) (B : List (List ℤ)) : Type 0 where
-  pub lead : Positive (entry c b)
-  pub lower : All (λ (s : List ℤ). entry c s ≡ pos 0) B
-
 pub gather-alone : {n c : ℕ} {b : List ℤ} {B : List (List ℤ)} {j p : ℕ} → Chosen n c b B j p → (f i k : ℕ) → p ≤ f
     → Alone c (gather f c (at i k) b B .pivot) (gather f c (at i k) b B .below)
 unfolding gather
@@ -224,13 +212,6 @@ gather-fuel {c = c} {b = b} {B = B} h (suc f) (suc g) i k i′ k′ l l′ =
     (round-next h (λ (z : Choice). gather f c z r C ≡ gather g c z r C)
     (λ s. gather-none f c r C ∙ sym (gather-none g c r C))
     (λ i″ k″ l″ h″. gather-fuel h″ f g i″ k″ i″ k″ (omega arith) (omega arith)))
-
-abbrev magnitude : Choice → ℕ
-magnitude none = 0
-magnitude (at j p) = p
-
-unfoldable pub gathering : ℕ → List ℤ → List (List ℤ) → Gathered
-gathering c b B = gather (magnitude (choose c (b ∷ B))) c (choose c (b ∷ B)) b B
 
 pub gathering-first : {n c : ℕ} {b : List ℤ} {B : List (List ℤ)} {j p : ℕ} → Chosen n c b B j p → gathering c b B ≡ gather p c (at j p) b B
 unfolding gathering

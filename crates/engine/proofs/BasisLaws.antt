@@ -1,64 +1,26 @@
--- The basis as it lies in the tableau.
---   basisView p h    how it lies there, where h rows lead in the first m columns
---   basisStart p h   where its first number stands; the tableau's end where there is no vector
---   Place            both together (declared in src/); placeOf p t, of the basis in the list t
---   tableOf p t      the rows of a list of the tableau's length; basisOf p t, the basis among them
---   Parted p t       the list has that length, no number beyond ±M, and leads that rise, so that its leading rows stand above the others
+-- The laws of specs/Views.
 --   basis-view       the vectors of the view are the basis
 --   basis-in         so they are in such a list
 -- Assumes nothing.
 use mathlib.Core.Path.{_≡_, refl, sym, _∙_, ap, ap₂}
 use mathlib.Core.Bool.{Bool, true, false, cond}
 use mathlib.Core.List.{List, [], _∷_, _++_, map}
-use Prim.Native.Nat.{ℕ, zero, suc, _+_, _*_, _-_, _≤_}
+use Prim.Native.Nat.{ℕ, zero, suc, _+_, _*_, _-_}
 use native.Mathlib.Omega.{arith}
 use borrow.Author.Tests.{ltb-false}
 use lib.Dec.{ltb}
-use lib.IntN.{ℤ, natAbs}
+use lib.IntN.{ℤ}
 use lib.ListN.{length, take, drop, length-append, length-drop}
 use lib.Seq.{drop-drop, take-at, drop-append-le, drop-append-add}
-use Rattle.whole.specs.Lists.{entry}
-use Rattle.lattice.specs.Rows.{flat, chop}
-use Rattle.lattice.specs.Span.{All, Len, all-append}
-use Rattle.lattice.specs.Hermite.{Rising}
-use Rattle.lattice.specs.FlatLaws.{flat-append, flat-chop, chop-rows, length-chop}
-use Rattle.problem.specs.Limits.{M}
+use Rattle.lattice.specs.Rows.{flat}
+use Rattle.lattice.specs.Span.{All, Len}
+use Rattle.lattice.proofs.Span.{all-append}
+use Rattle.lattice.proofs.FlatLaws.{flat-append, flat-chop, chop-rows, length-chop}
 use Rattle.problem.specs.declared.Problem.{Problem}
 use Rattle.tableau.specs.RightSide.{leading, remaining, basis}
-use Rattle.tableau.specs.RightLaws.{rising-split}
+use Rattle.tableau.proofs.RightLaws.{rising-split}
 use Rattle.settling.specs.Views.{rowsOf, vectors}
-use Rattle.settling.specs.declared.Basis.{Basis}
-use Rattle.engine.specs.declared.views.Place.{Place}
-
-abbrev pub width : Problem → ℕ
-width p = p .rows + p .columns
-
-abbrev pub basisView : Problem → ℕ → Basis
-basisView p h = record { columns = p .columns; vectors = p .columns - h; stride = width p }
-
-abbrev pub basisStart : Problem → ℕ → ℕ
-basisStart p h = cond (ltb h (p .columns)) (h * width p + p .rows) (p .columns * width p)
-
--- the rows of a list, and the basis among them
-abbrev pub tableOf : Problem → List ℤ → List (List ℤ)
-tableOf p t = chop (p .columns) (width p) t
-
-abbrev pub basisOf : Problem → List ℤ → List (List ℤ)
-basisOf p t = basis (p .rows) (tableOf p t)
-
-pub record Parted (p : Problem) (t : List ℤ) : Type 0 where
-  pub long : length t ≡ p .columns * width p
-  pub small : (i : ℕ) → natAbs (entry i t) ≤ M
-  pub rises : Rising 0 (tableOf p t)
-
-abbrev pub placeBehind : ℕ → ℕ → ℕ → Place
-placeBehind n m h = record {
-  view = record { columns = n; vectors = n - h; stride = m + n };
-  at = cond (ltb h n) (h * (m + n) + m) (n * (m + n));
-}
-
-abbrev pub placeOf : Problem → List ℤ → Place
-placeOf p t = placeBehind (p .columns) (p .rows) (length (leading (p .rows) (tableOf p t)))
+use Rattle.engine.specs.BasisPlace.{Parted, basisOf, basisStart, basisView, tableOf, width}
 
 -- ---- rows in a list
 pub flat-length : (w : ℕ) (T : List (List ℤ)) → All (Len w) T → length (flat T) ≡ length T * w

@@ -19,7 +19,7 @@ use lib.Seq.{take-all}
 use lib.IntN.{ℤ, pos, negsuc, negℤ, _+ℤ_, _*ℤ_, +ℤ-invr}
 use Rattle.whole.specs.Lists.{entry, zeros}
 use Rattle.whole.specs.Tests.{isZero}
-use Rattle.whole.specs.Integers.{rep, diff-rel, add-none, isZero-true}
+use Rattle.whole.proofs.Integers.{rep, diff-rel, add-none, isZero-true}
 use Rattle.lattice.specs.Rows.{plus, minus, neg, unit, Zero, ZeroTo, allZero, lead}
 
 -- ---- lengths

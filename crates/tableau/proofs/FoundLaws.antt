@@ -9,7 +9,8 @@ use mathlib.Core.List.{List}
 use Prim.Native.Nat.{ℕ}
 use lib.IntN.{ℤ}
 use lib.ListN.{length}
-use Rattle.lattice.specs.Coset.{Describes, coset-self, describes-unique}
+use Rattle.lattice.specs.Coset.{Describes}
+use Rattle.lattice.proofs.Coset.{coset-self, describes-unique}
 use Rattle.tableau.specs.RightSide.{Found, none, some}
 use Rattle.tableau.specs.Generators.{Tells}
 

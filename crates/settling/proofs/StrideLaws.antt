@@ -1,5 +1,4 @@
--- Laws of strides, for the loops.
---   StridesReady B d l          a list d with a number for each column of the view B of the basis l
+-- The laws of specs/StrideLaws.
 --   stride-none, -past, -up     the vectors from s on, where s counts down: none, one more that leaves the column as it is, one more
 --   stride-one                  1 from some vector on is 1 from the first on
 --   Filled N d₀ d j             the first j numbers of d are strides, and it is as long as d₀
@@ -19,11 +18,8 @@ use Rattle.whole.specs.Divisor.{divisorBy, divisor}
 use Rattle.settling.specs.declared.Basis.{Basis}
 use Rattle.settling.specs.Moves.{vector}
 use Rattle.settling.specs.Strides.{stride, stridesFrom, strides}
-use Rattle.settling.specs.Views.{vectors, Viewed, rows-length, vectors-drop}
-
-pub record StridesReady (B : Basis) (d : List ℕ) (l : List ℤ) : Type 0 where
-  pub long : length d ≡ B .columns
-  pub basis : Viewed B l
+use Rattle.settling.specs.Views.{vectors}
+use Rattle.settling.proofs.Views.{rows-length, vectors-drop}
 
 -- ---- the divisor of 0, and of 1
 divisor-zero : (d : ℕ) → divisor 0 d ≡ d

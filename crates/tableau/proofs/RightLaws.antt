@@ -22,13 +22,14 @@ use lib.Seq.{length-take-le}
 use lib.IntN.{ℤ, pos, negℤ, _+ℤ_, _*ℤ_}
 use Rattle.whole.specs.Lists.{entry, zeros}
 use Rattle.whole.specs.Quotient.{floorQuotient}
-use Rattle.whole.specs.Integers.{Positive, positive, add-none}
+use Rattle.whole.specs.Tests.{positive, Positive}
+use Rattle.whole.proofs.Integers.{add-none}
 use Rattle.lattice.specs.Rows.{plus, minus, allZero, lead}
-use Rattle.lattice.specs.RowLaws.{length-plus, length-zeros, zeros-Zero, minus-zeros, allZero-Zero}
+use Rattle.lattice.proofs.RowLaws.{length-plus, length-zeros, zeros-Zero, minus-zeros, allZero-Zero}
 use Rattle.lattice.specs.Span.{Span}
-use Rattle.lattice.specs.Hermite.{Echelon, done, skip, step, width, indent, rows, past, Reduced, Hermite, Rising, rows-rising}
-use Rattle.lattice.specs.Hermite.{past-width, past-hermite, past-reduced, past-span, reduced-head}
-use Rattle.lattice.specs.Coset.{residue, residue-length, residue-reduced, residue-for}
+use Rattle.lattice.specs.Hermite.{Echelon, done, skip, step, width, indent, rows, Reduced, Hermite, Rising}
+use Rattle.lattice.proofs.Hermite.{past, rows-rising, past-width, past-hermite, past-reduced, past-span, reduced-head}
+use Rattle.lattice.proofs.Coset.{residue, residue-length, residue-reduced, residue-for}
 use Rattle.tableau.specs.Elimination.{reduced}
 use Rattle.tableau.specs.RightSide.{sweep, leading, remaining, basis, Found, none, some, Solved, rightSide}
 use Rattle.tableau.specs.Generators.{Tells}

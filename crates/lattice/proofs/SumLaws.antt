@@ -11,10 +11,10 @@ use native.Mathlib.Omega.{arith}
 use lib.ListN.{length, length-map}
 use lib.IntN.{ℤ, pos, _+ℤ_, _*ℤ_, zero-*ℤ}
 use Rattle.whole.specs.Lists.{entry, zeros}
-use Rattle.whole.specs.Integers.{rep, diff-rel, add-none}
+use Rattle.whole.proofs.Integers.{rep, diff-rel, add-none}
 use Rattle.lattice.specs.Rows.{plus, unit, Zero}
 use Rattle.lattice.specs.Sums.{dot, sums}
-use Rattle.lattice.specs.RowLaws.{Zero-zeros}
+use Rattle.lattice.proofs.RowLaws.{Zero-zeros}
 use Rattle.lattice.specs.Span.{All, Len}
 
 pub dot-plus : (a : List ℤ) (c : ℤ) (u v : List ℤ) → length u ≡ length v → dot a (plus c u v) ≡ dot a v +ℤ c *ℤ dot a u

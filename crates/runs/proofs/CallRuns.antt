@@ -16,7 +16,7 @@ use Rattle.settling.specs.Seating.{Seated, seated, far, seat}
 use Rattle.engine.specs.Assign.{Buffers, Done, m, columns, lentOf, refused, overLimit, settleOn, onCheck, onSeated, onFound}
 use Rattle.engine.specs.Assign.{solved, assignFit, assign, stands, formed, continueFit, continue}
 use Rattle.runs.specs.Runs.{Descent, Ends}
-use Rattle.runs.specs.Calls.{settleRun, seatedRun, foundRun, ofVerdict, assignRun, continueRun, NoListTwice}
+use Rattle.runs.specs.CallRuns.{settleRun, seatedRun, foundRun, ofVerdict, assignRun, continueRun, NoListTwice}
 use Rattle.runs.proofs.Runs.{run-ends, run-descends}
 
 module _ (P : Posed) where

@@ -12,14 +12,14 @@ use mathlib.Core.List.{List, _∷_, [], map}
 use Prim.Native.Nat.{ℕ, _+_, _*_, _≤_}
 use lib.IntN.{ℤ}
 use lib.ListN.{length}
-use Rattle.text.specs.Buffers.{written}
+use Rattle.text.specs.Written.{written}
 use Rattle.problem.specs.Kinds.{none, slack, slackOf, slackCount}
 use Rattle.problem.specs.Kinds as kinds
 use Rattle.problem.specs.declared.Row.{Row}
 use Rattle.sections.specs.Rules.{Outcome, ok, no}
 use Rattle.sections.specs.Sections.{deckColumns, deckRows, coefficientCount, Line}
-use Rattle.sections.specs.Columns.{rightOf, placed, withSlack, slackColumn, slackColumns, coefficientRow, coefficientRows}
-use Rattle.sections.specs.Columns.{columnWidth, columnCells, cells, padded, blank}
+use Rattle.sections.specs.StatedColumns.{rightOf, placed, withSlack, slackColumn, slackColumns, coefficientRow, coefficientRows}
+use Rattle.sections.specs.StatedColumns.{columnWidth, columnCells, cells, padded, blank}
 use Rattle.sections.specs.declared.Interval.{Interval}
 use Rattle.sections.specs.declared.Term.{Term}
 use Rattle.sections.specs.declared.Cursor.{Cursor}

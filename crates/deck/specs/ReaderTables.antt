@@ -15,7 +15,7 @@ use Rattle.text.specs.declared.Next.{Next}
 use Rattle.text.specs.declared.Next.the-variants.{Found, End}
 use Rattle.sections.specs.Rules.{Outcome, ok, no}
 use Rattle.sections.specs.Sections.{deckColumns, deckRows, coefficientCount}
-use Rattle.sections.specs.Columns.{rightOf, coefficientRows, columnWidth, columnCells, cells, padded}
+use Rattle.sections.specs.StatedColumns.{rightOf, coefficientRows, columnWidth, columnCells, cells, padded}
 use Rattle.sections.specs.declared.Cursor.{Cursor}
 use Rattle.sections.specs.declared.Section.{Section}
 use Rattle.sections.specs.declared.Section.the-variants as section

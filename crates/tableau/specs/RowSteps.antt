@@ -17,7 +17,7 @@ use lib.IntN.{ℤ}
 use lib.ListN.{length}
 use Rattle.whole.specs.Lists.{entry, zeros}
 use Rattle.whole.specs.Quotient.{floorQuotient, gatheringQuotient}
-use Rattle.whole.specs.Integers.{Positive}
+use Rattle.whole.specs.Tests.{Positive}
 use Rattle.lattice.specs.Rows.{ZeroTo, lead, flat, chop}
 use Rattle.tableau.specs.Elimination.{Left, lowered, reduced, Run, each}
 use Rattle.tableau.specs.Within.{Within}

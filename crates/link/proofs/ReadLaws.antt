@@ -1,0 +1,18 @@
+-- The laws of specs/Reads.
+--   read-called-told, read-called-untold   which of the two it is
+-- Assumes nothing.
+use mathlib.Core.Path.{_≡_}
+use mathlib.Core.List.{List}
+use Prim.Native.Nat.{ℕ}
+use lib.ListN.{length}
+use borrow.Author.Tests.{eq-eqb, ne-eqb}
+use Rattle.deck.specs.Reader.{DeckBuffers, read}
+use Rattle.link.specs.Reads.{readCalled, readTold, readUntold, sizesLength}
+
+pub read-called-told : (s : List ℕ) (B : DeckBuffers) (z : List ℕ) → length z ≡ sizesLength → readCalled s B z ≡ readTold (read s B)
+unfolding readCalled
+read-called-told s B z e = rw (eq-eqb (length z) sizesLength e)
+
+pub read-called-untold : (s : List ℕ) (B : DeckBuffers) (z : List ℕ) → (length z ≡ sizesLength → ⊥) → readCalled s B z ≡ readUntold B z
+unfolding readCalled
+read-called-untold s B z e = rw (ne-eqb (length z) sizesLength e)

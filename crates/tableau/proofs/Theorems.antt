@@ -1,0 +1,127 @@
+-- The theorems of specs/Theorems, proved.
+-- Assumes nothing.
+use mathlib.Core.Path.{_≡_, sym, _∙_, ap, subst}
+use mathlib.Core.Logic.{Iff·rfl, Iff·symm, Iff·trans}
+use mathlib.Core.List.{List, [], _++_}
+use Prim.Native.Nat.{ℕ, _+_}
+use native.Mathlib.Omega.{arith}
+use lib.IntN.{ℤ, negsuc}
+use lib.ListN.{length}
+use Rattle.whole.specs.Lists.{zeros}
+use Rattle.lattice.specs.Rows.{minus, neg}
+use Rattle.lattice.proofs.RowLaws.{length-plus, length-zeros}
+use Rattle.lattice.specs.Sums.{Satisfies}
+use Rattle.lattice.specs.Span.{All, Span, Same}
+use Rattle.lattice.proofs.Span.{steps-count, steps-length}
+use Rattle.lattice.proofs.Hermite as Forms
+use Rattle.lattice.specs.Hermite.{Echelon, width, rows, Led, Rising, Hermite}
+use Rattle.lattice.proofs.Hermite.{past, rows-led, rows-rising, past-width, past-hermite}
+use Rattle.lattice.specs.Coset.{Describes}
+use Rattle.tableau.specs.Table.{tableau}
+use Rattle.tableau.specs.Elimination.{eliminate}
+use Rattle.tableau.specs.RightSide.{rightSide, form, solve}
+use Rattle.tableau.specs.Generators.{Reaches, Tells}
+use Rattle.tableau.proofs.GatherLaws.{gather-alone, gather-fuel}
+use Rattle.tableau.proofs.FormLaws.{eliminated, passColumns-steps}
+use Rattle.tableau.proofs.TableLaws.{tableau-count, tableau-length, tableau-independent, tableau-generators, tableau-reaches}
+use Rattle.tableau.proofs.FoundLaws.{tells-same, tells-none, tells-unique}
+use Rattle.tableau.proofs.RightLaws.{basis-past, right-tells}
+use Rattle.tableau.specs.Theorems.{GatheringEnds, EliminationForm, FormUnique, ReducedUnique, EliminationUnique, ReachedTells, ReachedSame, ProblemForm}
+use Rattle.tableau.specs.Theorems.{ProblemCount, ProblemWide, ProblemRising, ProblemBasis, BasisRising, SolveTells, SolveSome, SolveNone, SolveSame, Eliminated}
+
+-- ---- elimination
+pub gathering-ends : GatheringEnds
+gathering-ends n c b B j p h f l = (gather-alone h p j p (omega arith), gather-fuel h f p j p j p l (omega arith))
+
+pub elimination-form : EliminationForm
+elimination-form n T l i = eliminated n T l i
+
+-- ---- uniqueness
+pub form-unique : FormUnique
+form-unique = Forms.hermite-unique
+
+pub reduced-unique : ReducedUnique
+reduced-unique = Forms.reduced-unique
+
+pub elimination-unique : EliminationUnique
+elimination-unique n T U lt it lu iu =
+    let t : Eliminated n T = eliminated n T lt it in
+    let u : Eliminated n U = eliminated n U lu iu in (
+      (λ s.
+          let w : Same n (eliminate n T .table) (eliminate n U .table) =
+          record { both = λ v l. Iff·trans (Iff·symm (t .keeps .both v l)) (Iff·trans (s .both v l) (u .keeps .both v l)) } in
+          t .is
+          ∙ ap rows (form-unique (t .form) (u .form) (t .wide ∙ sym (u .wide)) (t .hermite) (u .hermite) (rw (t .wide, ← (t .is), ← (u .is)) w))
+          ∙ sym (u .is)),
+      (λ e. record {
+        both = λ v l. Iff·trans (t .keeps .both v l) (Iff·trans (rw e Iff·rfl) (Iff·symm (u .keeps .both v l)));
+      }),
+    )
+
+-- ---- generator rows, of any problem or none
+pub reached-tells : ReachedTells
+reached-tells n m T over v g =
+    let t : Eliminated (m + n) T = eliminated (m + n) T (g .wide) (g .independent) in
+    let F : List (List ℤ) = eliminate (m + n) T .table in
+    tells-same n (λ (x : List ℤ). Span F (minus (zeros m ++ x) v)) (Reaches n m T v) (rightSide m F over v .found)
+    (λ x l.
+    let k : length (minus (zeros m ++ x) v) ≡ m + n = length-plus (negsuc 0) v (zeros m ++ x) ∙ length-zeros m x ∙ ap (λ (i : ℕ). m + i) l in
+    ((λ s. record { long = l; spans = t .keeps .both _ k .1 s }), (λ r. t .keeps .both _ k .0 (r .spans))))
+    (rw (t .is) (right-tells n m (t .form) over v (t .wide) (t .hermite) (g .long)))
+
+pub reached-same : ReachedSame
+reached-same n m m′ T T′ over over′ v v′ g g′ =
+    tells-unique n (Reaches n m T v) (Reaches n m′ T′ v′) _ _ (λ x r. r .long) (λ x r. r .long)
+    (reached-tells n m T over v g) (reached-tells n m′ T′ over′ v′ g′)
+
+pub problem-form : ProblemForm
+problem-form n A = eliminated (length A + n) (tableau n A) (tableau-length n A) (tableau-independent n A)
+
+pub problem-count : ProblemCount
+unfolding form eliminate
+problem-count n A = sym (steps-count (passColumns-steps (length A + n) 0 [] (tableau n A))) ∙ tableau-count n A
+
+pub problem-wide : ProblemWide
+unfolding form eliminate
+problem-wide n A = steps-length (length A + n) (passColumns-steps (length A + n) 0 [] (tableau n A)) (tableau-length n A)
+
+pub problem-rising : ProblemRising
+unfolding form
+problem-rising n A =
+    let t : Eliminated (length A + n) (tableau n A) = problem-form n A in subst (Rising 0) (sym (t .is)) (rows-rising (t .form) (t .hermite))
+
+pub problem-basis : ProblemBasis
+unfolding form
+problem-basis n A =
+    let t : Eliminated (length A + n) (tableau n A) = problem-form n A in
+    let K : Echelon = past (length A) (t .form) in
+    let w : width K ≡ n = past-width (length A) n (t .form) (t .wide) in
+    rw (t .is, basis-past (length A) (t .form) (t .hermite))
+    (subst (λ (k : ℕ). All (Led k) (rows K)) w (rows-led K (past-hermite (length A) (t .form) (t .hermite))))
+
+pub basis-rising : BasisRising
+unfolding form
+basis-rising n A =
+    let t : Eliminated (length A + n) (tableau n A) = problem-form n A in
+    rw (t .is, basis-past (length A) (t .form) (t .hermite))
+    (rows-rising (past (length A) (t .form)) (past-hermite (length A) (t .form) (t .hermite)))
+
+-- ---- a problem
+pub solve-tells : SolveTells
+unfolding solve form
+solve-tells n A b z =
+    tells-same n (Reaches n (length A) (tableau n A) (neg b ++ zeros n)) (Satisfies n A b) (solve n A b .found) (λ x l. tableau-reaches n A b z x)
+    (reached-tells n (length A) (tableau n A) (form n A .over) (neg b ++ zeros n) (tableau-generators n A b z))
+
+pub solve-some : SolveSome
+solve-some n A b z start N e x l =
+    let d : Describes n (Satisfies n A b) start N = subst (Tells n (Satisfies n A b)) e (solve-tells n A b z) in
+    d .set x l
+
+pub solve-none : SolveNone
+solve-none n A b z = tells-none n (Satisfies n A b) (solve n A b .found) (λ x s. s .wide) (solve-tells n A b z)
+
+pub solve-same : SolveSame
+solve-same n A A′ b b′ z z′ =
+    tells-unique n (Satisfies n A b) (Satisfies n A′ b′) (solve n A b .found) (solve n A′ b′ .found) (λ x s. s .wide) (λ x s. s .wide)
+    (solve-tells n A b z) (solve-tells n A′ b′ z′)

@@ -1,0 +1,31 @@
+-- Laws of gathering: it is made of elementary row steps, it ends, and what it leaves.
+--   ..-steps             so are an exchange, a sign, clearing, a round and gathering
+--   Chosen n c b B j p   column c is one of n, the rows b and B have n numbers, and the choice among them is row j with the magnitude p
+--   Alone c b B          b's entry at c is above 0, and those of B are 0
+--   gathering c b B      the whole of it, with no count of rounds in sight
+-- Assumes nothing.
+use mathlib.Core.Path.{_≡_}
+use mathlib.Core.List.{List, _∷_}
+use Prim.Native.Nat.{ℕ, _<_}
+use lib.IntN.{ℤ, pos}
+use Rattle.whole.specs.Lists.{entry}
+use Rattle.whole.specs.Tests.{Positive}
+use Rattle.lattice.specs.Span.{All, Len}
+use Rattle.tableau.specs.Elimination.{Choice, none, at, choose, Gathered, gather}
+
+-- what the laws ask for
+pub record Chosen (n c : ℕ) (b : List ℤ) (B : List (List ℤ)) (j p : ℕ) : Type 0 where
+  pub within : c < n
+  pub wide : All (Len n) (b ∷ B)
+  pub choice : choose c (b ∷ B) ≡ at j p
+
+pub record Alone (c : ℕ) (b : List ℤ) (B : List (List ℤ)) : Type 0 where
+  pub lead : Positive (entry c b)
+  pub lower : All (λ (s : List ℤ). entry c s ≡ pos 0) B
+
+abbrev pub magnitude : Choice → ℕ
+magnitude none = 0
+magnitude (at j p) = p
+
+unfoldable pub gathering : ℕ → List ℤ → List (List ℤ) → Gathered
+gathering c b B = gather (magnitude (choose c (b ∷ B))) c (choose c (b ∷ B)) b B
