@@ -38,7 +38,7 @@ use Rattle.settling.specs.Moves.{single, pair, moves, vector, change, changes}
 use Rattle.settling.specs.Parts.{lt-or-ge}
 use Rattle.settling.specs.Steps.{passes, passesAt, measureAt, improves}
 use Rattle.settling.specs.Views.{vectors, OfBasis, moved-at}
-use Rattle.settling.proofs.Stepping.{Listed}
+use Rattle.settling.specs.Verdicts.{Listed}
 use Rattle.search.specs.declared.Search.{Search}
 use Rattle.search.specs.declared.places.Pair.{Pair}
 use Rattle.search.specs.declared.places.Place.{Place}
