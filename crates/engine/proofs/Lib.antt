@@ -7,3 +7,7 @@ pub mod Forming
 pub mod Finishing
 pub mod Assigning
 pub mod Keeping
+pub mod Refusals
+pub mod Verdicts
+pub mod Satisfied
+pub mod Demand

@@ -30,7 +30,7 @@ use Rattle.settling.specs.Measures.{distance}
 use Rattle.settling.specs.Steps.{inBounds, partIf, partOf, rankedAt, largerAt, improves, ranking, orElse}
 use Rattle.settling.specs.Steps.{firstMove, firstColumn, stepAt, stepOf, nextStep}
 use Rattle.settling.specs.Settle.{Settled, ended, atRest, counted, onStep, settleFrom, settle}
-use Rattle.settling.specs.Verdicts.{Listed, Improving, AllInBounds, SomeOutside, NoMoveImproves, SomeMoveImproves, Means}
+use Rattle.settling.specs.Verdicts.{Listed, Improving, AllInBounds, SomeOutside, NoMoveImproves, Means}
 use Rattle.settling.proofs.Insertion.{Each, ranked-each}
 use Rattle.settling.proofs.Stepping.{next-taken}
 use Rattle.settling.proofs.Keeping.{never}
