@@ -1,5 +1,7 @@
 -- What a whole assignment and a Continue come to, by what the tableau answers.
 --   doneWith t x    a finished assignment with t in the tableau
+--   within-sized    within the limits, the matrix and the right sides have the sizes that n and m need
+--   found-basis     the basis found is that of the form
 --   solved-form, solved-kept   the form that the right side goes through, and that it is not past the limit where the whole is not
 --   assign-over, -none, -found   a whole assignment past the limit, without whole numbers, and from a starting list on
 --   finishable      what is found can be finished
@@ -15,14 +17,15 @@ use lib.ListN.{length, take}
 use Rattle.lattice.specs.Rows.{allZero, flat}
 use Rattle.lattice.specs.Span.{All}
 use Rattle.lattice.specs.Hermite.{Led, Rising}
-use Rattle.lattice.proofs.FlatLaws.{length-chop}
+use Rattle.lattice.proofs.FlatLaws.{chop-rows, length-chop}
 use Rattle.problem.specs.Checks.{Posed, firstCause}
-use Rattle.problem.proofs.CheckLaws.{Passes, passes, fits}
+use Rattle.problem.proofs.CheckLaws.{Passes, passes, Fits, fits}
 use Rattle.problem.specs.declared.Lent.{Lent}
 use Rattle.problem.specs.declared.Check.the-variants.{Passed, Failed}
 use Rattle.problem.specs.declared.Refusal.{Refusal}
 use Rattle.problem.specs.declared.Refusal.the-variants.{NoWholeNumbers, Standing}
 use Rattle.tableau.specs.RightSide.{basis, Found, none, some, Solved, rightSide, solve}
+use Rattle.tableau.specs.Generators.{Sized}
 use Rattle.tableau.proofs.Theorems.{problem-basis, basis-rising, solve-tells}
 use Rattle.rightside.specs.Solutions.{answerOf, solutionOf}
 use Rattle.rightside.specs.declared.Solution.the-variants.{Over, None, Found as Met}
@@ -30,8 +33,8 @@ use Rattle.rightside.proofs.Answers.{solution-over, solution-none}
 use Rattle.settling.specs.Seating.{Seated, seated, far, seat}
 use Rattle.settling.proofs.Keeping.{never}
 use Rattle.engine.specs.Assign.{Buffers, Done, done, n, m, matrix, columns, lentOf, refused, overLimit, settleOn, onSeated, solved, assignFit, assign, stands, formed, continueFit, continue}
-use Rattle.engine.specs.Demand.{Within, within-sized}
-use Rattle.engine.specs.Satisfied.{found-basis}
+use Rattle.engine.specs.Demand.{Within, Starts}
+use Rattle.engine.specs.Outcomes.{basisLeft}
 use Rattle.engine.specs.BasisPlace.{basisOf}
 use Rattle.engine.specs.Finish.{Finished, settledBy, onSeat, finished, Finishable}
 use Rattle.engine.proofs.Readiness.{table}
@@ -39,6 +42,15 @@ use Rattle.engine.proofs.Forming.{Laid, laid-basis, laid-placed, start-
 
 abbrev pub doneWith : List ℤ → Finished → Done
 doneWith t x = done (x .answer) t (x .values) (x .strides)
+
+-- ---- what it means to be within the limits
+pub within-sized : (P : Posed) (B : Buffers) → Within P B → Sized (n P) (matrix P) (P .rights)
+within-sized P B w =
+    let f : Fits P (lentOf B) = fits P (lentOf B) (passes P (lentOf B) (w .passed)) in
+    record {
+      wide = chop-rows (m P) (n P) (P .coefficients) (f .coefficients-long);
+      long = f .rights-long ∙ sym (length-chop (m P) (n P) (P .coefficients));
+    }
 
 -- ---- what the tableau answers
 none-is : (x : Solved) → None ≡ solutionOf x → x .found ≡ none
@@ -75,6 +87,11 @@ by-kept : (o a b : Bool) (t : Bool) (x y : Solved) → x .over ≡ o || a → y 
 by-kept o a b true x y e f h = either o a (sym e ∙ h)
 by-kept o a b false x y e f h = either o b (sym f ∙ h)
 
+by-found : (s v : List ℤ) (N K : List (List ℤ)) (t : Bool) (x y : Solved) → x .found ≡ some v K → y .found ≡ none
+    → cond t x y .found ≡ some s N → N ≡ K
+by-found s v N K true x y e f h = cc
+by-found s v N K false x y e f h = never (cc)
+
 module _ (P : Posed) where
   pub solved-form : solved P .form ≡ formed P .table
   unfolding solve rightSide
@@ -83,6 +100,12 @@ module _ (P : Posed) where
   pub solved-kept : solved P .over ≡ false → formed P .over ≡ false
   unfolding solve rightSide
   solved-kept e = by-kept (formed P .over) _ _ (allZero (take (length (matrix P)) _)) _ _ refl refl e
+
+  pub found-basis : (s : List ℤ) (N : List (List ℤ)) → Starts P s N → N ≡ basisLeft P
+  unfolding solve rightSide
+  found-basis s N e =
+      by-found s _ N (basis (length (matrix P)) (formed P .table)) (allZero (take (length (matrix P)) _)) _ _ refl refl e
+      ∙ ap (λ (k : ℕ). basis k (formed P .table)) (length-chop (m P) (n P) (P .coefficients))
 
   module _ (B : Buffers) where
     pub assign-over : Over ≡ solutionOf (solved P) → assignFit P B ≡ overLimit B
@@ -103,10 +126,7 @@ module _ (P : Posed) (B : Buffers) (w : Within P B) where
 
   module _ {t : List ℤ} (a : Laid P (lentOf B) q t) (x : Some (solved P)) where
     same-basis : x .vectors ≡ basisOf (P .problem) t
-    same-basis =
-        found-basis (n P) (matrix P) (P .rights) (x .start) (x .vectors) (x .is)
-        ∙ ap (λ (k : ℕ). basis k (formed P .table)) (length-chop (m P) (n P) (P .coefficients))
-        ∙ sym (laid-basis P (lentOf B) q a)
+    same-basis = found-basis P (x .start) (x .vectors) (x .is) ∙ sym (laid-basis P (lentOf B) q a)
 
     pub assign-found : (s : List ℤ) → s ≡ x .start → solved P .over ≡ false
         → assignFit P B ≡ doneWith t (finished (P .problem) (columns P) t s (B .values) (B .strides))

@@ -8,3 +8,7 @@ pub mod Finishing
 pub mod Assigning
 pub mod Keeping
 pub mod BasisLaws
+pub mod Refusals
+pub mod Verdicts
+pub mod Satisfied
+pub mod Demand

@@ -5,4 +5,4 @@ pub mod Placed
 pub mod Finish
 pub mod Standing
 pub mod Demand
-pub mod Satisfied
+pub mod Outcomes

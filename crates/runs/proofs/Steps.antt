@@ -25,9 +25,10 @@ use Rattle.settling.proofs.Fronts.{lt-or-ge}
 use Rattle.settling.specs.Moves.{change, moved}
 use Rattle.settling.specs.Measures.{fraction, below, ratio, measure}
 use Rattle.settling.specs.Steps.{partOf, isRanked, isCompared, measureAt, nextStep}
+use Rattle.settling.specs.Verdicts.{Improving}
 use Rattle.settling.proofs.Orders.{Determinate, below-weak}
 use Rattle.settling.proofs.Insertion.{Each, Down}
-use Rattle.settling.proofs.Stepping.{Taken, next-taken, taken-changes, taken-below, moved-still}
+use Rattle.settling.proofs.Stepping.{next-taken, taken-changes, taken-below, moved-still}
 use Rattle.runs.specs.Sorted.{above, sorted}
 use Rattle.runs.specs.Runs.{measuresFrom, measures, lowerThan}
 use Rattle.runs.proofs.Lowering.{sorted-down, Falls, none, stays, sinks, first, falls-lower}
@@ -78,7 +79,7 @@ compared-still : (p : Part) (c : Column) (x y : ℤ) → isCompared p (valued c 
 compared-still Bounds c x y = refl
 compared-still Goals c x y = refl
 
-module _ (p : Part) (C : Columns) (N : List (List ℤ)) (v : List ℤ) (i : ℕ) (o : Move) (t : Taken p C N v i o) where
+module _ (p : Part) (C : Columns) (N : List (List ℤ)) (v : List ℤ) (i : ℕ) (o : Move) (t : Improving p C N v i o) where
   abbrev old : Measure
   old = measureAt p C v i
 

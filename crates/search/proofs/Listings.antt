@@ -13,7 +13,7 @@ use native.Mathlib.Omega.{arith}
 use lib.IntN.{ℤ, pos, negsuc}
 use Rattle.settling.specs.declared.Move.{Move}
 use Rattle.settling.specs.Moves.{single, pair, signPairs, singles, pairsWith, pairs, moves}
-use Rattle.settling.proofs.Stepping.{Listed}
+use Rattle.settling.specs.Verdicts.{Listed}
 use Rattle.search.specs.Numbers.{Sign}
 
 pub record Single (r : ℕ) (o : Move) : Type 0 where

@@ -28,7 +28,7 @@ use Rattle.settling.specs.declared.Step.the-variants.{Rest, Take}
 use Rattle.settling.specs.Moves.{single, pair, signPairs, singles, pairsWith, pairs, moves}
 use Rattle.settling.proofs.Fronts.{lt-or-ge}
 use Rattle.settling.specs.Steps.{firstMove, firstColumn}
-use Rattle.settling.proofs.Stepping.{Listed}
+use Rattle.settling.specs.Verdicts.{Listed}
 use Rattle.search.specs.Numbers.{Sign, firstPair, span, mark, numberOf, numberAt, signOf, moveOf, stepIn, Beaten, Hit, Stands}
 use Rattle.search.proofs.Listings.{Single, Double, listed-cases}
 

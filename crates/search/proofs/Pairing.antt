@@ -39,7 +39,7 @@ use Rattle.settling.proofs.Fronts.{lt-or-ge}
 use Rattle.settling.specs.Steps.{passes, passesAt, measureAt, improves}
 use Rattle.settling.specs.Views.{vectors, OfBasis}
 use Rattle.settling.proofs.Views.{moved-at}
-use Rattle.settling.proofs.Stepping.{Listed}
+use Rattle.settling.specs.Verdicts.{Listed}
 use Rattle.search.specs.declared.Search.{Search}
 use Rattle.search.specs.declared.places.Pair.{Pair}
 use Rattle.search.specs.declared.places.Place.{Place}

@@ -20,7 +20,7 @@ use Rattle.settling.specs.declared.Move.{Move}
 use Rattle.settling.specs.Moves.{single, pair, moves}
 use Rattle.settling.specs.Steps.{firstMove, firstColumn, stepAt}
 use Rattle.settling.proofs.Views.{rows-length}
-use Rattle.settling.proofs.Stepping.{Listed}
+use Rattle.settling.specs.Verdicts.{Listed}
 use Rattle.search.specs.declared.Search.{Search}
 use Rattle.search.specs.declared.places.Place.{Place}
 use Rattle.search.specs.Notes.{notesLong, topAt}

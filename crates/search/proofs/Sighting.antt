@@ -30,7 +30,7 @@ use Rattle.settling.specs.Sizes.{Room}
 use Rattle.settling.proofs.Sizes.{measure-room}
 use Rattle.settling.specs.Steps.{measureAt, improves}
 use Rattle.settling.specs.Views.{vectors, OfBasis}
-use Rattle.settling.proofs.Stepping.{Listed}
+use Rattle.settling.specs.Verdicts.{Listed}
 use Rattle.search.specs.declared.places.Place.{Place}
 use Rattle.search.specs.Notes.{noteWidth, notesLong, topAt, noteAt}
 use Rattle.search.specs.Numbers.{firstPair, span, numberAt, signOf}

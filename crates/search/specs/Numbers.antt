@@ -28,7 +28,7 @@ use Rattle.settling.specs.declared.Move.{Move}
 use Rattle.settling.specs.declared.Step.{Step}
 use Rattle.settling.specs.declared.Step.the-variants.{Rest, Take}
 use Rattle.settling.specs.Moves.{single, pair, moves}
-use Rattle.settling.proofs.Stepping.{Listed}
+use Rattle.settling.specs.Verdicts.{Listed}
 
 abbrev pub Sign : ℤ → Type 0
 Sign a = (a ≡ pos 1) ⊎ (a ≡ negsuc 0)

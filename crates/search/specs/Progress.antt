@@ -36,7 +36,7 @@ use Rattle.settling.specs.declared.Basis.{Basis}
 use Rattle.settling.specs.declared.Move.{Move}
 use Rattle.settling.specs.Moves.{single, pair, moves, changes}
 use Rattle.settling.specs.Steps.{measureAt}
-use Rattle.settling.proofs.Stepping.{Listed}
+use Rattle.settling.specs.Verdicts.{Listed}
 use Rattle.search.specs.declared.Search.{Search}
 use Rattle.search.specs.declared.places.Place.{Place}
 use Rattle.search.specs.declared.places.Pair.{Pair}

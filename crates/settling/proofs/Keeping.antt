@@ -1,11 +1,10 @@
--- What seating and settling keep, and when they say FITTED.
+-- What seating and settling keep.
 --   Keeps Q N       adding a multiple of a vector of N to a list with the property Q leaves one with Q
 --   seat-keeps      seating keeps such a property
 --   settle-keeps    and so do the steps of settling
---   settle-fitted   FITTED is said of lists within the bounds only
 --   never           what follows where two constructors are told to be equal
 -- Assumes nothing.
-use mathlib.Core.Path.{_≡_, refl, subst}
+use mathlib.Core.Path.{_≡_, subst}
 use mathlib.Core.Bool.{Bool, true, false, cond}
 use mathlib.Core.List.{List, [], _∷_}
 use Prim.Native.Nat.{ℕ, zero, suc}
@@ -16,14 +15,14 @@ use Rattle.lattice.specs.Rows.{plus}
 use Rattle.lattice.specs.Span.{All}
 use Rattle.problem.specs.Limits.{anyBeyond}
 use Rattle.problem.specs.declared.Counts.{Counts}
-use Rattle.problem.specs.declared.Answer.the-variants.{Fitted, Spent}
+use Rattle.problem.specs.declared.Answer.the-variants.{Spent}
 use Rattle.settling.specs.declared.Move.{Move}
 use Rattle.settling.specs.declared.Step.{Step}
 use Rattle.settling.specs.declared.Step.the-variants.{Rest, Take}
 use Rattle.settling.specs.Columns.{Columns}
 use Rattle.settling.specs.Seating.{seated, far, seatOne, seat}
 use Rattle.settling.specs.Moves.{vector, moved}
-use Rattle.settling.specs.Steps.{inBounds, partIf, partOf, nextStep}
+use Rattle.settling.specs.Steps.{partOf, nextStep}
 use Rattle.settling.specs.Settle.{ended, atRest, counted, onStep, settleFrom}
 
 -- two constructors are never equal: `cc` then has 0 equal to 1
@@ -75,28 +74,3 @@ module _ (Q : List ℤ → Type 0) where
             → Q (onStep z (ended (atRest (partOf C v) x) v) (λ o. settleFrom g C N (counted (partOf C v) x) (moved N o v)) .values)
         go Rest f = q
         go (Take i o) f = f o
-
--- ---- FITTED
-rest-fitted : (C : Columns) (v : List ℤ) (x y : Counts) → atRest (partOf C v) x ≡ Fitted y → inBounds C v ≡ true
-rest-fitted C v x y e = go (inBounds C v) refl e
-  where
-    go : (t : Bool) → inBounds C v ≡ t → atRest (partIf t) x ≡ Fitted y → inBounds C v ≡ true
-    go true f e = f
-    go false f e = never (cc)
-
-pub settle-fitted : (g : ℕ) (C : Columns) (N : List (List ℤ)) (x y : Counts) (v : List ℤ) → settleFrom g C N x v .answer ≡ Fitted y
-    → inBounds C (settleFrom g C N x v .values) ≡ true
-unfolding settleFrom
-settle-fitted zero C N x y v = go (nextStep C N v)
-  where
-    go : (z : Step) → onStep z (ended (atRest (partOf C v) x) v) (λ o. ended (Spent x) v) .answer ≡ Fitted y
-        → inBounds C (onStep z (ended (atRest (partOf C v) x) v) (λ o. ended (Spent x) v) .values) ≡ true
-    go Rest e = rest-fitted C v x y e
-    go (Take i o) e = never (cc)
-settle-fitted (suc g) C N x y v = go (nextStep C N v) (λ o. settle-fitted g C N (counted (partOf C v) x) y (moved N o v))
-  where
-    go : (z : Step) → ((o : Move) → settleFrom g C N (counted (partOf C v) x) (moved N o v) .answer ≡ Fitted y → inBounds C (settleFrom g C N (counted (partOf C v) x) (moved N o v) .values) ≡ true)
-        → onStep z (ended (atRest (partOf C v) x) v) (λ o. settleFrom g C N (counted (partOf C v) x) (moved N o v)) .answer ≡ Fitted y
-        → inBounds C (onStep z (ended (atRest (partOf C v) x) v) (λ o. settleFrom g C N (counted (partOf C v) x) (moved N o v)) .values) ≡ true
-    go Rest f e = rest-fitted C v x y e
-    go (Take i o) f e = f o e

@@ -31,11 +31,12 @@ use Rattle.settling.specs.Measures.{distance}
 use Rattle.settling.specs.Moves.{single, pair, signPairs, singles, pairsWith, pairs, moves, moved}
 use Rattle.settling.specs.Steps.{partOf, isAllowed, nextStep}
 use Rattle.settling.specs.Settle.{ended, atRest, counted, onStep, settleFrom}
+use Rattle.settling.specs.Verdicts.{Listed}
 use Rattle.settling.proofs.Sizes.{inside-small}
 use Rattle.settling.specs.Views.{vectors, OfBasis}
 use Rattle.settling.proofs.Views.{rows-length, moved-length}
 use Rattle.settling.specs.Ready.{Ready}
-use Rattle.settling.proofs.Stepping.{Listed, next-taken, taken-allowed}
+use Rattle.settling.proofs.Stepping.{next-taken, taken-allowed}
 
 -- ---- the moves
 abbrev AllOf : ℕ → List Move → Type 0

@@ -1,14 +1,12 @@
 -- What a step is, and what it leaves.
---   Listed o R           the move o is one of the list R
---   Taken part ..        column i is ranked, and o is a move of the basis that improves it
---   step-taken           what is taken as a step is so; `next-taken` of the next step
+--   step-taken           what is taken as a step is a move that improves a column tried; `next-taken` of the next step
 --   taken-changes        it changes column i
 --   taken-allowed        it leaves an allowed value in each column
 --   taken-below          a changed column that is compared then has a measure below i's old one
 --   moved-still          a column that a move does not change keeps its value
 -- Assumes nothing.
 use mathlib.Core.Path.{_≡_, refl, sym, _∙_, ap, subst}
-use mathlib.Core.Logic.{_⊎_, inl, inr, ⊎-elim}
+use mathlib.Core.Logic.{inl, inr, ⊎-elim}
 use mathlib.Core.Bool.{Bool, true, false, cond}
 use mathlib.Core.List.{List, [], _∷_}
 use Prim.Native.Nat.{ℕ, _<_}
@@ -30,19 +28,10 @@ use Rattle.settling.specs.Moves.{moves, change, changes, moved}
 use Rattle.settling.specs.Measures.{below}
 use Rattle.settling.specs.Steps.{partOf, isCompared, isAllowed, passes, measureAt, rankedAt, largerAt, passesAt, improves}
 use Rattle.settling.specs.Steps.{ranking, orElse, firstMove, firstColumn, stepAt, stepOf, nextStep}
+use Rattle.settling.specs.Verdicts.{Listed, Improving}
 use Rattle.settling.proofs.Views.{moved-length, moved-at}
 use Rattle.settling.proofs.Insertion.{Each, each-ranked}
 use Rattle.settling.proofs.Passing.{passes-measured}
-
-abbrev pub Listed : Move → List Move → Type 0
-Listed o [] = ⊥
-Listed o (x ∷ R) = (o ≡ x) ⊎ Listed o R
-
-pub record Taken (p : Part) (C : Columns) (N : List (List ℤ)) (v : List ℤ) (i : ℕ) (o : Move) : Type 0 where
-  pub inside : i < C .count
-  pub ranked : rankedAt p C v i ≡ true
-  pub listed : Listed o (moves (length N))
-  pub good : improves p C N v o i ≡ true
 
 not-take : {i : ℕ} {o : Move} → Rest ≡ Take i o → ⊥
 not-take {i} {o} e = let z : _≡_ {A = ℕ} 0 1 = cc in omega arith
@@ -75,23 +64,23 @@ first-column Q f i o (j ∷ L) a e = go (f j) refl e (first-column Q f i o L (a 
     go (Take k u) g e ih = (j, a .0, g ∙ e)
 
 module _ (p : Part) (C : Columns) (N : List (List ℤ)) (v : List ℤ) where
-  pub step-taken : (i : ℕ) (o : Move) → stepOf p C N v ≡ Take i o → Taken p C N v i o
+  pub step-taken : (i : ℕ) (o : Move) → stepOf p C N v ≡ Take i o → Improving p C N v i o
   unfolding stepOf stepAt
   step-taken i o e =
       let c = first-column Ranked (stepAt p C N v) i o (ranking p C v)
       (each-ranked Ranked (rankedAt p C v) (largerAt p C v) (C .count) 0 (λ j l h r. (omega arith, r))) e in
       let m = first-move (λ u. improves p C N v u (c .0)) (c .0) i o (moves (length N)) (c .2) in
-      subst (λ (j : ℕ). Taken p C N v j o) (m .0) (record { inside = c .1 .0; ranked = c .1 .1; listed = m .2; good = m .1 })
+      subst (λ (j : ℕ). Improving p C N v j o) (m .0) (record { inside = c .1 .0; ranked = c .1 .1; listed = m .2; good = m .1 })
     where
       Ranked : ℕ → Type 0
       Ranked j = (j < C .count) × (rankedAt p C v j ≡ true)
 
-pub next-taken : (C : Columns) (N : List (List ℤ)) (v : List ℤ) (i : ℕ) (o : Move) → nextStep C N v ≡ Take i o → Taken (partOf C v) C N v i o
+pub next-taken : (C : Columns) (N : List (List ℤ)) (v : List ℤ) (i : ℕ) (o : Move) → nextStep C N v ≡ Take i o → Improving (partOf C v) C N v i o
 unfolding nextStep
 next-taken C N v i o e = step-taken (partOf C v) C N v i o e
 
 -- ---- what it leaves
-module _ (p : Part) (C : Columns) (N : List (List ℤ)) (v : List ℤ) (i : ℕ) (o : Move) (t : Taken p C N v i o) where
+module _ (p : Part) (C : Columns) (N : List (List ℤ)) (v : List ℤ) (i : ℕ) (o : Move) (t : Improving p C N v i o) where
   both : (changes N o i ≡ true) × (every (C .count) (passesAt p C N v o (measureAt p C v i)) ≡ true)
   unfolding improves
   both = both-true (changes N o i) (every (C .count) (passesAt p C N v o (measureAt p C v i))) (t .good)

@@ -7,6 +7,7 @@ pub mod Moves
 pub mod Measures
 pub mod Steps
 pub mod Settle
+pub mod Verdicts
 pub mod Strides
 pub mod Views
 pub mod Ready
