@@ -2,7 +2,7 @@
 --   stride-greatest   so it is
 --   span-divides      what divides a column's magnitude in every row divides it in every list of their span
 -- Assumes nothing.
-use mathlib.Core.Path.{_≡_, refl, sym, _∙_, ap, subst}
+use mathlib.Core.Path.{_≡_, sym, subst}
 use mathlib.Core.List.{List, [], _∷_}
 use Prim.Native.Nat.{ℕ, zero, suc, _<_, _∣_}
 use native.Mathlib.Nat.{dvd-zero, dvd-trans, eq-zero-of-zero-dvd}
@@ -19,11 +19,11 @@ use Rattle.lattice.specs.Span.{All, Span, all-map}
 use Rattle.settling.specs.Strides.{stride, GreatestOf, StrideGreatest}
 
 -- ---- the stride
--- every row's entry is a multiple of d
+-- d divides the magnitude in column j
 abbrev Divides : ℕ → ℕ → List ℤ → Type 0
 Divides d j r = d ∣ natAbs (entry j r)
 
-stride-divides : (N : List (List ℤ)) (j : ℕ) → All (λ (r : List ℤ). stride N j ∣ natAbs (entry j r)) N
+stride-divides : (N : List (List ℤ)) (j : ℕ) → All (Divides (stride N j) j) N
 unfolding stride
 stride-divides [] j = tt
 stride-divides (r ∷ N) j =
@@ -34,7 +34,7 @@ stride-divides (r ∷ N) j =
       (λ s h. dvd-trans (divisor a (stride N j)) {b = stride N j} {c = natAbs (entry j s)} (g .second) h) N (stride-divides N j),
     )
 
-stride-above : (N : List (List ℤ)) (j c : ℕ) → All (λ (r : List ℤ). c ∣ natAbs (entry j r)) N → c ∣ stride N j
+stride-above : (N : List (List ℤ)) (j c : ℕ) → All (Divides c j) N → c ∣ stride N j
 unfolding stride
 stride-above [] j c a = dvd-zero c
 stride-above (r ∷ N) j c a = divisor-greatest (natAbs (entry j r)) (stride N j) .greatest c (a .0) (stride-above N j c (a .1))
