@@ -1,6 +1,5 @@
 -- Two lists that satisfy the rows differ by a list of the basis' span, so that each column's stride divides their difference there. A vector of the
 -- basis is itself such a difference, so that nothing larger does.
---   basis-strides      the stride in the basis that is found
 --   assign-strides     the strides of a whole assignment with a verdict
 --   continue-strides   and of a Continue with a verdict
 -- Assumes nothing.
@@ -27,13 +26,12 @@ use Rattle.tableau.specs.Theorems.{solve-tells, solve-none}
 use Rattle.settling.specs.Seating.{Seated, seated, far, seat}
 use Rattle.settling.specs.Strides.{stride, strides}
 use Rattle.settling.specs.StrideLaws.{strides-at}
-use Rattle.settling.proofs.Keeping.{Keeps}
 use Rattle.settling.proofs.Striding.{stride-greatest, span-divides}
 use Rattle.engine.specs.Assign.{Buffers, Done, n, m, matrix, columns, refused, overLimit, settleOn, onSeated, onFound, solved, assign}
 use Rattle.engine.specs.Assign.{stands, formed, continue}
 use Rattle.engine.specs.Demand.{Within, SatisfiesRows, within-sized, assign-is}
 use Rattle.engine.specs.Satisfied.{describes-keeps, found-basis, continue-satisfies}
-use Rattle.engine.specs.Stride.{DividesAll, StepOf, AssignStrides, ContinueStrides}
+use Rattle.engine.specs.Stride.{DividesAll, StrideOf, AssignStrides, ContinueStrides}
 
 -- ---- differences
 once-less : (x y : ℤ) → x +ℤ negsuc 0 *ℤ y ≡ x -ℤ y
@@ -44,43 +42,41 @@ once-more : (x y : ℤ) → x +ℤ pos 1 *ℤ y -ℤ x ≡ y
 once-more x y = rw (rep x, rep y) (simp diff-rel (omega arith))
 
 module _ (P : Posed) (s : List ℤ) (N : List (List ℤ)) (d : Describes (n P) (SatisfiesRows P) s N) (j : ℕ) (h : j < n P) where
-  between : (c : ℕ) → ((v : List ℤ) → j < length v → Span N v → c ∣ natAbs (entry j v)) → DividesAll P j c
-  between c f x y p q =
+  basis-differ : DividesAll P j (stride N j)
+  basis-differ x y p q =
       let z : Span N (minus x y) =
       coset-via N x s y (omega (arith, p .wide, d .long)) (d .set x (p .wide) .0 p)
       (coset-turn N y s (omega (arith, q .wide, d .long)) (d .set y (q .wide) .0 q)) in
-      subst (λ (x : ℤ). c ∣ natAbs x) (entry-plus j (negsuc 0) y x (omega (arith, p .wide)) ∙ once-less (entry j x) (entry j y))
-      (f (minus x y) (omega (arith, length-plus (negsuc 0) y x, p .wide)) z)
+      subst (λ (x : ℤ). stride N j ∣ natAbs x) (entry-plus j (negsuc 0) y x (omega (arith, p .wide)) ∙ once-less (entry j x) (entry j y))
+      (span-divides (stride N j) j N (minus x y) (omega (arith, length-plus (negsuc 0) y x, p .wide)) (stride-greatest N j .divides) z)
 
-  basis-strides : StepOf P j (stride N j)
-  basis-strides = record {
-    divides = between (stride N j) (λ v k z. span-divides (stride N j) j N v k (stride-greatest N j .divides) z);
-    greatest = λ c f.
-        let q : SatisfiesRows P s = d .set s (d .long) .1 (coset-self N s) in
-        stride-greatest N j .greatest c
-        (all-map (λ (r : List ℤ). SatisfiesRows P (plus (pos 1) r s)) (λ (r : List ℤ). c ∣ natAbs (entry j r))
-        (λ r p.
-        subst (λ (x : ℤ). c ∣ natAbs x)
-        (ap (λ (x : ℤ). x -ℤ entry j s) (entry-plus j (pos 1) r s (omega (arith, d .long))) ∙ once-more (entry j s) (entry j r))
-        (f (plus (pos 1) r s) s p q))
-        N (describes-keeps (n P) (SatisfiesRows P) s N (λ x z. z .wide) d .adds (pos 1) s q));
-  }
+  -- the start and one vector more are two such lists
+  basis-greatest : (c : ℕ) → DividesAll P j c → c ∣ stride N j
+  basis-greatest c f =
+      let q : SatisfiesRows P s = d .set s (d .long) .1 (coset-self N s) in
+      stride-greatest N j .greatest c
+      (all-map (λ (r : List ℤ). SatisfiesRows P (plus (pos 1) r s)) (λ (r : List ℤ). c ∣ natAbs (entry j r))
+      (λ r p.
+      subst (λ (x : ℤ). c ∣ natAbs x)
+      (ap (λ (x : ℤ). x -ℤ entry j s) (entry-plus j (pos 1) r s (omega (arith, d .long))) ∙ once-more (entry j s) (entry j r))
+      (f (plus (pos 1) r s) s p q))
+      N (describes-keeps (n P) (SatisfiesRows P) s N (λ x z. z .wide) d .adds (pos 1) s q))
 
   -- as they stand in the list
-  listed-strides : StepOf P j (getD (strides (n P) N) j 0)
+  listed-strides : StrideOf P j (getD (strides (n P) N) j 0)
   listed-strides =
       let e : 0 + j ≡ j = omega arith in
-      subst (StepOf P j) (sym (strides-at N (n P) 0 j h ∙ ap (stride N) e)) basis-strides
+      rw (strides-at N (n P) 0 j h, e) (record { divides = basis-differ; greatest = basis-greatest })
 
 -- ---- whole assignments
 module _ (P : Posed) (T : List (List ℤ)) (B : Buffers) (j : ℕ) (h : j < n P) where
   found-strides : (f : Found) → Tells (n P) (SatisfiesRows P) f → isVerdict (onFound P T B f .answer) ≡ true
-      → StepOf P j (getD (onFound P T B f .strides) j 0)
+      → StrideOf P j (getD (onFound P T B f .strides) j 0)
   unfolding settleOn
   found-strides none a e = absurd (true≢false (sym e))
   found-strides (some v N) d e = go (seat (columns P) N v) e
     where
-      go : (z : Seated) → isVerdict (onSeated P T N B z .answer) ≡ true → StepOf P j (getD (onSeated P T N B z .strides) j 0)
+      go : (z : Seated) → isVerdict (onSeated P T N B z .answer) ≡ true → StrideOf P j (getD (onSeated P T N B z .strides) j 0)
       go far e = absurd (true≢false (sym e))
       go (seated u) e = listed-strides P v N d j h
 
@@ -88,23 +84,23 @@ pub assign-strides : AssignStrides
 assign-strides P B w e j h = rw (assign-is P B w) (go (solved P .over) (rw (assign-is P B w) at e))
   where
     go : (t : Bool) → isVerdict (cond t (overLimit B) (onFound P (solved P .form) B (solved P .found)) .answer) ≡ true
-        → StepOf P j (getD (cond t (overLimit B) (onFound P (solved P .form) B (solved P .found)) .strides) j 0)
+        → StrideOf P j (getD (cond t (overLimit B) (onFound P (solved P .form) B (solved P .found)) .strides) j 0)
     go true e = absurd (true≢false (sym e))
     go false e = found-strides P (solved P .form) B j h (solved P .found) (solve-tells (n P) (matrix P) (P .rights) (within-sized P B w)) e
 
 -- ---- Continue
 -- some list satisfies the rows, so that a start is found, and with it the basis of the form
 formed-strides : (P : Posed) (B : Buffers) → Within P B → (x : List ℤ) → SatisfiesRows P x → (j : ℕ) → j < n P
-    → StepOf P j (getD (strides (n P) (basis (m P) (formed P .table))) j 0)
+    → StrideOf P j (getD (strides (n P) (basis (m P) (formed P .table))) j 0)
 formed-strides P B w x p j h = go (solved P .found) refl
   where
     k : length (matrix P) ≡ m P
     k = length-chop (m P) (n P) (P .coefficients)
 
-    go : (f : Found) → solved P .found ≡ f → StepOf P j (getD (strides (n P) (basis (m P) (formed P .table))) j 0)
+    go : (f : Found) → solved P .found ≡ f → StrideOf P j (getD (strides (n P) (basis (m P) (formed P .table))) j 0)
     go none e = absurd (solve-none (n P) (matrix P) (P .rights) (within-sized P B w) .0 e x p)
     go (some s N) e =
-        subst (λ (N : List (List ℤ)). StepOf P j (getD (strides (n P) N) j 0))
+        subst (λ (N : List (List ℤ)). StrideOf P j (getD (strides (n P) N) j 0))
         (found-basis (n P) (matrix P) (P .rights) s N e ∙ ap (λ (i : ℕ). basis i (formed P .table)) k)
         (listed-strides P s N (rw e at (solve-tells (n P) (matrix P) (P .rights) (within-sized P B w))) j h)
 
@@ -117,9 +113,9 @@ continue-strides P B w e j h =
     settles : Done
     settles = settleOn P (formed P .table) (basis (m P) (formed P .table)) (B .values)
 
-    go : StepOf P j (getD (settles .strides) j 0) → (t u : Bool)
+    go : StrideOf P j (getD (settles .strides) j 0) → (t u : Bool)
         → isVerdict (cond t (cond u (overLimit B) settles) (refused Standing (B .tableau) B) .answer) ≡ true
-        → StepOf P j (getD (cond t (cond u (overLimit B) settles) (refused Standing (B .tableau) B) .strides) j 0)
+        → StrideOf P j (getD (cond t (cond u (overLimit B) settles) (refused Standing (B .tableau) B) .strides) j 0)
     go s true true e = absurd (true≢false (sym e))
     go s true false e = s
     go s false u e = absurd (true≢false (sym e))

@@ -16,7 +16,7 @@ use Rattle.whole.proofs.Euclid.{divisor-greatest, dvd-abs-add, dvd-abs-mul}
 use Rattle.lattice.specs.Rows.{plus, Zero}
 use Rattle.lattice.specs.RowLaws.{length-plus, entry-plus}
 use Rattle.lattice.specs.Span.{All, Span, all-map}
-use Rattle.settling.specs.Strides.{stride, GreatestOf, StrideGreatest}
+use Rattle.settling.specs.Strides.{stride, StrideGreatest}
 
 -- ---- the stride
 -- d divides the magnitude in column j
@@ -31,7 +31,7 @@ stride-divides (r ∷ N) j =
     let g : Greatest a (stride N j) (divisor a (stride N j)) = divisor-greatest a (stride N j) in (
       g .first,
       all-map (Divides (stride N j) j) (Divides (divisor a (stride N j)) j)
-      (λ s h. dvd-trans (divisor a (stride N j)) {b = stride N j} {c = natAbs (entry j s)} (g .second) h) N (stride-divides N j),
+          (λ s h. dvd-trans (divisor a (stride N j)) {b = stride N j} {c = natAbs (entry j s)} (g .second) h) N (stride-divides N j),
     )
 
 stride-above : (N : List (List ℤ)) (j c : ℕ) → All (Divides c j) N → c ∣ stride N j

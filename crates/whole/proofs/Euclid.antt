@@ -3,9 +3,9 @@
 --   divisor-greatest      it is the greatest common divisor
 --   dvd-abs-add, -mul     what divides two magnitudes divides that of the sum; what divides one divides those of its multiples
 -- Assumes nothing.
-use mathlib.Core.Path.{_≡_, refl, sym, ap, _∙_}
+use mathlib.Core.Path.{_≡_, refl}
 use mathlib.Core.Bool.{Bool, true, false}
-use Prim.Native.Nat.{ℕ, zero, suc, _+_, _-_, _%_, _<_, _≤_, _∣_}
+use Prim.Native.Nat.{ℕ, zero, suc, _+_, _-_, _%_, _<_, _∣_}
 use native.Mathlib.Nat.{mod-lt, zero-lt-suc, dvd-refl, dvd-zero, dvd-add, dvd-sub, dvd-mod-iff, dvd-mul-left-of-dvd}
 use native.Mathlib.Omega.{arith}
 use borrow.Author.Tests.{ltb-true, ltb-false}
