@@ -1,5 +1,5 @@
 -- Two lists that satisfy the rows differ by a list of the basis' span, so that each column's stride divides their difference there. A vector of the
--- basis is itself such a difference, so that nothing larger does.
+-- basis is itself such a difference, so that what divides them all divides the stride.
 --   assign-strides     the strides of a whole assignment with a verdict
 --   continue-strides   and of a Continue with a verdict
 -- Assumes nothing.
@@ -37,7 +37,6 @@ use Rattle.engine.specs.Stride.{DividesAll, StrideOf, AssignStrides, Con
 once-less : (x y : ℤ) → x +ℤ negsuc 0 *ℤ y ≡ x -ℤ y
 once-less x y = rw (rep x, rep y) (simp diff-rel (omega arith))
 
--- x + r less x
 once-more : (x y : ℤ) → x +ℤ pos 1 *ℤ y -ℤ x ≡ y
 once-more x y = rw (rep x, rep y) (simp diff-rel (omega arith))
 
