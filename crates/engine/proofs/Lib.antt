@@ -12,3 +12,4 @@ pub mod Refusals
 pub mod Verdicts
 pub mod Satisfied
 pub mod Demand
+pub mod Stride

@@ -6,3 +6,4 @@ pub mod Finish
 pub mod Standing
 pub mod Demand
 pub mod Outcomes
+pub mod Stride

@@ -2,6 +2,7 @@
 --   stride-none, -past, -up     the vectors from s on, where s counts down: none, one more that leaves the column as it is, one more
 --   stride-one                  1 from some vector on is 1 from the first on
 --   Filled N d₀ d j             the first j numbers of d are strides, and it is as long as d₀
+--   strides-at                  the list of strides has a column's stride at its place
 --   filled-none, -on, -all      it holds at 0; at j + 1 once the stride is stored; and past the last column d is the list of strides
 -- Assumes nothing.
 use mathlib.Core.Path.{_≡_, refl, sym, _∙_, ap}
@@ -89,7 +90,7 @@ unfolding stridesFrom
 strides-length N zero j = refl
 strides-length N (suc k) j = ap suc (strides-length N k (suc j))
 
-strides-at : (N : List (List ℤ)) (k j x : ℕ) → x < k → getD (stridesFrom N k j) x 0 ≡ stride N (j + x)
+pub strides-at : (N : List (List ℤ)) (k j x : ℕ) → x < k → getD (stridesFrom N k j) x 0 ≡ stride N (j + x)
 unfolding stridesFrom
 strides-at N zero j x h = absurd (omega arith)
 strides-at N (suc k) j zero h = ap (stride N) (omega arith)

@@ -1,45 +1,27 @@
--- The deck cases that document 01 marks with *, as one table of the definitions, computed by the checker.
+-- The deck cases that document 01 marks with *, as one table of the definitions.
 --   problem ..    a problem in lists: n, m, the rows' coefficients, the right sides, lower bounds, upper bounds, goals and the step limit
 --   assigned P    its whole assignment, in buffers that held 7s before: the answer, the values and the strides
+--   seatedOf P    what seating makes of the starting list and the basis that are found for P
+--   fiveIdeals v  the ideals to which seating pulls columns with the five goals, at the values v
 --   DeckCases     the cases, one to a field, in document 01's order
---   deck-cases    they hold
 -- Assumes nothing.
-use mathlib.Core.Path.{_≡_, refl}
-use mathlib.Core.List.{List, [], _∷_, _++_}
+use mathlib.Core.Path.{_≡_}
+use mathlib.Core.List.{List, [], _∷_, _++_, map}
 use Prim.Native.Nat.{ℕ, _+_, _*_}
 use lib.IntN.{ℤ, pos, negsuc}
 use lib.ListN.{replicate}
-use Rattle.whole.specs.Tests.{every}
-use Rattle.whole.specs.Divisor.{divisorBy, divisor}
-use Rattle.lattice.specs.Rows.{plus, neg, allZero, lead}
-use Rattle.lattice.specs.Sums.{dot, sums}
-use Rattle.text.specs.Tokens.{allDigits, value}
-use Rattle.text.specs.Positions.{gap, run}
-use Rattle.text.specs.Decimals.{decimal}
-use Rattle.problem.specs.Limits.{anyBeyond}
-use Rattle.problem.specs.Checks.{Posed, firstCause}
+use Rattle.problem.specs.Checks.{Posed}
 use Rattle.problem.specs.declared.Counts.{Counts}
 use Rattle.problem.specs.declared.Refusal.the-variants.{NoWholeNumbers}
 use Rattle.problem.specs.declared.Answer.{Answer}
 use Rattle.problem.specs.declared.Answer.the-variants.{Fitted, Outside, Spent, Refused}
-use Rattle.tableau.specs.Table.{tableauFrom, tableau}
-use Rattle.tableau.specs.Elimination.{lowered, reduced, each, choose, exchange, clear, round, gather, passColumn, passColumns, eliminate}
-use Rattle.tableau.specs.RightSide.{some, sweep, leading, remaining, rightSide, form, solve}
-use Rattle.settling.specs.Ideals.{goalIdeal, ideal}
-use Rattle.settling.specs.Seating.{Seated, seated, seatOne, seat}
-use Rattle.settling.specs.Moves.{singles, pairsWith, pairs, moves, moved}
-use Rattle.settling.specs.Measures.{measure}
-use Rattle.settling.specs.Steps.{isRanked, passes, improves, insert, rankFrom, firstMove, firstColumn, stepAt, stepOf, nextStep}
-use Rattle.settling.specs.Settle.{settleFrom, settle}
-use Rattle.settling.specs.Strides.{stride, stridesFrom}
-use Rattle.engine.specs.Assign.{Buffers, Done, n, m, columns, settleOn, assign}
-use Rattle.sections.specs.Sections.{intervals, terms, lines}
-use Rattle.sections.specs.StatedColumns.{slackColumns, placed, coefficientRows}
-use Rattle.deck.specs.Posing.{readDeck, posed}
-use Rattle.report.specs.Listing.{linesFrom, listing}
+use Rattle.tableau.specs.RightSide.{Found, none, some}
+use Rattle.settling.specs.Columns.{Columns, listed}
+use Rattle.settling.specs.Seating.{Seated, seated, far, idealAt, seat}
+use Rattle.engine.specs.Assign.{Buffers, Done, n, m, columns, solved, assign}
 use Rattle.solve.specs.Program.{printed}
 
-abbrev problem : ℕ → ℕ → List ℤ → List ℤ → List ℤ → List ℤ → List ℤ → ℕ → Posed
+abbrev pub problem : ℕ → ℕ → List ℤ → List ℤ → List ℤ → List ℤ → List ℤ → ℕ → Posed
 problem n m coefficients rights lower upper goals limit = record {
   problem = record { columns = n; rows = m; limit = limit };
   coefficients = coefficients;
@@ -49,92 +31,98 @@ problem n m coefficients rights lower upper goals limit = record {
   goals = goals;
 }
 
-record Shown : Type 0 where
-  answer : Answer
-  values : List ℤ
-  strides : List ℕ
+pub record Shown : Type 0 where
+  pub answer : Answer
+  pub values : List ℤ
+  pub strides : List ℕ
 
-abbrev used : Posed → Buffers
+abbrev pub used : Posed → Buffers
 used P = record { tableau = replicate (n P * (m P + n P)) (pos 7); values = replicate (n P) (pos 7); strides = replicate (n P) 7 }
 
-abbrev shown : Done → Shown
+abbrev pub shown : Done → Shown
 shown d = record { answer = d .answer; values = d .values; strides = d .strides }
 
-abbrev assigned : Posed → Shown
+abbrev pub assigned : Posed → Shown
 assigned P = shown (assign P (used P))
 
-abbrev gives : Answer → List ℤ → List ℕ → Shown
+abbrev pub gives : Answer → List ℤ → List ℕ → Shown
 gives a v d = record { answer = a; values = v; strides = d }
 
-abbrev steps : ℕ → ℕ → Counts
+abbrev pub steps : ℕ → ℕ → Counts
 steps bounds goals = record { bounds = bounds; goals = goals }
 
--- the seated list of a problem whose starting list is v and whose basis is N
-abbrev seatedFrom : Posed → List ℤ → List (List ℤ) → Seated
-seatedFrom P v N = seat (columns P) N v
+-- where none is found, nothing is seated
+abbrev pub seatFound : Posed → Found → Seated
+seatFound P none = far
+seatFound P (some start N) = seat (columns P) N start
+
+abbrev pub seatedOf : Posed → Seated
+seatedOf P = seatFound P (solved P .found)
+
+-- goals 400, 1414, 1415, 2449, 2450, with the widest bounds that a column with a goal may have
+abbrev pub fiveGoals : Columns
+fiveGoals = listed 5 (replicate 5 (pos 1)) (replicate 5 (pos 1000000)) (pos 400 ∷ pos 1414 ∷ pos 1415 ∷ pos 2449 ∷ pos 2450 ∷ [])
+
+abbrev pub fiveIdeals : List ℤ → List ℤ
+fiveIdeals v = map (idealAt fiveGoals v) (0 ∷ 1 ∷ 2 ∷ 3 ∷ 4 ∷ [])
+
+-- v1 + v2 = 1 with v1 − v2 = 0
+abbrev pub sumAndDifference : Posed
+sumAndDifference =
+    problem 2 2 (pos 1 ∷ pos 1 ∷ pos 1 ∷ negsuc 0 ∷ []) (pos 1 ∷ pos 0 ∷ []) (pos 1 ∷ pos 1 ∷ []) (pos 9 ∷ pos 9 ∷ []) (pos 0 ∷ pos 0 ∷ []) 10000
 
 -- 3v1 = 2v2, bounds 1..100, goals 2500 and 4000
-abbrev threeTwo : Posed
+abbrev pub threeTwo : Posed
 threeTwo = problem 2 1 (pos 3 ∷ negsuc 1 ∷ []) (pos 0 ∷ []) (pos 1 ∷ pos 1 ∷ []) (pos 100 ∷ pos 100 ∷ []) (pos 2500 ∷ pos 4000 ∷ []) 10000
 
 -- v1 = v2, bounds 1..10 and 5..10, no goals
-abbrev tied : ℕ → Posed
+abbrev pub tied : ℕ → Posed
 tied limit = problem 2 1 (pos 1 ∷ negsuc 0 ∷ []) (pos 0 ∷ []) (pos 1 ∷ pos 5 ∷ []) (pos 10 ∷ pos 10 ∷ []) (pos 0 ∷ pos 0 ∷ []) limit
 
 -- "1 1000000 3000" and the line's end
-abbrev curve : List ℕ
+abbrev pub curve : List ℕ
 curve = 49 ∷ 32 ∷ 49 ∷ 48 ∷ 48 ∷ 48 ∷ 48 ∷ 48 ∷ 48 ∷ 32 ∷ 51 ∷ 48 ∷ 48 ∷ 48 ∷ 10 ∷ []
 
 -- "3", the three curves, "1", "3 2 3 1 1 2 1 3 1"
-abbrev pavingText : List ℕ
+abbrev pub pavingText : List ℕ
 pavingText =
     51 ∷ 10 ∷ (curve ++ curve ++ curve ++ 49 ∷ 10 ∷ 51 ∷ 32 ∷ 50 ∷ 32 ∷ 51 ∷ 32 ∷ 49 ∷ 32 ∷ 49 ∷ 32 ∷ 50 ∷ 32 ∷ 49 ∷ 32 ∷ 51 ∷ 32 ∷ 49 ∷ 10 ∷ [])
 
 -- "FITTED 0 0", "1 3 1", "2 3 1", "3 4 1", "4 5 1"
-abbrev pavingListing : List ℕ
+abbrev pub pavingListing : List ℕ
 pavingListing =
-    70 ∷ 73 ∷ 84 ∷ 84 ∷ 69 ∷ 68 ∷ 32 ∷ 48 ∷ 32 ∷ 48 ∷ 10 ∷ 49 ∷ 32 ∷ 51 ∷ 32 ∷ 49 ∷ 10 ∷ 50 ∷ 32 ∷ 51 ∷ 32 ∷ 49 ∷ 10 ∷ 51 ∷ 32 ∷ 52 ∷ 32 ∷ 49 ∷ 10 ∷ 52
-    ∷ 32 ∷ 53 ∷ 32 ∷ 49 ∷ 10 ∷ []
+    70 ∷ 73 ∷ 84 ∷ 84 ∷ 69 ∷ 68 ∷ 32 ∷ 48 ∷ 32 ∷ 48 ∷ 10 ∷ 49 ∷ 32 ∷ 51 ∷ 32 ∷ 49 ∷ 10 ∷ 50 ∷ 32 ∷ 51 ∷ 32 ∷ 49 ∷ 10 ∷ 51 ∷ 32 ∷ 52 ∷ 32 ∷ 49 ∷ 10
+    ∷ 52 ∷ 32 ∷ 53 ∷ 32 ∷ 49 ∷ 10 ∷ []
 
 pub record DeckCases : Type 0 where
   -- "2v = 1: 8."
-  pub half : assigned (problem 1 1 (pos 2 ∷ []) (pos 1 ∷ []) (pos 1 ∷ []) (pos 9 ∷ []) (pos 0 ∷ []) 10000) ≡ gives (Refused NoWholeNumbers) (pos 7 ∷ []) (7 ∷ [])
+  pub half :
+      assigned (problem 1 1 (pos 2 ∷ []) (pos 1 ∷ []) (pos 1 ∷ []) (pos 9 ∷ []) (pos 0 ∷ []) 10000)
+      ≡ gives (Refused NoWholeNumbers) (pos 7 ∷ []) (7 ∷ [])
   -- "2v = 2, bounds 1..9, no goal: FITTED 0 0 with 1, stride 0."
-  pub whole : assigned (problem 1 1 (pos 2 ∷ []) (pos 2 ∷ []) (pos 1 ∷ []) (pos 9 ∷ []) (pos 0 ∷ []) 10000) ≡ gives (Fitted (steps 0 0)) (pos 1 ∷ []) (0 ∷ [])
+  pub whole :
+      assigned (problem 1 1 (pos 2 ∷ []) (pos 2 ∷ []) (pos 1 ∷ []) (pos 9 ∷ []) (pos 0 ∷ []) 10000)
+      ≡ gives (Fitted (steps 0 0)) (pos 1 ∷ []) (0 ∷ [])
   -- "v1 + v2 = 1 with v1 − v2 = 0: 8."
-  pub crossed : assigned (problem 2 2 (pos 1 ∷ pos 1 ∷ pos 1 ∷ negsuc 0 ∷ []) (pos 1 ∷ pos 0 ∷ []) (pos 1 ∷ pos 1 ∷ []) (pos 9 ∷ pos 9 ∷ []) (pos 0 ∷ pos 0 ∷ []) 10000) ≡ gives (Refused NoWholeNumbers) (pos 7 ∷ pos 7 ∷ []) (7 ∷ 7 ∷ [])
+  pub crossed : assigned sumAndDifference ≡ gives (Refused NoWholeNumbers) (pos 7 ∷ pos 7 ∷ []) (7 ∷ 7 ∷ [])
   -- "v = 1 with v = 2: 8."
-  pub twice : assigned (problem 1 2 (pos 1 ∷ pos 1 ∷ []) (pos 1 ∷ pos 2 ∷ []) (pos 1 ∷ []) (pos 9 ∷ []) (pos 0 ∷ []) 10000) ≡ gives (Refused NoWholeNumbers) (pos 7 ∷ []) (7 ∷ [])
+  pub twice :
+      assigned (problem 1 2 (pos 1 ∷ pos 1 ∷ []) (pos 1 ∷ pos 2 ∷ []) (pos 1 ∷ []) (pos 9 ∷ []) (pos 0 ∷ []) 10000)
+      ≡ gives (Refused NoWholeNumbers) (pos 7 ∷ []) (7 ∷ [])
   -- "No rows, bounds 3..5, no goal: FITTED 0 0 with 3, stride 1."
   pub free : assigned (problem 1 0 [] [] (pos 3 ∷ []) (pos 5 ∷ []) (pos 0 ∷ []) 10000) ≡ gives (Fitted (steps 0 0)) (pos 3 ∷ []) (1 ∷ [])
   -- "Goals 400, 1414, 1415, 2449, 2450: ideals 1, 1, 2, 2, 3."
-  pub ideals : (goalIdeal 400 ≡ 1) × (goalIdeal 1414 ≡ 1) × (goalIdeal 1415 ≡ 2) × (goalIdeal 2449 ≡ 2) × (goalIdeal 2450 ≡ 3)
+  pub ideals : (v : List ℤ) → fiveIdeals v ≡ pos 1 ∷ pos 1 ∷ pos 2 ∷ pos 2 ∷ pos 3 ∷ []
   -- "3v1 = 2v2, bounds 1..100, goals 2500 and 4000: seated 4, 6; FITTED 0 1 with 2, 3; strides 2, 3."
-  pub basis : solve 2 ((pos 3 ∷ negsuc 1 ∷ []) ∷ []) (pos 0 ∷ []) .found ≡ some (pos 0 ∷ pos 0 ∷ []) ((pos 2 ∷ pos 3 ∷ []) ∷ [])
-  pub seats : seatedFrom threeTwo (pos 0 ∷ pos 0 ∷ []) ((pos 2 ∷ pos 3 ∷ []) ∷ []) ≡ seated (pos 4 ∷ pos 6 ∷ [])
+  pub basis : solved threeTwo .found ≡ some (pos 0 ∷ pos 0 ∷ []) ((pos 2 ∷ pos 3 ∷ []) ∷ [])
+  pub seats : seatedOf threeTwo ≡ seated (pos 4 ∷ pos 6 ∷ [])
   pub three-two : assigned threeTwo ≡ gives (Fitted (steps 0 1)) (pos 2 ∷ pos 3 ∷ []) (2 ∷ 3 ∷ [])
   -- "v1 = 2v2, bounds 1..1 and 1..10, no goals: OUTSIDE 0 0 with 2, 1."
-  pub outside : assigned (problem 2 1 (pos 1 ∷ negsuc 1 ∷ []) (pos 0 ∷ []) (pos 1 ∷ pos 1 ∷ []) (pos 1 ∷ pos 10 ∷ []) (pos 0 ∷ pos 0 ∷ []) 10000) ≡ gives (Outside (steps 0 0)) (pos 2 ∷ pos 1 ∷ []) (2 ∷ 1 ∷ [])
+  pub outside :
+      assigned (problem 2 1 (pos 1 ∷ negsuc 1 ∷ []) (pos 0 ∷ []) (pos 1 ∷ pos 1 ∷ []) (pos 1 ∷ pos 10 ∷ []) (pos 0 ∷ pos 0 ∷ []) 10000)
+      ≡ gives (Outside (steps 0 0)) (pos 2 ∷ pos 1 ∷ []) (2 ∷ 1 ∷ [])
   -- "v1 = v2, bounds 1..10 and 5..10, no goals: FITTED 4 0 with 5, 5." "Limit 3: SPENT 3 0 with 4, 4."
   pub fitted : assigned (tied 10000) ≡ gives (Fitted (steps 4 0)) (pos 5 ∷ pos 5 ∷ []) (1 ∷ 1 ∷ [])
   pub spent : assigned (tied 3) ≡ gives (Spent (steps 3 0)) (pos 4 ∷ pos 4 ∷ []) (1 ∷ 1 ∷ [])
   -- "Paving."
   pub paving : printed pavingText ≡ pavingListing
-
-pub deck-cases : DeckCases
-unfolding every divisorBy divisor plus neg allZero lead dot sums gap run allDigits value decimal anyBeyond firstCause tableauFrom tableau lowered reduced each choose exchange clear round gather passColumn passColumns eliminate sweep leading remaining rightSide form solve goalIdeal ideal seatOne seat singles pairsWith pairs moves moved measure isRanked passes improves insert rankFrom firstMove firstColumn stepAt stepOf nextStep settleFrom settle stride stridesFrom settleOn assign intervals terms lines readDeck slackColumns placed coefficientRows posed linesFrom listing printed
-deck-cases = record {
-  half = refl;
-  whole = refl;
-  crossed = refl;
-  twice = refl;
-  free = refl;
-  ideals = (refl, refl, refl, refl, refl);
-  basis = refl;
-  seats = refl;
-  three-two = refl;
-  outside = refl;
-  fitted = refl;
-  spent = refl;
-  paving = refl;
-}

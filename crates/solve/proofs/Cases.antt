@@ -1,0 +1,50 @@
+-- The marked deck cases hold: the checker computes each from the definitions. Assumes nothing.
+use mathlib.Core.Path.{refl}
+use Rattle.whole.specs.Tests.{every}
+use Rattle.whole.specs.Divisor.{divisorBy, divisor}
+use Rattle.lattice.specs.Rows.{plus, neg, allZero, lead}
+use Rattle.lattice.specs.Sums.{dot, sums}
+use Rattle.text.specs.Tokens.{allDigits, value}
+use Rattle.text.specs.Positions.{gap, run}
+use Rattle.text.specs.Decimals.{decimal}
+use Rattle.problem.specs.Limits.{anyBeyond}
+use Rattle.problem.specs.Checks.{firstCause}
+use Rattle.tableau.specs.Table.{tableauFrom, tableau}
+use Rattle.tableau.specs.Elimination.{lowered, reduced, each, choose, exchange, clear, round, gather, passColumn, passColumns, eliminate}
+use Rattle.tableau.specs.RightSide.{sweep, leading, remaining, rightSide, form, solve}
+use Rattle.settling.specs.Ideals.{goalIdeal, ideal}
+use Rattle.settling.specs.Seating.{seatOne, seat}
+use Rattle.settling.specs.Moves.{singles, pairsWith, pairs, moves, moved}
+use Rattle.settling.specs.Measures.{measure}
+use Rattle.settling.specs.Steps.{isRanked, passes, improves, insert, rankFrom, firstMove, firstColumn, stepAt, stepOf, nextStep}
+use Rattle.settling.specs.Settle.{settleFrom, settle}
+use Rattle.settling.specs.Strides.{stride, stridesFrom}
+use Rattle.engine.specs.Assign.{settleOn, assign}
+use Rattle.sections.specs.Sections.{intervals, terms, lines}
+use Rattle.sections.specs.StatedColumns.{slackColumns, placed, coefficientRows}
+use Rattle.deck.specs.Posing.{readDeck, posed}
+use Rattle.report.specs.Listing.{linesFrom, listing}
+use Rattle.solve.specs.Program.{printed}
+use Rattle.solve.specs.Cases.{DeckCases}
+
+pub deck-cases : DeckCases
+unfolding every divisorBy divisor plus neg allZero lead dot sums gap run allDigits value decimal anyBeyond firstCause tableauFrom tableau lowered
+    reduced each choose exchange clear round gather passColumn passColumns eliminate sweep leading remaining rightSide form solve goalIdeal ideal
+    seatOne seat singles pairsWith pairs moves moved measure isRanked passes improves insert rankFrom firstMove firstColumn stepAt stepOf nextStep
+    settleFrom settle stride stridesFrom settleOn assign intervals terms lines readDeck slackColumns placed coefficientRows posed linesFrom listing
+    printed
+deck-cases = record {
+  half = refl;
+  whole = refl;
+  crossed = refl;
+  twice = refl;
+  free = refl;
+  ideals = λ v. refl;
+  basis = refl;
+  seats = refl;
+  three-two = refl;
+  outside = refl;
+  fitted = refl;
+  spent = refl;
+  paving = refl;
+}
