@@ -12,7 +12,7 @@ use lib.IntN.{ℤ, pos}
 use lib.ListN.{length, take, drop, replicate, length-append, length-map}
 use lib.Seq.{length-take-le}
 use Rattle.whole.specs.Lists.{zeros, entry}
-use Rattle.text.specs.Written.{written}
+use Rattle.text.specs.Overwriting.{overwritten}
 use Rattle.text.specs.Positions.{nextAt}
 use Rattle.text.specs.declared.Token.{Token}
 use Rattle.text.specs.declared.Next.{Next}
@@ -80,7 +80,7 @@ pub record RowsFound (n : ℕ) (k₀ : List ℤ) (o : Outcome (List Line)) (c : 
   pub read : o ≡ ok ls (c .at)
   pub columns : c .columns ≡ n + length (slackColumns ls)
   pub rows : c .rows ≡ length ls
-  pub columns-is : k ≡ written k₀ (n * columnWidth) (cells (slackColumns ls))
+  pub columns-is : k ≡ overwritten k₀ (n * columnWidth) (cells (slackColumns ls))
   pub rights-is : b ≡ padded deckRows (map rightOf ls)
   pub table-is : t ≡ padded coefficientCount (coefficientRows deckColumns n ls)
 
@@ -141,7 +141,7 @@ module _ (s : List ℕ) where
 fits-padded : (size : ℕ) (o u : List ℤ) → o ≡ padded size u → length o ≡ size → length u ≤ size
 fits-padded size o u e h = let a = ap length e ∙ length-append u (zeros (size - length u)) in omega arith
 
-fits-written : (o u w : List ℤ) (at : ℕ) → u ≡ written o at w → at ≤ length o → length u ≡ length o → at + length w ≤ length o
+fits-written : (o u w : List ℤ) (at : ℕ) → u ≡ overwritten o at w → at ≤ length o → length u ≡ length o → at + length w ≤ length o
 fits-written o u w at e h l =
     let a = ap length e ∙ length-append (take at o) (w ++ drop (at + length w) o) in
     let b = length-append w (drop (at + length w) o) in
@@ -231,7 +231,7 @@ sizes B h =
     }
 
 -- a list copied out
-list-is : (size : ℕ) (o o' w p : List ℤ) → length o ≡ size → length w ≡ size → o' ≡ written o 0 w → w ≡ p → o' ≡ p
+list-is : (size : ℕ) (o o' w p : List ℤ) → length o ≡ size → length w ≡ size → o' ≡ overwritten o 0 w → w ≡ p → o' ≡ p
 list-is size o o' w p a b e f = e ∙ (written-all o w (b ∙ sym a) ∙ f)
 
 -- one number of each column
@@ -244,20 +244,20 @@ column-is f g each k o is h e p =
 
 -- the coefficients: cleared, and then the first n of each row
 table-is : (o o₁ o₂ t : List ℤ) (n m c : ℕ) (ls : List Line) → length o ≡ coefficientCount → n ≤ deckColumns → m ≤ deckRows → m ≡ length ls
-    → o₁ ≡ written o 0 (replicate (coefficientCount - 0) (pos 0)) → o₂ ≡ written o₁ 0 (compacted n m 0 t)
+    → o₁ ≡ overwritten o 0 (replicate (coefficientCount - 0) (pos 0)) → o₂ ≡ overwritten o₁ 0 (compacted n m 0 t)
     → t ≡ padded coefficientCount (coefficientRows deckColumns c ls) → o₂ ≡ padded coefficientCount (coefficientRows n c ls)
 table-is o o₁ o₂ t n m c ls a h k q e f x =
     let y : compacted n m 0 t ≡ coefficientRows n c ls =
     ap (λ (j : ℕ). compacted n j 0 t) q ∙ compacted-is n c 0 ls t (zeros (coefficientCount - length (coefficientRows deckColumns c ls))) h x in
-    from-blank coefficientCount o₁ o₂ (coefficientRows n c ls) (omega (arith, length-rows n c ls, few-cells n (length ls) h (rw q at k))) (wiped coefficientCount o o₁ a e) (f ∙ ap (written o₁ 0) y)
+    from-blank coefficientCount o₁ o₂ (coefficientRows n c ls) (omega (arith, length-rows n c ls, few-cells n (length ls) h (rw q at k))) (wiped coefficientCount o o₁ a e) (f ∙ ap (overwritten o₁ 0) y)
   where
     few-cells : (n m : ℕ) → n ≤ deckColumns → m ≤ deckRows → m * n ≤ coefficientCount
     few-cells n m h k = mul-le-mul k h
 
 -- an accepted text, whose tables k, b and t went out into lent lists of the largest size
 pub accepting : (s : List ℕ) (B : DeckBuffers) (c : Cursor) (k b t o₁ c' b' l' u' g' : List ℤ) → lengthsFit B ≡ true → length s ≤ maxText
-    → DeckStored (deck s) c k b t → length b ≡ deckRows → o₁ ≡ written (B .coefficients) 0 (replicate (coefficientCount - 0) (pos 0))
-    → c' ≡ written o₁ 0 (compacted (c .columns) (c .rows) 0 t) → b' ≡ written (B .rights) 0 b → l' ≡ picked 0 deckColumns k
+    → DeckStored (deck s) c k b t → length b ≡ deckRows → o₁ ≡ overwritten (B .coefficients) 0 (replicate (coefficientCount - 0) (pos 0))
+    → c' ≡ overwritten o₁ 0 (compacted (c .columns) (c .rows) 0 t) → b' ≡ overwritten (B .rights) 0 b → l' ≡ picked 0 deckColumns k
     → u' ≡ picked 1 deckColumns k → g' ≡ picked 2 deckColumns k → readDone (Read (c .columns) (c .rows)) (deckBuffers c' b' l' u' g') ≡ read s B
 unfolding posed
 accepting s B c k b t o₁ c' b' l' u' g' f h st hb e₁ e₂ eb el eu eg =

@@ -4,7 +4,7 @@ use text::buffers::copy;
 ghost use mathlib.Core.Path.{_≡_};
 ghost use Prim.Native.Nat.{_≤_, _<_};
 ghost use lib.ListN.{length};
-ghost use Rattle.text.specs.Written.{written};
+ghost use Rattle.text.specs.Overwriting.{overwritten};
 ghost use Rattle.sections.specs.Sections.{deckColumns, deckRows, coefficientCount};
 ghost use Rattle.sections.specs.StatedColumns.{columnWidth, columnCells};
 ghost use Rattle.deck.specs.ReaderTables.{compacted, picked};
@@ -13,7 +13,7 @@ ghost use Rattle.deck.specs.ReaderTables.{compacted, picked};
 pub fn compact(table: &[i64], n: usize, m: usize, out: &mut [i64])
     requires { ⌜ (n ≤ deckColumns) × (m ≤ deckRows) ⌝ }
     requires { ⌜ (length (now table) ≡ coefficientCount) × (length (now out) ≡ coefficientCount) ⌝ }
-    ensures { λ _. ⌜ now (out .exit) ≡ written (now (out .entry)) 0 (compacted n m 0 (now (table .entry))) ⌝ }
+    ensures { λ _. ⌜ now (out .exit) ≡ overwritten (now (out .entry)) 0 (compacted n m 0 (now (table .entry))) ⌝ }
 {
     let mut to = 0;
     for i in 0..m {

@@ -33,7 +33,7 @@ use Rattle.rightside.proofs.Answers.{solution-over, solution-none}
 use Rattle.settling.specs.Seating.{Seated, seated, far, seat}
 use Rattle.settling.proofs.Keeping.{never}
 use Rattle.engine.specs.Assign.{Buffers, Done, done, n, m, matrix, columns, lentOf, refused, overLimit, settleOn, onSeated, solved, assignFit, assign, stands, formed, continueFit, continue}
-use Rattle.engine.specs.Demand.{Within, Starts}
+use Rattle.engine.specs.Demand.{WithinLimits, Starts}
 use Rattle.engine.specs.Outcomes.{basisLeft}
 use Rattle.engine.specs.BasisPlace.{basisOf}
 use Rattle.engine.specs.Finish.{Finished, settledBy, onSeat, finished, Finishable}
@@ -44,7 +44,7 @@ abbrev pub doneWith : List ℤ → Finished → Done
 doneWith t x = done (x .answer) t (x .values) (x .strides)
 
 -- ---- what it means to be within the limits
-pub within-sized : (P : Posed) (B : Buffers) → Within P B → Sized (n P) (matrix P) (P .rights)
+pub within-sized : (P : Posed) (B : Buffers) → WithinLimits P B → Sized (n P) (matrix P) (P .rights)
 within-sized P B w =
     let f : Fits P (lentOf B) = fits P (lentOf B) (passes P (lentOf B) (w .passed)) in
     record {
@@ -120,7 +120,7 @@ module _ (P : Posed) where
     seated-done T N (seated v) = refl
 
 -- ---- from the starting list on
-module _ (P : Posed) (B : Buffers) (w : Within P B) where
+module _ (P : Posed) (B : Buffers) (w : WithinLimits P B) where
   abbrev q : Passes P (lentOf B)
   q = passes P (lentOf B) (w .passed)
 

@@ -19,7 +19,7 @@ use Rattle.settling.specs.Seating.{Seated, seated, far, seat}
 use Rattle.settling.specs.Settle.{settle}
 use Rattle.settling.specs.Strides.{strides}
 use Rattle.engine.specs.Assign.{Buffers, n, matrix, columns, settleOn, onSeated, onFound, solved}
-use Rattle.engine.specs.Demand.{Within, PastLimit, SameRows, SameStart, SameColumns, SameOutcome, Demand3}
+use Rattle.engine.specs.Demand.{WithinLimits, PastLimit, SameRows, SameStart, SameColumns, SameOutcome, Demand3}
 use Rattle.engine.proofs.Assigning.{within-sized, assign-passed}
 use Rattle.engine.proofs.Refusals.{not-over, none-is-none}
 
@@ -31,7 +31,7 @@ same-at k l e A A′ b b′ z =
     subst (λ (l : ℕ). Sized l A′ b′ → ((x : List ℤ) → Satisfies k A b x ↔ Satisfies l A′ b′ x) ↔ (solve k A b .found ≡ solve l A′ b′ .found)) e
     (λ z′. solve-same k A A′ b b′ z z′)
 
-module _ (P Q : Posed) (B C : Buffers) (wp : Within P B) (wq : Within Q C) (fp : PastLimit P B → ⊥) (fq : PastLimit Q C → ⊥) where
+module _ (P Q : Posed) (B C : Buffers) (wp : WithinLimits P B) (wq : WithinLimits Q C) (fp : PastLimit P B → ⊥) (fq : PastLimit Q C → ⊥) where
   found-start : (solved P .found ≡ solved Q .found) ↔ SameStart P Q B C
   found-start = (
     (λ e. go e (solved P .found) refl),

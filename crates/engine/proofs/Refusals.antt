@@ -19,7 +19,7 @@ use Rattle.tableau.proofs.Theorems.{solve-none}
 use Rattle.settling.specs.Seating.{Seated, seated, far, seat}
 use Rattle.settling.proofs.Verdicts.{settle-verdict}
 use Rattle.engine.specs.Assign.{Buffers, Done, n, matrix, columns, overLimit, settleOn, onSeated, onFound, solved, assign}
-use Rattle.engine.specs.Demand.{Within, PastLimit, IsNone}
+use Rattle.engine.specs.Demand.{WithinLimits, PastLimit, IsNone}
 use Rattle.engine.specs.Outcomes.{NoneExactlyWhen}
 use Rattle.engine.proofs.Assigning.{within-sized, assign-passed}
 
@@ -42,7 +42,7 @@ module _ (P : Posed) (T : List (List ℤ)) (B : Buffers) where
       go far e = let z : _≡_ {A = ℕ} 9 8 = cc in omega arith
       go (seated u) e = true≢false (sym (settle-verdict (columns P) N (P .problem .limit) u) ∙ ap isVerdict e)
 
-module _ (P : Posed) (B : Buffers) (w : Within P B) where
+module _ (P : Posed) (B : Buffers) (w : WithinLimits P B) where
   pub past-is-over : PastLimit P B ↔ (solved P .over ≡ true)
   past-is-over = (
     (λ e. go (solved P .over) refl (sym (ap (λ (d : Done). d .answer) (assign-passed P B (w .passed))) ∙ e)),

@@ -39,7 +39,7 @@ use Rattle.settling.specs.Settle.{settle}
 use Rattle.settling.proofs.Keeping.{Keeps, seat-keeps, settle-keeps}
 use Rattle.engine.specs.Assign.{Buffers, n, m, matrix, columns, lentOf, refused, overLimit, settleOn, onSeated, onFound}
 use Rattle.engine.specs.Assign.{solved, assignFit, assign, stands, formed, continueFit, continue}
-use Rattle.engine.specs.Demand.{Within, SatisfiesRows}
+use Rattle.engine.specs.Demand.{WithinLimits, SatisfiesRows}
 use Rattle.engine.specs.Outcomes.{KeepsRows, basisLeft}
 use Rattle.engine.proofs.Assigning.{within-sized, found-basis, assign-passed, continue-passed}
 use Rattle.engine.proofs.Verdicts.{verdict-within}
@@ -81,10 +81,10 @@ module _ (P : Posed) (T : List (List ℤ)) (B : Buffers) where
 pub assign-satisfies : (P : Posed) (B : Buffers) → KeepsRows P (assign P B)
 unfolding assign
 assign-satisfies P B e =
-    let w : Within P B = verdict-within P B (assignFit P B) e in
+    let w : WithinLimits P B = verdict-within P B (assignFit P B) e in
     rw (assign-passed P B (w .passed)) (go w (solved P .over) (rw (assign-passed P B (w .passed)) at e))
   where
-    go : Within P B → (t : Bool) → KeepsRows P (cond t (overLimit B) (onFound P (solved P .form) B (solved P .found)))
+    go : WithinLimits P B → (t : Bool) → KeepsRows P (cond t (overLimit B) (onFound P (solved P .form) B (solved P .found)))
     go w true e = absurd (true≢false (sym e))
     go w false e = found-satisfies P (solved P .form) B (solved P .found) (solve-tells (n P) (matrix P) (P .rights) (within-sized P B w)) e
 
@@ -92,7 +92,7 @@ assign-satisfies P B e =
 equal-if : (x y : ℤ) → x -ℤ y ≡ pos 0 → x ≡ y
 equal-if x y = rw (rep x, rep y) (simp diff-rel (omega arith))
 
-stands-satisfies : (P : Posed) (B : Buffers) → Within P B → stands P (B .values) ≡ true → SatisfiesRows P (B .values)
+stands-satisfies : (P : Posed) (B : Buffers) → WithinLimits P B → stands P (B .values) ≡ true → SatisfiesRows P (B .values)
 stands-satisfies P B w e =
     let z : Sized (n P) (matrix P) (P .rights) = within-sized P B w in
     let c : length (matrix P) ≡ m P = length-chop (m P) (n P) (P .coefficients) in
@@ -104,7 +104,7 @@ stands-satisfies P B w e =
           (λ i k. equal-if _ _ (isZero-true _ (every-at (m P) f i h (omega (arith, k, c, length-sums (matrix P) (B .values))))));
     }
 
-module _ (P : Posed) (B : Buffers) (w : Within P B) where
+module _ (P : Posed) (B : Buffers) (w : WithinLimits P B) where
   basis-keeps : SatisfiesRows P (B .values) → Keeps (SatisfiesRows P) (basisLeft P)
   basis-keeps q = go (solved P .found) refl
     where
@@ -126,6 +126,6 @@ module _ (P : Posed) (B : Buffers) (w : Within P B) where
 pub continue-satisfies : (P : Posed) (B : Buffers) → KeepsRows P (continue P B)
 unfolding continue
 continue-satisfies P B e =
-    let w : Within P B = verdict-within P B (continueFit P B) e in
+    let w : WithinLimits P B = verdict-within P B (continueFit P B) e in
     rw (continue-passed P B (w .passed))
     (continued-satisfies P B w (stands P (B .values)) refl (formed P .over) (rw (continue-passed P B (w .passed)) at e))

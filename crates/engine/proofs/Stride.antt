@@ -30,7 +30,7 @@ use Rattle.settling.proofs.StrideLaws.{strides-at}
 use Rattle.settling.proofs.Striding.{stride-greatest, span-divides}
 use Rattle.engine.specs.Assign.{Buffers, Done, n, matrix, columns, refused, overLimit, settleOn, onSeated, onFound, solved}
 use Rattle.engine.specs.Assign.{assignFit, assign, stands, formed, continueFit, continue}
-use Rattle.engine.specs.Demand.{Within, SatisfiesRows}
+use Rattle.engine.specs.Demand.{WithinLimits, SatisfiesRows}
 use Rattle.engine.specs.Outcomes.{basisLeft}
 use Rattle.engine.specs.Stride.{DividesAll, StrideOf, AssignStrides, ContinueStrides}
 use Rattle.engine.proofs.Assigning.{within-sized, found-basis, assign-passed}
@@ -86,17 +86,17 @@ module _ (P : Posed) (T : List (List ℤ)) (B : Buffers) (j : ℕ) (h : j < n P)
 pub assign-strides : AssignStrides
 unfolding assign
 assign-strides P B e j h =
-    let w : Within P B = verdict-within P B (assignFit P B) e in
+    let w : WithinLimits P B = verdict-within P B (assignFit P B) e in
     rw (assign-passed P B (w .passed)) (go w (solved P .over) (rw (assign-passed P B (w .passed)) at e))
   where
-    go : Within P B → (t : Bool) → isVerdict (cond t (overLimit B) (onFound P (solved P .form) B (solved P .found)) .answer) ≡ true
+    go : WithinLimits P B → (t : Bool) → isVerdict (cond t (overLimit B) (onFound P (solved P .form) B (solved P .found)) .answer) ≡ true
         → StrideOf P j (getD (cond t (overLimit B) (onFound P (solved P .form) B (solved P .found)) .strides) j 0)
     go w true e = absurd (true≢false (sym e))
     go w false e = found-strides P (solved P .form) B j h (solved P .found) (solve-tells (n P) (matrix P) (P .rights) (within-sized P B w)) e
 
 -- ---- Continue
 -- some list satisfies the rows, so that a start is found, and with it the basis of the form
-formed-strides : (P : Posed) (B : Buffers) → Within P B → (x : List ℤ) → SatisfiesRows P x → (j : ℕ) → j < n P
+formed-strides : (P : Posed) (B : Buffers) → WithinLimits P B → (x : List ℤ) → SatisfiesRows P x → (j : ℕ) → j < n P
     → StrideOf P j (getD (strides (n P) (basisLeft P)) j 0)
 formed-strides P B w x p j h = go (solved P .found) refl
   where
@@ -109,7 +109,7 @@ formed-strides P B w x p j h = go (solved P .found) refl
 pub continue-strides : ContinueStrides
 unfolding continue settleOn
 continue-strides P B e j h =
-    let w : Within P B = verdict-within P B (continueFit P B) e in
+    let w : WithinLimits P B = verdict-within P B (continueFit P B) e in
     let p : SatisfiesRows P (continue P B .values) = continue-satisfies P B e in
     rw (w .passed) (go (formed-strides P B w (continue P B .values) p j h) (stands P (B .values)) (formed P .over) (rw (w .passed) at e))
   where

@@ -20,14 +20,14 @@ use Rattle.settling.proofs.Keeping.{never}
 use Rattle.settling.proofs.Verdicts.{settle-means}
 use Rattle.engine.specs.Assign.{Buffers, Done, columns, lentOf, refused, overLimit, settleOn, onCheck, onSeated, onFound}
 use Rattle.engine.specs.Assign.{solved, assignFit, assign, stands, formed, continueFit, continue}
-use Rattle.engine.specs.Demand.{Within}
+use Rattle.engine.specs.Demand.{WithinLimits}
 use Rattle.engine.specs.Outcomes.{basisLeft, VerdictMeans}
 use Rattle.engine.proofs.Assigning.{found-basis}
 
-pub verdict-within : (P : Posed) (B : Buffers) (d : Done) → isVerdict (onCheck (firstCause P (lentOf B)) B d .answer) ≡ true → Within P B
+pub verdict-within : (P : Posed) (B : Buffers) (d : Done) → isVerdict (onCheck (firstCause P (lentOf B)) B d .answer) ≡ true → WithinLimits P B
 verdict-within P B d = go (firstCause P (lentOf B)) refl
   where
-    go : (c : Check) → firstCause P (lentOf B) ≡ c → isVerdict (onCheck c B d .answer) ≡ true → Within P B
+    go : (c : Check) → firstCause P (lentOf B) ≡ c → isVerdict (onCheck c B d .answer) ≡ true → WithinLimits P B
     go Passed h e = record { passed = h }
     go (Failed why) h e = absurd (true≢false (sym e))
 

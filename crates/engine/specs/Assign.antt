@@ -44,8 +44,8 @@ pub record Done : Type 0 where
   pub strides : List ℕ
 
 -- a call's arguments, as these
-abbrev pub posed : Problem → List ℤ → List ℤ → List ℤ → List ℤ → List ℤ → Posed
-posed p coefficients rights lower upper goals = record {
+abbrev pub posedBy : Problem → List ℤ → List ℤ → List ℤ → List ℤ → List ℤ → Posed
+posedBy p coefficients rights lower upper goals = record {
   problem = p;
   coefficients = coefficients;
   rights = rights;

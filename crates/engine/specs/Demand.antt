@@ -1,5 +1,5 @@
 -- Demand 3: "Nobody who restates a requirement can move the intervals", in document 01's words ("The words of demand 3").
---   Within P B        "A problem is within the limits if none of causes 1 to 6 holds for it and the buffers lent with it."
+--   WithinLimits P B        "A problem is within the limits if none of causes 1 to 6 holds for it and the buffers lent with it."
 --   PastLimit P B     "It is past the elimination limit if it meets 7"
 --   IsNone P B        "and "none" if it meets 8"
 --   SatisfiesRows P x "A list satisfies the rows if it has n whole numbers, of any size, in bounds or not, and in each row the coefficients times
@@ -30,7 +30,7 @@ use Rattle.tableau.specs.RightSide.{some}
 use Rattle.engine.specs.Assign.{Buffers, Done, n, matrix, lentOf, solved, assign}
 
 -- ---- the words
-pub record Within (P : Posed) (B : Buffers) : Type 0 where
+pub record WithinLimits (P : Posed) (B : Buffers) : Type 0 where
   pub passed : firstCause P (lentOf B) ≡ Passed
 
 abbrev pub PastLimit : Posed → Buffers → Type 0
@@ -78,4 +78,4 @@ pub record Restated (P Q : Posed) (B C : Buffers) : Type 0 where
 
 -- "For any two problems within the limits with the same number of columns, whatever rows each has, neither past the elimination limit"
 abbrev pub Demand3 : Posed → Posed → Buffers → Buffers → Type 0
-Demand3 P Q B C = n P ≡ n Q → Within P B → Within Q C → (PastLimit P B → ⊥) → (PastLimit Q C → ⊥) → Restated P Q B C
+Demand3 P Q B C = n P ≡ n Q → WithinLimits P B → WithinLimits Q C → (PastLimit P B → ⊥) → (PastLimit Q C → ⊥) → Restated P Q B C

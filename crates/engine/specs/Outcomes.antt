@@ -18,7 +18,7 @@ use Rattle.problem.specs.Checks.{Posed}
 use Rattle.tableau.specs.RightSide.{basis}
 use Rattle.settling.specs.Verdicts.{Means}
 use Rattle.engine.specs.Assign.{Buffers, Done, m, columns, solved, formed}
-use Rattle.engine.specs.Demand.{Within, PastLimit, IsNone, SatisfiesRows}
+use Rattle.engine.specs.Demand.{WithinLimits, PastLimit, IsNone, SatisfiesRows}
 
 -- ---- with a verdict
 abbrev pub KeepsRows : Posed → Done → Type 0
@@ -39,4 +39,4 @@ pub record ExactRefusals (P : Posed) (B : Buffers) : Type 0 where
 
 -- of a problem within the limits
 abbrev pub NoneExactlyWhen : Posed → Buffers → Type 0
-NoneExactlyWhen P B = Within P B → ExactRefusals P B
+NoneExactlyWhen P B = WithinLimits P B → ExactRefusals P B

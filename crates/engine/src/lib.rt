@@ -1,7 +1,7 @@
 // Whole assignments and Continue: document 01's calls on lent buffers. They have no `requires`: what a problem can break is an answer.
 // Past the checks the lists of bounds and goals are packed once into a table of columns, which is all that is lent on of them.
 ghost use mathlib.Core.Path.{_≡_};
-ghost use Rattle.engine.specs.Assign.{posed, buffers, done};
+ghost use Rattle.engine.specs.Assign.{posedBy, buffers, done};
 ghost use Rattle.engine.specs.Assign as Assign;
 use ending::finish;
 use ending::settle_over;
@@ -34,7 +34,7 @@ pub fn assign(
     strides: &mut [u64],
 ) -> Answer
     ensures { λ r. ⌜ done r (now (tableau .exit)) (now (values .exit)) (now (strides .exit))
-        ≡ Assign.assign (posed p (now (coefficients .entry)) (now (rights .entry)) (now (lower .entry)) (now (upper .entry)) (now (goals .entry)))
+        ≡ Assign.assign (posedBy p (now (coefficients .entry)) (now (rights .entry)) (now (lower .entry)) (now (upper .entry)) (now (goals .entry)))
         (buffers (now (tableau .entry)) (now (values .entry)) (now (strides .entry))) ⌝ }
 {
     let lent = Lent {
@@ -79,7 +79,7 @@ pub fn continue_from(
     strides: &mut [u64],
 ) -> Answer
     ensures { λ r. ⌜ done r (now (tableau .exit)) (now (values .exit)) (now (strides .exit))
-        ≡ Assign.continue (posed p (now (coefficients .entry)) (now (rights .entry)) (now (lower .entry)) (now (upper .entry)) (now (goals .entry)))
+        ≡ Assign.continue (posedBy p (now (coefficients .entry)) (now (rights .entry)) (now (lower .entry)) (now (upper .entry)) (now (goals .entry)))
         (buffers (now (tableau .entry)) (now (values .entry)) (now (strides .entry))) ⌝ }
 {
     let lent = Lent {

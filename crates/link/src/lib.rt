@@ -3,7 +3,7 @@ mod reading;
 
 ghost use mathlib.Core.Path.{_≡_};
 ghost use lib.ListN.{length};
-ghost use Rattle.engine.specs.Assign.{posed, buffers, assign, continue};
+ghost use Rattle.engine.specs.Assign.{posedBy, buffers, assign, continue};
 ghost use Rattle.link.specs.Calls.{problemOf, verdictNumber, reportOf, reportLength, returned, called};
 use problem::Answer;
 use problem::Problem;
@@ -54,7 +54,7 @@ pub extern "C" fn koralimbu_assign(
 ) -> u32
     ensures { λ r. ⌜ returned r (buffers (now (tableau .exit)) (now (values .exit)) (now (strides .exit))) (now (report .exit))
         ≡ called assign
-        (posed (problemOf n m limit) (now (coefficients .entry)) (now (rights .entry)) (now (lower .entry)) (now (upper .entry)) (now (goals .entry)))
+        (posedBy (problemOf n m limit) (now (coefficients .entry)) (now (rights .entry)) (now (lower .entry)) (now (upper .entry)) (now (goals .entry)))
         (buffers (now (tableau .entry)) (now (values .entry)) (now (strides .entry))) (now (report .entry)) ⌝ }
 {
     if report.len() != REPORT {
@@ -98,7 +98,7 @@ pub extern "C" fn koralimbu_continue(
 ) -> u32
     ensures { λ r. ⌜ returned r (buffers (now (tableau .exit)) (now (values .exit)) (now (strides .exit))) (now (report .exit))
         ≡ called continue
-        (posed (problemOf n m limit) (now (coefficients .entry)) (now (rights .entry)) (now (lower .entry)) (now (upper .entry)) (now (goals .entry)))
+        (posedBy (problemOf n m limit) (now (coefficients .entry)) (now (rights .entry)) (now (lower .entry)) (now (upper .entry)) (now (goals .entry)))
         (buffers (now (tableau .entry)) (now (values .entry)) (now (strides .entry))) (now (report .entry)) ⌝ }
 {
     if report.len() != REPORT {

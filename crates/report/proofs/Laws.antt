@@ -13,7 +13,7 @@ use lib.ListN.{length, take, drop, getD, length-append, drop-of-length-le}
 use lib.Seq.{drop-cons, take-length, take-all, length-take-le}
 use mir.Syntax.{w64}
 use mir.Val.{SFits}
-use Rattle.text.specs.Written.{Wrote}
+use Rattle.text.specs.Overwriting.{Wrote}
 use Rattle.text.specs.Decimals.{natural, integer}
 use Rattle.problem.specs.Answers.{refusalNumber}
 use Rattle.problem.specs.declared.Counts.{Counts}

@@ -9,7 +9,7 @@ ghost use mathlib.Core.Path.{_≡_};
 ghost use Prim.Native.Nat.{_+_, _≤_};
 ghost use lib.Dec.{leb};
 ghost use lib.ListN.{length};
-ghost use Rattle.text.specs.Written.{Wrote};
+ghost use Rattle.text.specs.Overwriting.{Wrote};
 ghost use Rattle.text.specs.Decimals.{natural, integer};
 ghost use Rattle.report.specs.Listing.{field, verdict, refusal, line, linesFrom, headline, linesOf, countsOf, listingDone, writeListing};
 

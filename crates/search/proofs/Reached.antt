@@ -25,7 +25,7 @@ use Rattle.settling.specs.Columns.{width, columnAt, columnsIn, cell}
 use Rattle.settling.specs.Measures.{distance}
 use Rattle.settling.specs.Steps.{inBounds, partIf, partOf, isAllowed, rankedAt}
 use Rattle.settling.specs.Ready.{Ready}
-use Rattle.settling.specs.Sizes.{Sized}
+use Rattle.settling.specs.Sizes.{FitCell}
 use Rattle.settling.proofs.Sizes.{allowed-sized, fit-sized}
 use Rattle.settling.proofs.Blocking.{Proper, fit-proper}
 use Rattle.search.specs.declared.Search.{Search}
@@ -35,7 +35,7 @@ abbrev pub searchOf : Part → Basis → Search
 searchOf p B = record { part = p; view = B }
 
 module _ (B : Basis) (T v b : List ℤ) (r : Ready B v T b) where
-  near-sized : (j : ℕ) → Sized Bounds (cell (columnsIn (B .columns) T) v j)
+  near-sized : (j : ℕ) → FitCell Bounds (cell (columnsIn (B .columns) T) v j)
   near-sized j = fit-sized Bounds (columnAt T j) (entry j v) (r .columns j) (omega (arith, r .values-small j))
 
   table-long : length T ≡ width * length v
@@ -62,7 +62,7 @@ module _ (B : Basis) (T v b : List ℤ) (r : Ready B v T b) where
 
 -- ---- where a step may be searched for
 module _ (S : Search) (T v b : List ℤ) (s : Searchable S T v b) where
-  pub search-sized : (j : ℕ) → j < S .view .columns → Sized (S .part) (cell (columnsOf S T) v j)
+  pub search-sized : (j : ℕ) → j < S .view .columns → FitCell (S .part) (cell (columnsOf S T) v j)
   search-sized j h = allowed-sized (S .part) (cell (columnsOf S T) v j) (near-sized (S .view) T v b (s .ready) j) (s .allowed j h)
 
   pub search-measurable : Measurable (S .part) T v

@@ -26,7 +26,7 @@ use Rattle.settling.specs.declared.Measure.{Measure}
 use Rattle.settling.specs.Columns.{cell}
 use Rattle.settling.specs.Moves.{vector, moves, change, changes}
 use Rattle.settling.proofs.Fronts.{lt-or-ge}
-use Rattle.settling.specs.Sizes.{Room}
+use Rattle.settling.specs.Sizes.{Crossable}
 use Rattle.settling.proofs.Sizes.{measure-room}
 use Rattle.settling.specs.Steps.{measureAt, improves}
 use Rattle.settling.specs.Views.{vectors, OfBasis}
@@ -73,9 +73,9 @@ module _ (h : Place) (T v b : List ℤ) (L : List ℕ) (u : Setup (h .search) T 
   pub here-column : h .column < h .search .view .columns
   here-column = omega (arith, e .column, u .order .below (h .at) (e .inside))
 
-  pub here-room : Room (h .q)
+  pub here-room : Crossable (h .q)
   here-room =
-      subst Room (sym (e .q))
+      subst Crossable (sym (e .q))
       (measure-room (h .search .part) (cell (columnsOf (h .search) T) v (h .column))
       (search-sized (h .search) T v b (u .searchable) (h .column) here-column))
 

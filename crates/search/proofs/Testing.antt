@@ -30,7 +30,7 @@ use Rattle.settling.specs.declared.Measure.{Measure}
 use Rattle.settling.specs.declared.Move.{Move}
 use Rattle.settling.specs.Columns.{width, valued, columnAt}
 use Rattle.settling.specs.Moves.{vector, change}
-use Rattle.settling.specs.Sizes.{Room}
+use Rattle.settling.specs.Sizes.{Crossable}
 use Rattle.settling.specs.Steps.{isAllowed, passes}
 use Rattle.settling.specs.Views.{vectors, OfBasis}
 use Rattle.settling.proofs.Views.{vector-long, vector-small, sum-small, moved-at}
@@ -116,7 +116,7 @@ module _
     abbrev N : List (List ℤ)
     N = vectors (S .view) b
 
-    pub testable : Room q → Testable T v w x y
+    pub testable : Crossable q → Testable T v w x y
     testable r = rw (t .sum, t .left, t .right) plain
       where
         plain : Testable T v (sumOf S o q) (vector N (o .s)) (vector N (o .t))

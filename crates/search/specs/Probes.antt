@@ -21,7 +21,7 @@ use Rattle.problem.specs.Limits.{M, maxColumns}
 use Rattle.settling.specs.declared.Basis.{Basis}
 use Rattle.settling.specs.Columns.{width, valued, columnAt}
 use Rattle.settling.specs.Ready.{FitColumn}
-use Rattle.settling.specs.Sizes.{Room}
+use Rattle.settling.specs.Sizes.{Crossable}
 use Rattle.settling.specs.Steps.{isAllowed, passes}
 use Rattle.search.specs.declared.probes.Sum.{Sum}
 use Rattle.search.specs.Sets.{has, touches}
@@ -42,7 +42,7 @@ pub record Testable (T v : List ℤ) (p : Sum) (x y : List ℤ) : Type 0 where
   pub y-small : (j : ℕ) → natAbs (entry j y) ≤ M
   pub a-small : natAbs (p .a) ≤ 1
   pub b-small : natAbs (p .b) ≤ 1
-  pub room : Room (p .q)
+  pub room : Crossable (p .q)
   pub allowed : (j : ℕ) → j < length v → isAllowed (p .part) (valued (columnAt T j) (entry j v)) ≡ true
 
 pub record Covered (n : ℕ) (p : Sum) (x y : List ℤ) (w u : ℕ) : Type 0 where

@@ -23,7 +23,7 @@ use Rattle.settling.specs.declared.Step.{Step}
 use Rattle.settling.specs.Columns.{Columns, width, columnsIn, cell}
 use Rattle.settling.specs.Steps.{isAllowed, passesAt, largerAt, improves, firstColumn, stepAt}
 use Rattle.settling.specs.Ready.{Ready}
-use Rattle.settling.specs.Sizes.{Sized}
+use Rattle.settling.specs.Sizes.{FitCell}
 use Rattle.settling.specs.Views.{vectors}
 use Rattle.settling.proofs.Blocking.{Proper}
 use Rattle.search.specs.declared.Search.{Search}
@@ -42,7 +42,7 @@ stepAlong S T v b = firstColumn (stepAt (S .part) (columnsOf S T) (vectors (S .v
 
 pub record Measurable (p : Part) (T v : List ℤ) : Type 0 where
   pub long : length T ≡ width * length v
-  pub sized : (j : ℕ) → j < length v → Sized p (cell (columnsIn (length v) T) v j)
+  pub sized : (j : ℕ) → j < length v → FitCell p (cell (columnsIn (length v) T) v j)
 
 pub record Searchable (S : Search) (T v b : List ℤ) : Type 0 where
   pub ready : Ready (S .view) v T b

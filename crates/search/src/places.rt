@@ -9,7 +9,7 @@ ghost use lib.ListN.{length, getD};
 ghost use Rattle.whole.specs.Tests.{every};
 ghost use Rattle.problem.specs.Limits.{maxColumns};
 ghost use Rattle.settling.specs.Moves.{changes};
-ghost use Rattle.settling.specs.Sizes.{Room};
+ghost use Rattle.settling.specs.Sizes.{Crossable};
 ghost use Rattle.settling.specs.Steps.{measureAt};
 ghost use Rattle.settling.specs.Views.{vectors, Viewed, OfBasis};
 ghost use Rattle.search.specs.Notes.{notesLong, topAt, noteAt};
@@ -112,7 +112,7 @@ fn blame(
     guess: usize,
 ) -> usize
     requires { ⌜ Searchable (here .search) (now columns) (now values) (now basis) × Supported (here .search .view) (now basis) (now supports)
-        × (s < here .search .view .vectors) × Room (here .q) × (here .column < here .search .view .columns) ⌝ }
+        × (s < here .search .view .vectors) × Crossable (here .q) × (here .column < here .search .view .columns) ⌝ }
     ensures { λ r. ⌜ Failing (here .search .view .columns)
         (passing (here .search) (now (columns .entry)) (now (values .entry)) (now (basis .entry)) (Progress.alone s x) (here .q)) r ⌝ }
 {
@@ -264,7 +264,7 @@ fn pair_fits(
     q: Measure,
 ) -> bool
     requires { ⌜ Searchable search (now columns) (now values) (now basis) × Supported (search .view) (now basis) (now supports)
-        × OfBasis (search .view .vectors) (p .o) × Room q × (0 < search .view .columns)
+        × OfBasis (search .view .vectors) (p .o) × Crossable q × (0 < search .view .columns)
         × (((p .s ≡ p .o .s) × (p .t ≡ p .o .t)) ⊎ ((p .s ≡ p .o .t) × (p .t ≡ p .o .s))) ⌝ }
     ensures { λ r. ⌜ r ≡ every (search .view .columns)
         (passing search (now (columns .entry)) (now (values .entry)) (now (basis .entry)) (p .o) q) ⌝ }

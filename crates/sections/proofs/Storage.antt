@@ -8,7 +8,7 @@ use lib.IntN.{ℤ, pos}
 use lib.ListN.{length, take, drop, set, replicate, length-append, length-map, length-replicate, length-set}
 use lib.Seq.{take-at, drop-at, drop-drop}
 use Rattle.whole.specs.Lists.{zeros}
-use Rattle.text.specs.Written.{written}
+use Rattle.text.specs.Overwriting.{overwritten}
 use Rattle.problem.specs.Kinds.{Slack, none, slack, slackOf, slackCount}
 use Rattle.problem.specs.Kinds as kinds
 use Rattle.sections.specs.Sections.{deckColumns, Line}
@@ -43,7 +43,7 @@ drop-zeros zero n = let e : n - 0 ≡ n = omega arith in rw e
 drop-zeros (suc k) zero = let e : 0 - suc k ≡ 0 = omega arith in rw e
 drop-zeros (suc k) (suc n) = drop-zeros k n ∙ ap (λ (j : ℕ). replicate j (pos 0)) (let e : n - k ≡ suc n - suc k = omega arith in e)
 
-pub padded-written : (size c : ℕ) (u w : List ℤ) → length u ≡ c → c + length w ≤ size → written (padded size u) c w ≡ padded size (u ++ w)
+pub padded-written : (size c : ℕ) (u w : List ℤ) → length u ≡ c → c + length w ≤ size → overwritten (padded size u) c w ≡ padded size (u ++ w)
 padded-written size c u w e h =
     let z : List ℤ = replicate (size - length u) (pos 0) in
     let t : take c (padded size u) ≡ u = take-at u z c e in
@@ -55,11 +55,11 @@ padded-written size c u w e h =
     two : (u w : List ℤ) → size - length u - length w ≡ size - length (u ++ w)
     two u w = rw (length-append u w) (omega arith)
 
-pub from-blank : (size : ℕ) (o u w : List ℤ) → length w ≤ size → o ≡ blank size → u ≡ written o 0 w → u ≡ padded size w
+pub from-blank : (size : ℕ) (o u w : List ℤ) → length w ≤ size → o ≡ blank size → u ≡ overwritten o 0 w → u ≡ padded size w
 from-blank size o u w h e f = f ∙ (rw (e, padded-none size) (padded-written size 0 [] w refl (omega arith)))
 
 -- a buffer that is set to 0 from end to end
-pub wiped : (size : ℕ) (o u : List ℤ) → length o ≡ size → u ≡ written o 0 (replicate (size - 0) (pos 0)) → u ≡ blank size
+pub wiped : (size : ℕ) (o u : List ℤ) → length o ≡ size → u ≡ overwritten o 0 (replicate (size - 0) (pos 0)) → u ≡ blank size
 wiped size o u h e =
     let z : size - 0 ≡ size = omega arith in
     e ∙ (rw z (written-all o (replicate size (pos 0)) (length-replicate size (pos 0) ∙ sym h) ∙ sym (blank-is size)))
@@ -80,7 +80,7 @@ length-cells [] = omega arith
 length-cells (i ∷ is) = length-append (cell i) (cells is) ∙ (rw (length-cells is) (omega arith))
 
 pub cells-more : (i : ℕ) (done : List Interval) (a : Interval) (o k : List ℤ) → length done ≡ i → i < deckColumns → o ≡ padded columnCells (cells done)
-    → k ≡ written o (i * columnWidth) (cell a) → k ≡ padded columnCells (cells (done ++ (a ∷ [])))
+    → k ≡ overwritten o (i * columnWidth) (cell a) → k ≡ padded columnCells (cells (done ++ (a ∷ [])))
 cells-more i done a o k c h e f =
     let m : length (cells done) ≡ i * columnWidth = length-cells done ∙ ap (λ (j : ℕ). j * columnWidth) c in
     f ∙
@@ -147,9 +147,9 @@ length-rows n c (d ∷ ls) =
 -- ---- the next row's column, right side and coefficients
 module _ (c : ℕ) (done : List Line) (l : Line) where
   pub columns-more : (n : ℕ) (o u v : List ℤ) → n ≡ c + length (slackColumns done) → n + slackCount (l .row .kind) ≤ deckColumns
-      → length o ≡ columnCells → u ≡ written o (c * columnWidth) (cells (slackColumns done))
-      → v ≡ written u (n * columnWidth) (cells (slackColumn (slackOf (l .row .kind))))
-      → v ≡ written o (c * columnWidth) (cells (slackColumns (done ++ (l ∷ []))))
+      → length o ≡ columnCells → u ≡ overwritten o (c * columnWidth) (cells (slackColumns done))
+      → v ≡ overwritten u (n * columnWidth) (cells (slackColumn (slackOf (l .row .kind))))
+      → v ≡ overwritten o (c * columnWidth) (cells (slackColumns (done ++ (l ∷ []))))
   columns-more n o u v e h s p q =
       let y : List Interval = slackColumn (slackOf (l .row .kind)) in
       let m = length-cells (slackColumns done) in
@@ -159,20 +159,20 @@ module _ (c : ℕ) (done : List Line) (l : Line) where
       q ∙
       (rw (p, a)
       (written-then o (c * columnWidth) (cells (slackColumns done)) (cells y) (omega arith) ∙
-      ap (written o (c * columnWidth)) (sym (cells-two (slackColumns done) y) ∙ ap cells (sym (slacks-more done l)))))
+      ap (overwritten o (c * columnWidth)) (sym (cells-two (slackColumns done) y) ∙ ap cells (sym (slacks-more done l)))))
 
-  pub rights-more : (i : ℕ) (o u v : List ℤ) → length done ≡ i → i < length o → u ≡ written o 0 (map rightOf done) → v ≡ written u i (l .row .right ∷ [])
-      → v ≡ written o 0 (map rightOf (done ++ (l ∷ [])))
+  pub rights-more : (i : ℕ) (o u v : List ℤ) → length done ≡ i → i < length o → u ≡ overwritten o 0 (map rightOf done) → v ≡ overwritten u i (l .row .right ∷ [])
+      → v ≡ overwritten o 0 (map rightOf (done ++ (l ∷ [])))
   rights-more i o u v e h p q =
       let m : length (map rightOf done) ≡ length done = length-map done rightOf in
       let a : i ≡ 0 + length (map rightOf done) = omega arith in
       q ∙
       (rw (p, a)
-      (written-then o 0 (map rightOf done) (l .row .right ∷ []) (omega arith) ∙ ap (written o 0) (sym (map-two rightOf done (l ∷ [])))))
+      (written-then o 0 (map rightOf done) (l .row .right ∷ []) (omega arith) ∙ ap (overwritten o 0) (sym (map-two rightOf done (l ∷ [])))))
 
   pub table-more : (i n : ℕ) (o u v : List ℤ) → length done ≡ i → i * deckColumns + deckColumns ≤ length o → n ≡ c + length (slackColumns done)
-      → u ≡ written o 0 (coefficientRows deckColumns c done) → v ≡ written u (i * deckColumns) (coefficientRow deckColumns n l)
-      → v ≡ written o 0 (coefficientRows deckColumns c (done ++ (l ∷ [])))
+      → u ≡ overwritten o 0 (coefficientRows deckColumns c done) → v ≡ overwritten u (i * deckColumns) (coefficientRow deckColumns n l)
+      → v ≡ overwritten o 0 (coefficientRows deckColumns c (done ++ (l ∷ [])))
   table-more i n o u v e h k p q =
       let m = length-rows deckColumns c done in
       let w = length-row deckColumns n l in
@@ -180,4 +180,4 @@ module _ (c : ℕ) (done : List Line) (l : Line) where
       q ∙
       (rw (p, a)
       (written-then o 0 (coefficientRows deckColumns c done) (coefficientRow deckColumns n l) (omega arith) ∙
-      ap (written o 0) (ap (λ (x : ℕ). coefficientRows deckColumns c done ++ coefficientRow deckColumns x l) k ∙ sym (rows-more deckColumns c done l))))
+      ap (overwritten o 0) (ap (λ (x : ℕ). coefficientRows deckColumns c done ++ coefficientRow deckColumns x l) k ∙ sym (rows-more deckColumns c done l))))

@@ -12,7 +12,7 @@ use mathlib.Core.List.{List, _∷_, [], map}
 use Prim.Native.Nat.{ℕ, _+_, _*_, _≤_}
 use lib.IntN.{ℤ}
 use lib.ListN.{length}
-use Rattle.text.specs.Written.{written}
+use Rattle.text.specs.Overwriting.{overwritten}
 use Rattle.problem.specs.Kinds.{none, slack, slackOf, slackCount}
 use Rattle.problem.specs.Kinds as kinds
 use Rattle.problem.specs.declared.Row.{Row}
@@ -93,9 +93,9 @@ pub record Lengths (k b t : List ℤ) : Type 0 where
 
 -- a row at a cursor, whose terms are in the line v
 pub record RowStored (r : Row) (c : Cursor) (v k₀ b₀ t₀ k b t : List ℤ) : Type 0 where
-  pub columns-is : k ≡ written k₀ (c .columns * columnWidth) (cells (slackColumn (slackOf (r .kind))))
-  pub rights-is : b ≡ written b₀ (c .rows) (r .right ∷ [])
-  pub table-is : t ≡ written t₀ (c .rows * deckColumns) (withSlack (slackOf (r .kind)) (c .columns) v)
+  pub columns-is : k ≡ overwritten k₀ (c .columns * columnWidth) (cells (slackColumn (slackOf (r .kind))))
+  pub rights-is : b ≡ overwritten b₀ (c .rows) (r .right ∷ [])
+  pub table-is : t ≡ overwritten t₀ (c .rows * deckColumns) (withSlack (slackOf (r .kind)) (c .columns) v)
 
 -- a row read from the cursor c up to the cursor d, and stored
 pub record OneStored (o : Outcome Line) (c d : Cursor) (k₀ b₀ t₀ k b t : List ℤ) : Type 0 where
@@ -105,9 +105,9 @@ pub record OneStored (o : Outcome Line) (c d : Cursor) (k₀ b₀ t₀ k b t : L
   pub columns : d .columns ≡ c .columns + slackCount (line .row .kind)
   pub rows : d .rows ≡ c .rows + 1
   pub room : d .columns ≤ deckColumns
-  pub columns-is : k ≡ written k₀ (c .columns * columnWidth) (cells (slackColumn (slackOf (line .row .kind))))
-  pub rights-is : b ≡ written b₀ (c .rows) (line .row .right ∷ [])
-  pub table-is : t ≡ written t₀ (c .rows * deckColumns) (coefficientRow deckColumns (c .columns) line)
+  pub columns-is : k ≡ overwritten k₀ (c .columns * columnWidth) (cells (slackColumn (slackOf (line .row .kind))))
+  pub rights-is : b ≡ overwritten b₀ (c .rows) (line .row .right ∷ [])
+  pub table-is : t ≡ overwritten t₀ (c .rows * deckColumns) (coefficientRow deckColumns (c .columns) line)
 
 abbrev pub OneRead : Outcome Line → Cursor → Section → (k₀ b₀ t₀ k b t : List ℤ) → Type 0
 OneRead o c (section.Read d) k₀ b₀ t₀ k b t = OneStored o c d k₀ b₀ t₀ k b t
@@ -144,7 +144,7 @@ rowsDone r k b t = record { section = r; columns = k; rights = b; table = t }
 
 abbrev pub rowsLeft : ℕ → List ℤ → Outcome (List Line) → RowsDone
 rowsLeft n u (ok ls e) =
-    rowsDone (section.Read (cursor e n (n + length (slackColumns ls)) (length ls))) (written u (n * columnWidth) (cells (slackColumns ls)))
+    rowsDone (section.Read (cursor e n (n + length (slackColumns ls)) (length ls))) (overwritten u (n * columnWidth) (cells (slackColumns ls)))
     (padded deckRows (map rightOf ls)) (padded coefficientCount (coefficientRows deckColumns n ls))
 rowsLeft n u (no why) = rowsDone (section.Refused why) (blank columnCells) (blank deckRows) (blank coefficientCount)
 

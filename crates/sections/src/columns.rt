@@ -5,14 +5,14 @@ use text::buffers::copy;
 ghost use mathlib.Core.Path.{_≡_};
 ghost use Prim.Native.Nat.{_*_, _<_};
 ghost use lib.ListN.{length};
-ghost use Rattle.text.specs.Written.{written};
+ghost use Rattle.text.specs.Overwriting.{overwritten};
 ghost use Rattle.sections.specs.Sections.{deckColumns};
 ghost use Rattle.sections.specs.StatedColumns.{columnWidth, columnCells, cell};
 
 // Puts a column's numbers side by side.
 pub fn put_column(columns: &mut [i64], i: usize, v: Interval)
     requires { ⌜ (i < deckColumns) × (length (now columns) ≡ columnCells) ⌝ }
-    ensures { λ _. ⌜ now (columns .exit) ≡ written (now (columns .entry)) (i * columnWidth) (cell v) ⌝ }
+    ensures { λ _. ⌜ now (columns .exit) ≡ overwritten (now (columns .entry)) (i * columnWidth) (cell v) ⌝ }
 {
     let numbers = [v.lower, v.upper, v.goal];
     copy(columns, i * Sizes::WIDTH, &numbers);

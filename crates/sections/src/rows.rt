@@ -21,7 +21,7 @@ ghost use mathlib.Core.List.{[]};
 ghost use Prim.Native.Nat.{_+_, _*_, _<_, _≤_};
 ghost use lib.IntN.{natAbs};
 ghost use lib.ListN.{length};
-ghost use Rattle.text.specs.Written.{written};
+ghost use Rattle.text.specs.Overwriting.{overwritten};
 ghost use Rattle.problem.specs.Limits.{maxRight};
 ghost use Rattle.problem.specs.Kinds.{slackOf, slackCount};
 ghost use Rattle.sections.specs.Sections.{deckColumns, deckRows, coefficientCount, rowOf, kindOf, withRoom, kindNumber, leastNumber};
@@ -273,7 +273,7 @@ fn put_slack(kind: Kind, column: usize, line: &mut [i64], columns: &mut [i64])
     requires { ⌜ column + slackCount kind ≤ deckColumns ⌝ }
     requires { ⌜ (length (now line) ≡ deckColumns) × (length (now columns) ≡ columnCells) ⌝ }
     ensures { λ _. ⌜ now (line .exit) ≡ withSlack (slackOf kind) column (now (line .entry)) ⌝ }
-    ensures { λ _. ⌜ now (columns .exit) ≡ written (now (columns .entry)) (column * columnWidth) (cells (slackColumn (slackOf kind))) ⌝ }
+    ensures { λ _. ⌜ now (columns .exit) ≡ overwritten (now (columns .entry)) (column * columnWidth) (cells (slackColumn (slackOf kind))) ⌝ }
 {
     let y = slack_of(kind);
     match y {

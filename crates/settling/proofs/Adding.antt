@@ -22,7 +22,7 @@ use Rattle.whole.proofs.Integers.{add-none}
 use Rattle.lattice.specs.Rows.{plus, lead}
 use Rattle.lattice.proofs.RowLaws.{length-plus, entry-plus}
 use Rattle.lattice.specs.Hermite.{Rising}
-use Rattle.lattice.proofs.Writing.{Written, starts, goes-on, passes, ends}
+use Rattle.lattice.proofs.Writing.{WrittenTo, starts, goes-on, passes, ends}
 use Rattle.problem.specs.Limits.{M, beyond, anyBeyond}
 use Rattle.settling.specs.declared.Basis.{Basis}
 use Rattle.settling.specs.Moves.{vector}
@@ -108,7 +108,7 @@ all-within (x ∷ r) a =
 
 -- ---- the loop
 pub record Adds (q : ℤ) (r v w : List ℤ) (j : ℕ) : Type 0 where
-  pub written : Written v (plus q r v) w j
+  pub written : WrittenTo v (plus q r v) w j
   pub small : (x : ℕ) → x < j → natAbs (entry x (plus q r v)) ≤ M
 
 module _ (q : ℤ) (r v : List ℤ) (a : Addable v r) where

@@ -22,7 +22,7 @@ use Rattle.settling.specs.Columns.{Column, valued}
 use Rattle.settling.specs.Measures.{fraction, below, distance, ratio, measure}
 use Rattle.settling.specs.Steps.{isAllowed}
 use Rattle.settling.specs.Ready.{FitColumn}
-use Rattle.settling.specs.Sizes.{Room, Sized, reach}
+use Rattle.settling.specs.Sizes.{Crossable, FitCell, reach}
 
 -- ---- distances
 pub distance-under : (c : Cell) → ltZ (c .value) (c .lower) ≡ true → distance c ≡ natAbs (c .lower -ℤ c .value)
@@ -82,19 +82,19 @@ pub inside-above : (c : Cell) → leZ (pos 1) (c .lower) ≡ true → distance c
 inside-above c a d = above-under (c .lower) (c .upper) (c .value) a d
 
 -- ---- measures
-ratio-room : (low high v : ℕ) → low ≤ maxGoal → high ≤ maxGoal → v ≤ maxBound → Room (ratio low high v)
+ratio-room : (low high v : ℕ) → low ≤ maxGoal → high ≤ maxGoal → v ≤ maxBound → Crossable (ratio low high v)
 ratio-room low high v a b d = go (below (fraction (1000 * v) low) (fraction high (1000 * v)))
   where
-    go : (t : Bool) → Room (cond t (fraction high (1000 * v)) (fraction (1000 * v) low))
+    go : (t : Bool) → Crossable (cond t (fraction high (1000 * v)) (fraction (1000 * v) low))
     go true = record { top = omega arith; bottom = omega arith }
     go false = record { top = omega arith; bottom = omega arith }
 
-pub measure-room : (p : Part) (c : Cell) → Sized p c → Room (measure p c)
+pub measure-room : (p : Part) (c : Cell) → FitCell p c → Crossable (measure p c)
 unfolding measure
 measure-room Bounds c s = record { top = omega (arith, distance-small c, s .lower, s .upper, s .value); bottom = omega arith }
 measure-room Goals c s = ratio-room (natAbs (c .low)) (natAbs (c .high)) (natAbs (c .value)) (s .low) (s .high) (s .value)
 
-pub allowed-sized : (p : Part) (c : Cell) → Sized Bounds c → isAllowed p c ≡ true → Sized p c
+pub allowed-sized : (p : Part) (c : Cell) → FitCell Bounds c → isAllowed p c ≡ true → FitCell p c
 allowed-sized Bounds c s e = s
 allowed-sized Goals c s e =
     record {
@@ -106,9 +106,9 @@ allowed-sized Goals c s e =
     }
 
 -- and any measured value is near
-pub sized-near : (p : Part) (c : Cell) → Sized p c → Sized Bounds c
+pub sized-near : (p : Part) (c : Cell) → FitCell p c → FitCell Bounds c
 sized-near Bounds c s = s
 sized-near Goals c s = record { lower = s .lower; upper = s .upper; low = s .low; high = s .high; value = omega (arith, s .value) }
 
-pub fit-sized : (p : Part) (c : Column) (x : ℤ) → FitColumn c → natAbs x ≤ reach p → Sized p (valued c x)
+pub fit-sized : (p : Part) (c : Column) (x : ℤ) → FitColumn c → natAbs x ≤ reach p → FitCell p (valued c x)
 fit-sized p c x f h = record { lower = f .lower; upper = f .upper; low = f .low; high = f .high; value = h }

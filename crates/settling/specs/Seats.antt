@@ -1,7 +1,7 @@
 -- Seating, a vector at a time.
 --   within v                v as a seated list; or `far`, where a value of it lies beyond ±M
 --   Placeable, Addable      lists of fitting length, with numbers small enough for a gap and for an addition
---   Led r                   the row has a lead above 0, and so a column for it
+--   PositiveLead r                   the row has a lead above 0, and so a column for it
 --   Seatable B v ..         what seating needs: lists that are ready, and a basis of such rows, whose leads rise
 -- Assumes nothing.
 use mathlib.Core.Path.{_≡_}
@@ -35,11 +35,11 @@ pub record Addable (v r : List ℤ) : Type 0 where
   pub values-small : (j : ℕ) → natAbs (entry j v) ≤ M
   pub row-small : (j : ℕ) → natAbs (entry j r) ≤ M
 
-pub record Led (r : List ℤ) : Type 0 where
+pub record PositiveLead (r : List ℤ) : Type 0 where
   pub inside : lead r < length r
   pub above : pos 0 <ℤ entry (lead r) r
 
 pub record Seatable (B : Basis) (v t l : List ℤ) : Type 0 where
   pub ready : Ready B v t l
-  pub led : (s : ℕ) → s < B .vectors → Led (vector (vectors B l) s)
+  pub led : (s : ℕ) → s < B .vectors → PositiveLead (vector (vectors B l) s)
   pub rises : Rising 0 (vectors B l)

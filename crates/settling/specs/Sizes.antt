@@ -1,7 +1,7 @@
 -- How large the numbers of settling are, so that no machine number overflows.
 --   Near x              a value after a move: two vectors may each add M to a value within ±M
---   Sized p c           the column c has bounds and goals within the limits, and a value that the measure of part p can take
---   Room q              a measure whose cross products with another one fit
+--   FitCell p c           the column c has bounds and goals within the limits, and a value that the measure of part p can take
+--   Crossable q              a measure whose cross products with another one fit
 -- Assumes nothing.
 use Prim.Native.Nat.{ℕ, _*_, _≤_}
 use lib.IntN.{ℤ, natAbs}
@@ -19,13 +19,13 @@ abbrev pub reach : Part → ℕ
 reach Bounds = 3 * M
 reach Goals = maxBound
 
-pub record Sized (p : Part) (c : Cell) : Type 0 where
+pub record FitCell (p : Part) (c : Cell) : Type 0 where
   pub lower : natAbs (c .lower) ≤ maxBound
   pub upper : natAbs (c .upper) ≤ maxBound
   pub low : natAbs (c .low) ≤ maxGoal
   pub high : natAbs (c .high) ≤ maxGoal
   pub value : natAbs (c .value) ≤ reach p
 
-pub record Room (q : Measure) : Type 0 where
+pub record Crossable (q : Measure) : Type 0 where
   pub top : q .top ≤ 8589934592
   pub bottom : q .bottom ≤ 1073741824

@@ -7,7 +7,7 @@ ghost use Rattle.settling.specs.declared.Part.the-variants.{Bounds};
 ghost use Rattle.settling.specs.Measures as Measures;
 ghost use Rattle.settling.specs.Steps.{isRanked, isAllowed, isCompared};
 ghost use Rattle.settling.specs.Steps as Steps;
-ghost use Rattle.settling.specs.Sizes.{Near, Sized, Room};
+ghost use Rattle.settling.specs.Sizes.{Near, FitCell, Crossable};
 use crate::Cell;
 use crate::Measure;
 use crate::Part;
@@ -32,7 +32,7 @@ fn gap(a: i64, b: i64) -> u64
 
 // How far a column lies outside its bounds.
 pub fn distance(c: Cell) -> u64
-    requires { ⌜ Sized Bounds c ⌝ }
+    requires { ⌜ FitCell Bounds c ⌝ }
     ensures { λ r. ⌜ r ≡ Measures.distance c ⌝ }
 {
     if less(c.value, c.lower) {
@@ -46,7 +46,7 @@ pub fn distance(c: Cell) -> u64
 
 // Whether p is the smaller measure, by cross products.
 pub fn below(p: Measure, q: Measure) -> bool
-    requires { ⌜ Room p × Room q ⌝ }
+    requires { ⌜ Crossable p × Crossable q ⌝ }
     ensures { λ r. ⌜ r ≡ Measures.below p q ⌝ }
 {
     p.top * q.bottom < q.top * p.bottom
@@ -70,7 +70,7 @@ fn ratio(low: u64, high: u64, v: u64) -> Measure
 
 // A column's distance, over 1, or its ratio.
 pub fn measure(part: Part, c: Cell) -> Measure
-    requires { ⌜ Sized part c ⌝ }
+    requires { ⌜ FitCell part c ⌝ }
     ensures { λ r. ⌜ r ≡ Measures.measure part c ⌝ }
 {
     match part {
@@ -84,7 +84,7 @@ pub fn measure(part: Part, c: Cell) -> Measure
 
 // Whether a column is tried.
 pub fn is_ranked(part: Part, c: Cell) -> bool
-    requires { ⌜ Sized Bounds c ⌝ }
+    requires { ⌜ FitCell Bounds c ⌝ }
     ensures { λ r. ⌜ r ≡ isRanked part c ⌝ }
 {
     match part {
@@ -95,7 +95,7 @@ pub fn is_ranked(part: Part, c: Cell) -> bool
 
 // Whether a move may leave the column's value.
 fn is_allowed(part: Part, c: Cell) -> bool
-    requires { ⌜ Sized Bounds c ⌝ }
+    requires { ⌜ FitCell Bounds c ⌝ }
     ensures { λ r. ⌜ r ≡ isAllowed part c ⌝ }
 {
     match part {
@@ -106,7 +106,7 @@ fn is_allowed(part: Part, c: Cell) -> bool
 
 // Whether a move has to bring the column below the old measure, if it changes it.
 fn is_compared(part: Part, c: Cell) -> bool
-    requires { ⌜ Sized Bounds c ⌝ }
+    requires { ⌜ FitCell Bounds c ⌝ }
     ensures { λ r. ⌜ r ≡ isCompared part c ⌝ }
 {
     match part {
@@ -117,7 +117,7 @@ fn is_compared(part: Part, c: Cell) -> bool
 
 // Whether a column passes under a move that adds `change` to it, after which it is c, where it has to come below q.
 pub fn passes(part: Part, c: Cell, change: i64, q: Measure) -> bool
-    requires { ⌜ Sized Bounds c × Room q ⌝ }
+    requires { ⌜ FitCell Bounds c × Crossable q ⌝ }
     ensures { λ r. ⌜ r ≡ Steps.passes part c change q ⌝ }
 {
     if !is_allowed(part, c) {

@@ -10,7 +10,7 @@ ghost use Rattle.problem.specs.Limits.{M, maxBound};
 ghost use Rattle.settling.specs.Columns.{columnsIn};
 ghost use Rattle.settling.specs.Seating.{gapAt, seatOne, seated, far, seatDone, leaves};
 ghost use Rattle.settling.specs.Seating as Seating;
-ghost use Rattle.settling.specs.Seats.{within, Addable, Placeable, Led, Seatable};
+ghost use Rattle.settling.specs.Seats.{within, Addable, Placeable, PositiveLead, Seatable};
 ghost use Rattle.settling.specs.Views.{vectors};
 use crate::Basis;
 use crate::columns::cell_at;
@@ -67,7 +67,7 @@ fn gap_at(values: &[i64], columns: &[i64], c: usize) -> i64
 
 // Adds a row so often that its lead column c comes nearest to its ideal; false if a value comes to lie beyond ±M.
 fn seat_one(values: &mut [i64], columns: &[i64], row: &[i64], c: usize) -> bool
-    requires { ⌜ Placeable (now values) (now columns) × Addable (now values) (now row) × Led (now row) × (c ≡ lead (now row)) ⌝ }
+    requires { ⌜ Placeable (now values) (now columns) × Addable (now values) (now row) × PositiveLead (now row) × (c ≡ lead (now row)) ⌝ }
     ensures { λ r. ⌜ cond r (seated (now (values .exit))) far
         ≡ within (seatOne (columnsIn (length (now (values .entry))) (now (columns .entry))) (now (row .entry)) (now (values .entry))) ⌝ }
 {

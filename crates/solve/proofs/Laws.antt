@@ -2,7 +2,7 @@
 --   clear n          n numbers that are 0, and clearStrides for strides; shut, since a long list of them is written out wherever it is open
 --   few-cells, few-tableau   a problem within the limits has its coefficients and its tableau within the largest buffers
 --   put-back, part-back      a part that was lent is again the part of its buffer
---   listed-into      the parts of clear buffers are blank, and an assignment's lists are of one length, so that its listing is put into the buffer
+--   listed-into      the parts of clear buffers are zeroBuffers, and an assignment's lists are of one length, so that its listing is put into the buffer
 --   refused-headline         a refusal lists no column
 --   largest, largest-fit     the buffers that the reader is lent, which have the lengths that it asks for
 --   refused-into     a text that is turned back
@@ -35,9 +35,9 @@ use Rattle.deck.specs.Reader.{DeckBuffers, ReadDone, deckBuffers, readDone, len
 use Rattle.deck.specs.declared.Reading.{Reading}
 use Rattle.deck.specs.declared.Reading.the-variants.{Read, Refused as TurnedBack}
 use Rattle.sections.proofs.Storage.{length-rows}
-use Rattle.engine.specs.Assign.{Buffers, Done, buffers, done, n, m, assign, posed as call}
+use Rattle.engine.specs.Assign.{Buffers, Done, buffers, done, n, m, assign, posedBy}
 use Rattle.report.specs.Listing.{listing, linesOf, placedIn, writeListing}
-use Rattle.solve.specs.Program.{programLimit, blank, listed, printed, printInto, listInto}
+use Rattle.solve.specs.Program.{programLimit, zeroBuffers, listed, printed, printInto, listInto}
 
 abbrev tableauSize : ℕ
 tableauSize = deckColumns * (deckRows + deckColumns)
@@ -90,7 +90,7 @@ write-even o a v d h = rw (eq-eqb (linesOf a (length d)) (linesOf a (length v)) 
 abbrev pub cleared : Posed → Buffers
 cleared P = buffers (take (n P * (m P + n P)) (clear tableauSize)) (take (n P) (clear deckColumns)) (take (n P) (clearStrides deckColumns))
 
-cleared-blank : (P : Posed) → n P ≤ deckColumns → m P ≤ deckRows → cleared P ≡ blank P
+cleared-blank : (P : Posed) → n P ≤ deckColumns → m P ≤ deckRows → cleared P ≡ zeroBuffers P
 cleared-blank P h k =
     let pt = take-clear (n P * (m P + n P)) tableauSize _ refl (few-tableau (n P) (m P) h k) in
     let pv = take-clear (n P) deckColumns _ refl h in
@@ -186,7 +186,7 @@ taken s B n m c b l u g f e = by (readDeck s) refl
 
 abbrev pub problemPart : ℕ → ℕ → List ℤ → List ℤ → List ℤ → List ℤ → List ℤ → Posed
 problemPart n m c b l u g =
-    call (record { columns = n; rows = m; limit = programLimit }) (take (m * n) c) (take m b) (take n l) (take n u) (take n g)
+    posedBy (record { columns = n; rows = m; limit = programLimit }) (take (m * n) c) (take m b) (take n l) (take n u) (take n g)
 
 module _ {s : List ℕ} {n m : ℕ} {c b l u g : List ℤ} (T : Taken s n m c b l u g) where
   pub few-columns : length l ≡ deckColumns → n ≤ deckColumns
@@ -206,7 +206,7 @@ module _ {s : List ℕ} {n m : ℕ} {c b l u g : List ℤ} (T : Taken s n m c b 
       let pl = part-is deckColumns n _ l (T .lower) (T .columns ∙ sym (length-map (columnsOf (T .deck)) lowerOf)) in
       let pu = part-is deckColumns n _ u (T .upper) (T .columns ∙ sym (length-map (columnsOf (T .deck)) upperOf)) in
       let pg = part-is deckColumns n _ g (T .goals) (T .columns ∙ sym (length-map (columnsOf (T .deck)) goalOf)) in
-      λ i. call (record { columns = T .columns i; rows = T .rows i; limit = programLimit }) (pc i) (pb i) (pl i) (pu i) (pg i)
+      λ i. posedBy (record { columns = T .columns i; rows = T .rows i; limit = programLimit }) (pc i) (pb i) (pl i) (pu i) (pg i)
 
   pub accepted-into : (o : List ℕ) → listInto o (problemPart n m c b l u g) ≡ printInto o s
   unfolding listInto printInto printed

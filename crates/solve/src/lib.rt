@@ -12,7 +12,7 @@ ghost use mathlib.Core.Path.{_≡_};
 ghost use mathlib.Core.List.{[]};
 ghost use Prim.Native.Nat.{_≤_};
 ghost use Rattle.sections.specs.Sections.{deckColumns, deckRows};
-ghost use Rattle.engine.specs.Assign.{posed};
+ghost use Rattle.engine.specs.Assign.{posedBy};
 ghost use Rattle.problem.specs.declared.Answer.the-variants.{Refused};
 ghost use Rattle.report.specs.Listing.{listing, listingDone, placedIn};
 ghost use Rattle.solve.specs.Program.{printInto, listInto};
@@ -35,7 +35,7 @@ fn list_assigned(
 ) -> Written
     requires { ⌜ (p .columns ≤ deckColumns) × (p .rows ≤ deckRows) ⌝ }
     ensures { λ r. ⌜ listingDone r (now (out .exit)) ≡ listInto (now (out .entry))
-        (posed p (now (coefficients .entry)) (now (rights .entry)) (now (lower .entry)) (now (upper .entry)) (now (goals .entry))) ⌝ }
+        (posedBy p (now (coefficients .entry)) (now (rights .entry)) (now (lower .entry)) (now (upper .entry)) (now (goals .entry))) ⌝ }
 {
     let mut tableau = [0i64; TABLEAU];
     let mut values = [0i64; Sizes::COLUMNS];

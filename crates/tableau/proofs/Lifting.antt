@@ -23,7 +23,7 @@ use Rattle.whole.specs.Lists.{entry}
 use Rattle.whole.proofs.Signed.{lt-zero}
 use Rattle.lattice.specs.Rows.{neg, ZeroTo}
 use Rattle.lattice.proofs.Writing as Writing
-use Rattle.lattice.proofs.Writing.{Written}
+use Rattle.lattice.proofs.Writing.{WrittenTo}
 use Rattle.tableau.specs.Elimination.{signed}
 use Rattle.tableau.specs.Tails.{lowerFirst, brought, Lifted}
 
@@ -97,8 +97,8 @@ module _ (w j : ℕ) (t₀ : List ℤ) where
     pub top : List ℤ
     pub low : List ℤ
     pub is : t ≡ top ++ (middle ++ (low ++ behind))
-    pub up : Written first other top i
-    pub down : Written other first low i
+    pub up : WrittenTo first other top i
+    pub down : WrittenTo other first low i
 
 pub record Apart (w j : ℕ) (t : List ℤ) : Type 0 where
   pub room : j * w + w ≤ length t

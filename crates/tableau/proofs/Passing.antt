@@ -32,7 +32,7 @@ use Rattle.tableau.specs.Within.{Within}
 use Rattle.tableau.proofs.Within.{neither, within-append, within-take, within-drop}
 use Rattle.tableau.specs.RowSteps.{StopsRun, eachOf, Pivot}
 use Rattle.tableau.specs.Tails.{Tail, Picked, gatheringOf}
-use Rattle.tableau.specs.ColumnPass.{Standing, aboveOf, belowOf, passedOf, tableOf}
+use Rattle.tableau.specs.ColumnPass.{Standing, aboveOf, belowOf, passedOf, rejoined}
 use Rattle.tableau.specs.declared.rows.Way.the-variants.{Above}
 use Rattle.tableau.proofs.Walking.{stepping, each-wide, each-count}
 use Rattle.tableau.proofs.Staying.{flat-all, all-flat, each-all, gather-all, gather-count}
@@ -139,7 +139,7 @@ module _ {n w c k j : ℕ} {t : List ℤ} (h : Standing n w c k t) (l : c < w) (
   pub passed-over : G .over ≡ true → passedOf n w c k t .over ≡ true
   passed-over e = ap (λ (x : Passed). x .over) passed-is ∙ ap (λ (b : Bool). b || A .over) e
 
-  table-is : flat (tableOf (passedOf n w c k t) .table) ≡ flat (A .table) ++ flat (G .pivot ∷ G .below)
+  table-is : flat (rejoined (passedOf n w c k t) .table) ≡ flat (A .table) ++ flat (G .pivot ∷ G .below)
   table-is =
       ap (λ (x : Passed). flat (x .above ++ x .below)) passed-is
       ∙ ap flat (append-assoc (A .table) (G .pivot ∷ []) (G .below))
@@ -153,7 +153,7 @@ module _ {n w c k j : ℕ} {t : List ℤ} (h : Standing n w c k t) (l : c < w) (
       (ap (λ (m : ℕ). chop k m (take (k * w) t)) (rows-of .wide .0) ∙ chop-take k w (k * w) t (le-refl (k * w)))
 
   pub passed-stops : {p v u : List ℤ} {r : Bool} → G .over ≡ false → p ≡ G .pivot → u ≡ flat (G .pivot ∷ G .below)
-      → StopsRun (eachOf Above c p k (take (k * w) t)) r v → StopsRun (tableOf (passedOf n w c k t)) r (v ++ u)
+      → StopsRun (eachOf Above c p k (take (k * w) t)) r v → StopsRun (rejoined (passedOf n w c k t)) r (v ++ u)
   passed-stops o e f s = record {
     answer =
         s .answer
@@ -163,7 +163,7 @@ module _ {n w c k j : ℕ} {t : List ℤ} (h : Standing n w c k t) (l : c < w) (
   }
 
   -- ---- the table then
-  module _ {u : List ℤ} (o : passedOf n w c k t .over ≡ false) (s : u ≡ flat (tableOf (passedOf n w c k t) .table)) (m : length u ≡ length t) where
+  module _ {u : List ℤ} (o : passedOf n w c k t .over ≡ false) (s : u ≡ flat (rejoined (passedOf n w c k t) .table)) (m : length u ≡ length t) where
     both : (G .over ≡ false) × (A .over ≡ false)
     both = neither (G .over) (A .over) (sym (ap (λ (x : Passed). x .over) passed-is) ∙ o)
 

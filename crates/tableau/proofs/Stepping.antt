@@ -29,7 +29,7 @@ use Rattle.problem.specs.Limits.{anyBeyond}
 use Rattle.tableau.specs.Within.{Within}
 use Rattle.tableau.specs.Elimination.{Left, subtract, kept, lowered, reduced}
 use Rattle.tableau.proofs.Within.{within-take, beyond-append}
-use Rattle.tableau.specs.RowSteps.{Stops, quotientOf, stepOf, Pivot, leftAfter}
+use Rattle.tableau.specs.RowSteps.{Stops, quotientOf, rowStep, Pivot, leftAfter}
 use Rattle.tableau.specs.declared.rows.Way.{Way}
 use Rattle.tableau.specs.declared.rows.Way.the-variants.{Below, Above}
 
@@ -87,20 +87,20 @@ zero-of (negsuc n) e = absurd (omega arith)
 zero-quotient : {p : ℤ} → Positive p → floorQuotient (pos 0) p ≡ pos 0
 zero-quotient (positive k) = ap pos (zero-div (suc k))
 
-pub step-none : (way : Way) (c : ℕ) (r s : List ℤ) → Positive (entry c r) → Within s → natAbs (entry c s) ≡ 0 → stepOf way c r s ≡ kept s
+pub step-none : (way : Way) (c : ℕ) (r s : List ℤ) → Positive (entry c r) → Within s → natAbs (entry c s) ≡ 0 → rowStep way c r s ≡ kept s
 unfolding lowered reduced
 step-none Below c r s p h e = rw (eq-eqb (natAbs (entry c s)) 0 e)
 step-none Above c r s p h e =
     ap (λ (q : ℤ). subtract q r s) (ap (λ (x : ℤ). floorQuotient x (entry c r)) (zero-of (entry c s) e) ∙ zero-quotient p) ∙ nothing r s h
 
 -- a row with another number there
-step-is : (way : Way) (c : ℕ) (r s : List ℤ) → (natAbs (entry c s) ≡ 0 → ⊥) → stepOf way c r s ≡ subtract (quotientOf way (entry c s) (entry c r)) r s
+step-is : (way : Way) (c : ℕ) (r s : List ℤ) → (natAbs (entry c s) ≡ 0 → ⊥) → rowStep way c r s ≡ subtract (quotientOf way (entry c s) (entry c r)) r s
 unfolding lowered reduced
 step-is Below c r s e = rw (ne-eqb (natAbs (entry c s)) 0 e)
 step-is Above c r s e = refl
 
 pub step-idle : (way : Way) (c : ℕ) (r s : List ℤ) → (natAbs (entry c s) ≡ 0 → ⊥) → Within s → natAbs (quotientOf way (entry c s) (entry c r)) ≡ 0
-    → stepOf way c r s ≡ kept s
+    → rowStep way c r s ≡ kept s
 step-idle way c r s e h q = step-is way c r s e ∙ ap (λ (x : ℤ). subtract x r s) (zero-of (quotientOf way (entry c s) (entry c r)) q) ∙ nothing r s h
 
 -- ---- the numbers from c on
@@ -119,10 +119,10 @@ front (suc c) q (y ∷ r) (x ∷ s) z = ap₂ _∷_ (add-none q x y (z .0)) (fro
 pub step-parts : (way : Way) (c : ℕ) (r s u : List ℤ) (b : Bool) (q : ℤ) → ZeroTo c r → Within s → (natAbs (entry c s) ≡ 0 → ⊥)
     → q ≡ quotientOf way (entry c s) (entry c r)
     → Stops (anyBeyond (plus (negℤ q) (drop c r) (drop c s))) (plus (negℤ q) (drop c r) (drop c s)) b u
-    → Stops (stepOf way c r s .over) (stepOf way c r s .row) b (take c s ++ u)
+    → Stops (rowStep way c r s .over) (rowStep way c r s .row) b (take c s ++ u)
 step-parts way c r s u b q z h e k o =
     let f : plus (negℤ q) r s ≡ take c s ++ plus (negℤ q) (drop c r) (drop c s) = front c (negℤ q) r s z in
-    let d : stepOf way c r s ≡ subtract q r s = step-is way c r s e ∙ ap (λ (x : ℤ). subtract x r s) (sym k) in
+    let d : rowStep way c r s ≡ subtract q r s = step-is way c r s e ∙ ap (λ (x : ℤ). subtract x r s) (sym k) in
     record {
       answer =
           o .answer

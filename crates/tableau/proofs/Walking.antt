@@ -25,7 +25,7 @@ use Rattle.lattice.proofs.FlatLaws.{chop-next, put-take, put-drop}
 use Rattle.tableau.specs.Elimination.{Left, kept, subtract, lowered, reduced, Run, each}
 use Rattle.tableau.specs.Within.{Within}
 use Rattle.tableau.proofs.Within.{within-append, within-take, within-drop}
-use Rattle.tableau.specs.RowSteps.{StopsRun, stepOf}
+use Rattle.tableau.specs.RowSteps.{StopsRun, rowStep}
 use Rattle.tableau.specs.declared.rows.Way.{Way}
 use Rattle.tableau.specs.declared.rows.Way.the-variants.{Below, Above}
 
@@ -151,6 +151,6 @@ pub reduced-step : (c : ℕ) (r : List ℤ) → Step (reduced c r)
 unfolding reduced
 reduced-step c r = record { wide = λ s. length-plus _ r s; holds = λ s h e. e }
 
-pub stepping : (way : Way) (c : ℕ) (r : List ℤ) → Step (stepOf way c r)
+pub stepping : (way : Way) (c : ℕ) (r : List ℤ) → Step (rowStep way c r)
 stepping Below c r = lowered-step c r
 stepping Above c r = reduced-step c r

@@ -2,7 +2,7 @@
 --   Standing n w c k t    t is a table of n rows of w numbers within ±M, of which k are done, and the others are 0 before column c
 --   aboveOf, belowOf      the rows that are done, and the others
 --   passedOf n w c k t    column c of such a table
---   tableOf x             the rows above row k and those from it on, as one table
+--   rejoined x             the rows above row k and those from it on, as one table
 -- Assumes nothing.
 use mathlib.Core.Path.{_≡_}
 use mathlib.Core.List.{List, _++_}
@@ -29,5 +29,5 @@ pub record Standing (n w c k : ℕ) (t : List ℤ) : Type 0 where
 abbrev pub passedOf : ℕ → ℕ → ℕ → ℕ → List ℤ → Passed
 passedOf n w c k t = passColumn c (aboveOf w k t) (belowOf n w k t) (choose c (belowOf n w k t))
 
-abbrev pub tableOf : Passed → Run
-tableOf x = record { table = x .above ++ x .below; over = x .over }
+abbrev pub rejoined : Passed → Run
+rejoined x = record { table = x .above ++ x .below; over = x .over }

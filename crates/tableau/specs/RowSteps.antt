@@ -3,7 +3,7 @@
 --                      there is none, the list l
 --   StopsRow, StopsRun   that of a row after a subtraction, and of a table after steps
 --   quotientOf way     the quotient by which a pivot is taken from the rows below it, or from those above
---   stepOf way c r     a row's step by the row r at column c: gathering's in the lower rows, or that in the rows above
+--   rowStep way c r     a row's step by the row r at column c: gathering's in the lower rows, or that in the rows above
 --   eachOf way c r k   that of each of k rows in one list
 --   Pivot w c r        r has w numbers within ±M, 0 before column c and above 0 there
 --   Leads r            r's first number other than 0 is above 0: it has one
@@ -40,12 +40,12 @@ abbrev pub quotientOf : Way → ℤ → ℤ → ℤ
 quotientOf Below e p = gatheringQuotient e p
 quotientOf Above e p = floorQuotient e p
 
-abbrev pub stepOf : Way → ℕ → List ℤ → List ℤ → Left
-stepOf Below c r s = lowered c r s
-stepOf Above c r s = reduced c r s
+abbrev pub rowStep : Way → ℕ → List ℤ → List ℤ → Left
+rowStep Below c r s = lowered c r s
+rowStep Above c r s = reduced c r s
 
 abbrev pub eachOf : Way → ℕ → List ℤ → ℕ → List ℤ → Run
-eachOf way c r k t = each (stepOf way c r) (chop k (length r) t)
+eachOf way c r k t = each (rowStep way c r) (chop k (length r) t)
 
 pub record Pivot (w c : ℕ) (r : List ℤ) : Type 0 where
   pub wide : length r ≡ w

@@ -3,7 +3,7 @@ ghost use Prim.Native.Nat.{_*_, _-_, _<_};
 ghost use lib.ListN.{length, drop};
 ghost use Rattle.tableau.specs.LentTable.{eliminatedOf};
 ghost use Rattle.tableau.specs.Choices.{nonzeros};
-ghost use Rattle.tableau.specs.ColumnPass.{Standing, belowOf, passedOf, tableOf};
+ghost use Rattle.tableau.specs.ColumnPass.{Standing, belowOf, passedOf, rejoined};
 ghost use Rattle.tableau.specs.RowSteps.{StopsRun};
 ghost use Rattle.tableau.specs.Tails.{Picked};
 ghost use Rattle.tableau.specs.Within.{Within};
@@ -19,7 +19,7 @@ fn pass(t: &mut [i64], rows: usize, pivot: &mut [i64], c: usize, k: usize, z: Ch
     requires { ⌜ c < length (now pivot) ⌝ }
     requires { ⌜ Picked (rows - k) (length (now pivot)) c (drop (k * length (now pivot)) (now t)) (z .row) ⌝ }
     requires { ⌜ z .count ≡ nonzeros c (belowOf rows (length (now pivot)) k (now t)) ⌝ }
-    ensures { λ r. ⌜ StopsRun (tableOf (passedOf rows (length (now (pivot .entry))) c k (now (t .entry)))) r (now (t .exit)) ⌝ }
+    ensures { λ r. ⌜ StopsRun (rejoined (passedOf rows (length (now (pivot .entry))) c k (now (t .entry)))) r (now (t .exit)) ⌝ }
 {
     let at = k * pivot.len();
     if gather(&mut t[at..], rows - k, pivot, c, z) {

@@ -9,7 +9,7 @@ ghost use Rattle.lattice.specs.Rows.{plus, neg};
 ghost use Rattle.problem.specs.Limits.{M, beyond, anyBeyond};
 ghost use Rattle.tableau.specs.Within.{Within};
 ghost use Rattle.tableau.specs.Elimination as Elimination;
-ghost use Rattle.tableau.specs.RowSteps.{StopsRow, quotientOf, stepOf, Pivot};
+ghost use Rattle.tableau.specs.RowSteps.{StopsRow, quotientOf, rowStep, Pivot};
 use problem::Problem;
 use whole::less_product;
 use whole::magnitude;
@@ -93,7 +93,7 @@ fn quotient(e: i64, p: i64, way: Way) -> i64
 pub(crate) fn step(row: &mut [i64], pivot: &[i64], c: usize, way: Way) -> bool
     requires { ⌜ Pivot (length (now row)) c (now pivot) ⌝ }
     requires { ⌜ Within (now row) ⌝ }
-    ensures { λ r. ⌜ StopsRow (stepOf way c (now (pivot .entry)) (now (row .entry))) r (now (row .exit)) ⌝ }
+    ensures { λ r. ⌜ StopsRow (rowStep way c (now (pivot .entry)) (now (row .entry))) r (now (row .exit)) ⌝ }
 {
     let e = row[c];
     if magnitude(e) == 0 {

@@ -1,4 +1,4 @@
--- Laws of `written`: lists written one after the other, for any element. Assumes nothing.
+-- Laws of `written`: lists overwritten one after the other, for any element. Assumes nothing.
 use mathlib.Core.Path.{_≡_, sym, ap, _∙_}
 use mathlib.Core.List.{List, [], _∷_, _++_, append-nil, append-assoc}
 use Prim.Native.Nat.{ℕ, _+_, _-_, _≤_, _<_}
@@ -6,35 +6,35 @@ use native.Mathlib.Numerals.{add-one}
 use native.Mathlib.Omega.{arith}
 use lib.ListN.{replicate, length-replicate, replicate-append-replicate, length, take, drop, set, getD, length-append, length-drop, take-append-drop}
 use lib.Seq.{set-split, take-at, drop-at, drop-drop, drop-length, length-take-le, take-length, paste, paste-zero, paste-suc}
-use Rattle.text.specs.Written.{written, Wrote}
+use Rattle.text.specs.Overwriting.{overwritten, Wrote}
 
 module _ {A : Type 0} where
-  pub length-written : (o : List A) (at : ℕ) (w : List A) → at + length w ≤ length o → length (written o at w) ≡ length o
+  pub length-written : (o : List A) (at : ℕ) (w : List A) → at + length w ≤ length o → length (overwritten o at w) ≡ length o
   length-written o at w h = simp (length-append, length-take-le at o (omega arith), length-drop) (omega arith)
 
-  pub written-none : (o : List A) (at : ℕ) → o ≡ written o at []
+  pub written-none : (o : List A) (at : ℕ) → o ≡ overwritten o at []
   written-none o at = let z : at + 0 ≡ at = omega arith in rw z (sym (take-append-drop at o))
 
   -- a list that fills the buffer
-  pub written-all : (o w : List A) → length w ≡ length o → written o 0 w ≡ w
+  pub written-all : (o w : List A) → length w ≡ length o → overwritten o 0 w ≡ w
   written-all o w h = let z : 0 + length w ≡ length o = omega arith in rw (z, drop-length o) (append-nil w)
 
   -- one element
-  pub written-one : (o : List A) (at : ℕ) (x : A) → at < length o → set o at x ≡ written o at (x ∷ [])
+  pub written-one : (o : List A) (at : ℕ) (x : A) → at < length o → set o at x ≡ overwritten o at (x ∷ [])
   written-one o at x h = set-split o at x h ∙ ap (λ (k : ℕ). take at o ++ (x ∷ drop k o)) (sym (add-one at))
 
   -- two lists, one after the other
   pub written-then : (o : List A) (at : ℕ) (v w : List A) → at + length v + length w ≤ length o
-      → written (written o at v) (at + length v) w ≡ written o at (v ++ w)
+      → overwritten (overwritten o at v) (at + length v) w ≡ overwritten o at (v ++ w)
   written-then o at v w h =
       let l : length (take at o) ≡ at = length-take-le at o (omega arith) in
       let s : length (take at o ++ v) ≡ at + length v = length-append (take at o) v ∙ ap (λ (k : ℕ). k + length v) l in
-      let a : written o at v ≡ (take at o ++ v) ++ drop (at + length v) o = sym (append-assoc (take at o) v (drop (at + length v) o)) in
-      let t : take (at + length v) (written o at v) ≡ take at o ++ v =
+      let a : overwritten o at v ≡ (take at o ++ v) ++ drop (at + length v) o = sym (append-assoc (take at o) v (drop (at + length v) o)) in
+      let t : take (at + length v) (overwritten o at v) ≡ take at o ++ v =
       ap (take (at + length v)) a ∙ take-at (take at o ++ v) (drop (at + length v) o) (at + length v) s in
       let e : at + length v + length w ≡ at + length (v ++ w) = rw (length-append v w) (omega arith) in
-      let d : drop (at + length v + length w) (written o at v) ≡ drop (at + length (v ++ w)) o =
-      sym (drop-drop (length w) (at + length v) (written o at v)) ∙
+      let d : drop (at + length v + length w) (overwritten o at v) ≡ drop (at + length (v ++ w)) o =
+      sym (drop-drop (length w) (at + length v) (overwritten o at v)) ∙
       ap (drop (length w)) (ap (drop (at + length v)) a ∙ drop-at (take at o ++ v) (drop (at + length v) o) (at + length v) s) ∙
       drop-drop (length w) (at + length v) o ∙ ap (λ (k : ℕ). drop k o) e in
       rw (t, d) (simp append-assoc)
@@ -48,26 +48,26 @@ module _ {A : Type 0} where
   copied-more o p at i w z h k e =
       ap (λ (u : List A). set u (at + i) (getD w i z)) e ∙ paste-suc o at w i z (omega arith) k ∙ (rw add-one)
 
-  pub copied-all : (o p : List A) (at i : ℕ) (w : List A) → i ≡ length w → p ≡ paste o at w i → p ≡ written o at w
+  pub copied-all : (o p : List A) (at i : ℕ) (w : List A) → i ≡ length w → p ≡ paste o at w i → p ≡ overwritten o at w
   copied-all o p at i w h e = (rw h at e) ∙ (rw (take-length w) (append-assoc (take at o) w (drop (at + length w) o)))
 
--- ---- a loop that fills a buffer from one place on: after some turns it is written up to i
-pub fill-none : {A : Type 0} (o : List A) (from : ℕ) (x : A) → o ≡ written o from (replicate (from - from) x)
+-- ---- a loop that fills a buffer from one place on: after some turns it is overwritten up to i
+pub fill-none : {A : Type 0} (o : List A) (from : ℕ) (x : A) → o ≡ overwritten o from (replicate (from - from) x)
 fill-none o from x = let z : from - from ≡ 0 = omega arith in rw z (written-none o from)
 
-pub fill-more : {A : Type 0} (o p : List A) (from i : ℕ) (x : A) → from ≤ i → i < length o → p ≡ written o from (replicate (i - from) x)
-    → set p i x ≡ written o from (replicate (i + 1 - from) x)
+pub fill-more : {A : Type 0} (o p : List A) (from i : ℕ) (x : A) → from ≤ i → i < length o → p ≡ overwritten o from (replicate (i - from) x)
+    → set p i x ≡ overwritten o from (replicate (i + 1 - from) x)
 fill-more o p from i x h l e =
     let k = length-replicate (i - from) x in
     let a : i ≡ from + length (replicate (i - from) x) = omega arith in
-    let b : written o from (replicate (i - from) x) ≡ p = sym e in
+    let b : overwritten o from (replicate (i - from) x) ≡ p = sym e in
     let w : length p ≡ length o = ap length e ∙ length-written o from (replicate (i - from) x) (omega arith) in
     let q : i + 1 - from ≡ i - from + 1 = omega arith in
     written-one p i x (omega arith) ∙
-    (ap (λ (j : ℕ). written p j (x ∷ [])) a ∙
-    (ap (λ (u : List _). written u (from + length (replicate (i - from) x)) (x ∷ [])) e ∙
+    (ap (λ (j : ℕ). overwritten p j (x ∷ [])) a ∙
+    (ap (λ (u : List _). overwritten u (from + length (replicate (i - from) x)) (x ∷ [])) e ∙
     (written-then o from (replicate (i - from) x) (x ∷ []) (omega arith) ∙
-    ap (written o from) (replicate-append-replicate (i - from) 1 x ∙ ap (λ (j : ℕ). replicate j x) (sym q)))))
+    ap (overwritten o from) (replicate-append-replicate (i - from) 1 x ∙ ap (λ (j : ℕ). replicate j x) (sym q)))))
 
 -- ---- words, each with the place after it
 pub wrote-none : (o : List ℕ) (at : ℕ) → Wrote o at [] at o
@@ -83,7 +83,7 @@ wrote-then {o} {p} {q} {at} {r} {e} {v} {w} a b h = record {
   text = b .text ∙ (rw (a .text, a .next) (written-then o at v w h));
 }
 
--- two words in a buffer that has room for both: room for the first, then for the second, and then both are written
+-- two words in a buffer that has room for both: room for the first, then for the second, and then both are overwritten
 pub room-first : (n at : ℕ) (v w : List ℕ) → at + length (v ++ w) ≤ n → at + length v ≤ n
 room-first n at v w h = omega (arith, length-append v w)
 

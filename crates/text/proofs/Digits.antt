@@ -10,7 +10,7 @@ use lib.Dec.{T, ltb, lit<}
 use lib.IntN.{ℤ, pos, negsuc, natAbs}
 use lib.ListN.{length, set, length-append}
 use lib.Signed.{ltZ}
-use Rattle.text.specs.Written.{Wrote}
+use Rattle.text.specs.Overwriting.{Wrote}
 use Rattle.text.specs.Decimals.{decimal, natural, integer}
 use Rattle.text.proofs.Copying.{written-one, wrote-then, wrote-length}
 

@@ -2,4 +2,4 @@
 pub mod Tokens
 pub mod Positions
 pub mod Decimals
-pub mod Written
+pub mod Overwriting

@@ -2,7 +2,7 @@
 ghost use mathlib.Core.Path.{_≡_};
 ghost use Prim.Native.Nat.{_+_, _<_, _≤_};
 ghost use lib.ListN.{length};
-ghost use Rattle.text.specs.Written.{Wrote};
+ghost use Rattle.text.specs.Overwriting.{Wrote};
 ghost use Rattle.text.specs.Decimals.{natural, integer};
 
 // Writes a word.

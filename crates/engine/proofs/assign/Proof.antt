@@ -20,7 +20,7 @@ use Rattle.rightside.proofs.Answers.{solution-over, solution-none, solution-fou
 use Rattle.settling.specs.Columns.{Columns, width, listed, columnsIn, packed}
 use Rattle.settling.proofs.Fronts.{part-length, part-back, part-fits}
 use Rattle.settling.proofs.Packing.{packed-length}
-use Rattle.engine.specs.Assign.{Buffers, posed, buffers, columns, lentOf, refused, solved, assign}
+use Rattle.engine.specs.Assign.{Buffers, posedBy, buffers, columns, lentOf, refused, solved, assign}
 use Rattle.engine.specs.Finish.{finished, Finishable}
 use Rattle.engine.proofs.Readiness.{table, table-columns}
 use Rattle.engine.proofs.Forming.{solvable, Laid}
@@ -30,7 +30,7 @@ use Rattle.engine.proofs.assign.Tie as tie
 
 module _ (a : tie.Start) where
   abbrev P : Posed
-  P = posed (a .args .p) (a .args .coefficients .now) (a .args .rights .now) (a .args .lower .now) (a .args .upper .now) (a .args .goals .now)
+  P = posedBy (a .args .p) (a .args .coefficients .now) (a .args .rights .now) (a .args .lower .now) (a .args .upper .now) (a .args .goals .now)
 
   abbrev B : Buffers
   B = buffers (a .args .tableau .now) (a .args .values .now) (a .args .strides .now)

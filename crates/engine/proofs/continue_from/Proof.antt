@@ -19,7 +19,7 @@ use Rattle.tableau.proofs.Within.{within-entry}
 use Rattle.settling.specs.Columns.{Columns, width, listed, columnsIn, packed}
 use Rattle.settling.proofs.Fronts.{part-length, part-back, part-fits}
 use Rattle.settling.proofs.Packing.{packed-length}
-use Rattle.engine.specs.Assign.{Buffers, posed, buffers, columns, lentOf, refused, stands, formed}
+use Rattle.engine.specs.Assign.{Buffers, posedBy, buffers, columns, lentOf, refused, stands, formed}
 use Rattle.engine.specs.Finish.{settledOver}
 use Rattle.engine.specs.Placed.{Placed}
 use Rattle.engine.proofs.Readiness.{table, table-columns}
@@ -31,7 +31,7 @@ use Rattle.engine.proofs.continue_from.Tie as tie
 
 module _ (a : tie.Start) where
   abbrev P : Posed
-  P = posed (a .args .p) (a .args .coefficients .now) (a .args .rights .now) (a .args .lower .now) (a .args .upper .now) (a .args .goals .now)
+  P = posedBy (a .args .p) (a .args .coefficients .now) (a .args .rights .now) (a .args .lower .now) (a .args .upper .now) (a .args .goals .now)
 
   abbrev B : Buffers
   B = buffers (a .args .tableau .now) (a .args .values .now) (a .args .strides .now)

@@ -3,12 +3,12 @@ use Prim.Native.Nat.{_-_}
 use native.Mathlib.Omega.{arith}
 use lib.ListN.{length}
 use borrow.Author.Needs.{needs}
-use Rattle.lattice.proofs.Writing.{Written, starts, goes-on, ends}
+use Rattle.lattice.proofs.Writing.{WrittenTo, starts, goes-on, ends}
 use Rattle.lattice.proofs.copy.Statement.{statement}
 use Rattle.lattice.proofs.copy.Tie as tie
 
 abbrev Inv-loop : tie.InvT-loop
-Inv-loop to₀ from i₀ to i = Written to₀ from to i
+Inv-loop to₀ from i₀ to i = WrittenTo to₀ from to i
 
 abbrev μ-loop : tie.MeasureT-loop
 μ-loop to₀ from i₀ to i = length from - i

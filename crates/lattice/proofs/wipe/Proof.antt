@@ -6,12 +6,12 @@ use lib.IntN.{pos}
 use lib.ListN.{length, length-replicate, getD-replicate}
 use borrow.Author.Needs.{needs}
 use Rattle.whole.specs.Lists.{zeros}
-use Rattle.lattice.proofs.Writing.{Written, starts, goes-on, ends}
+use Rattle.lattice.proofs.Writing.{WrittenTo, starts, goes-on, ends}
 use Rattle.lattice.proofs.wipe.Statement.{statement}
 use Rattle.lattice.proofs.wipe.Tie as tie
 
 abbrev Inv-loop : tie.InvT-loop
-Inv-loop row₀ i₀ row i = Written row₀ (zeros (length row₀)) row i
+Inv-loop row₀ i₀ row i = WrittenTo row₀ (zeros (length row₀)) row i
 
 abbrev μ-loop : tie.MeasureT-loop
 μ-loop row₀ i₀ row i = length row₀ - i

@@ -1,6 +1,6 @@
 -- `link::koralimbu_continue` meets its contract: the report's length decides, and the rest is Continue. Assumes nothing.
 use Rattle.problem.specs.Checks.{Posed}
-use Rattle.engine.specs.Assign.{Buffers, posed, buffers, continue}
+use Rattle.engine.specs.Assign.{Buffers, posedBy, buffers, continue}
 use Rattle.link.specs.Calls.{problemOf}
 use Rattle.link.proofs.Telling.{is-told, is-untold}
 use borrow.Author.Needs.{needs}
@@ -9,7 +9,7 @@ use Rattle.link.proofs.koralimbu_continue.Tie as tie
 
 module _ (a : tie.Start) where
   abbrev P : Posed
-  P = posed (problemOf (a .args .n) (a .args .m) (a .args .limit)) (a .args .coefficients .now) (a .args .rights .now) (a .args .lower .now) (a .args .upper .now) (a .args .goals .now)
+  P = posedBy (problemOf (a .args .n) (a .args .m) (a .args .limit)) (a .args .coefficients .now) (a .args .rights .now) (a .args .lower .now) (a .args .upper .now) (a .args .goals .now)
 
   abbrev B : Buffers
   B = buffers (a .args .tableau .now) (a .args .values .now) (a .args .strides .now)

@@ -8,7 +8,7 @@ use lib.IntN.{ℤ, pos}
 use lib.ListN.{length, drop, getD}
 use mir.Syntax.{w64}
 use mir.Val.{toZ, ofZ}
-use Rattle.text.specs.Written.{Wrote}
+use Rattle.text.specs.Overwriting.{Wrote}
 use Rattle.report.specs.Listing.{line, linesFrom}
 use Rattle.text.proofs.Copying.{wrote-none, wrote-both, room-first, room-next}
 use Rattle.report.proofs.Laws.{lines-more, lines-end}

@@ -6,7 +6,7 @@ use native.Mathlib.Omega.{arith}
 use borrow.Author.Tests.{not-true, not-false, leb-true, leb-false}
 use borrow.Author.Needs.{needs}
 use lib.ListN.{length, take}
-use Rattle.text.specs.Written.{Wrote}
+use Rattle.text.specs.Overwriting.{Wrote}
 use Rattle.report.specs.Listing.{headline, linesFrom, linesOf, listing}
 use Rattle.text.proofs.Copying.{room-next, wrote-both}
 use Rattle.report.proofs.Laws.{length-listed, listing-lines, listing-length, write-uneven, write-short, write-done}

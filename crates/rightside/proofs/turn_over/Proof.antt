@@ -11,7 +11,7 @@ use Rattle.whole.specs.Lists.{entry}
 use Rattle.whole.proofs.Signed.{back}
 use Rattle.lattice.specs.Rows.{neg}
 use Rattle.lattice.proofs.RowLaws.{length-neg, entry-neg}
-use Rattle.lattice.proofs.Writing.{Written, starts, goes-on}
+use Rattle.lattice.proofs.Writing.{WrittenTo, starts, goes-on}
 use Rattle.tableau.proofs.Within.{within-entry}
 use Rattle.rightside.proofs.turn_over.Statement.{statement}
 use Rattle.rightside.proofs.turn_over.Tie as tie
@@ -25,7 +25,7 @@ unfolding goal
 goal-wide b v h = omega (arith, length-append (neg b) (drop (length b) v), length-neg b, length-drop (length b) v)
 
 record Inv (v₀ b v : List ℤ) (i : ℕ) : Type 0 where
-  written : Written v₀ (goal b v₀) v i
+  written : WrittenTo v₀ (goal b v₀) v i
   most : i ≤ length b
 
 abbrev Inv-loop : tie.InvT-loop

@@ -7,7 +7,7 @@ use lib.IntN.{ℤ}
 use lib.ListN.{length, drop}
 use lib.Seq.{length-take-le}
 use Rattle.problem.specs.Checks.{Posed}
-use Rattle.engine.specs.Assign.{posed}
+use Rattle.engine.specs.Assign.{posedBy}
 use Rattle.sections.specs.Sections.{deckColumns}
 use Rattle.report.specs.Listing.{writeListing}
 use Rattle.solve.proofs.Laws.{clear, clearStrides, few-tableau, put-back, part-back, listed-into}
@@ -17,7 +17,7 @@ use Rattle.solve.proofs.list_assigned.Tie as tie
 
 module _ (a : tie.Start) where
   abbrev P : Posed
-  P = posed (a .args .p) (a .args .coefficients .now) (a .args .rights .now) (a .args .lower .now) (a .args .upper .now) (a .args .goals .now)
+  P = posedBy (a .args .p) (a .args .coefficients .now) (a .args .rights .now) (a .args .lower .now) (a .args .upper .now) (a .args .goals .now)
 
 -- the call keeps the lengths of the lists
 module _ (w : tie.After-assign) where

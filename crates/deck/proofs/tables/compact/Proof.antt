@@ -6,7 +6,7 @@ use native.Mathlib.Omega.{arith}
 use lib.IntN.{ℤ}
 use lib.ListN.{length, take, drop, length-append, length-drop}
 use lib.Seq.{length-take-le}
-use Rattle.text.specs.Written.{written}
+use Rattle.text.specs.Overwriting.{overwritten}
 use Rattle.sections.specs.Sections.{deckColumns, deckRows, coefficientCount}
 use Rattle.deck.specs.ReaderTables.{compacted}
 use Rattle.text.proofs.Copying.{written-none, written-then}
@@ -20,7 +20,7 @@ record Sofar (t : List ℤ) (n m : ℕ) (o : List ℤ) (i to : ℕ) (out : List 
   done : List ℤ
   many : to ≡ length done
   short : length done ≤ i * deckColumns
-  wrote : out ≡ written o 0 done
+  wrote : out ≡ overwritten o 0 done
   rest : done ++ compacted n (m - i) i t ≡ compacted n m 0 t
 
 -- the part of the table that a turn copies
@@ -34,7 +34,7 @@ part-length t n i a b e =
 
 more : (t : List ℤ) (n m : ℕ) (o : List ℤ) → n ≤ deckColumns → m ≤ deckRows → length t ≡ coefficientCount → length o ≡ coefficientCount
     → (i to : ℕ) (out out' : List ℤ) → Sofar t n m o i to out → i < m
-    → out' ≡ written out to (take (i * deckColumns + n - i * deckColumns) (drop (i * deckColumns) t)) → length out' ≡ length out
+    → out' ≡ overwritten out to (take (i * deckColumns + n - i * deckColumns) (drop (i * deckColumns) t)) → length out' ≡ length out
     → Sofar t n m o (i + 1) (to + n) out'
 more t n m o a b e f i to out out' v h w k =
     let p : List ℤ = take n (drop (i * deckColumns) t) in

@@ -10,7 +10,7 @@ use lib.Seq.{drop-drop}
 use mir.Syntax.{w64}
 use mir.Val.{toZ, ofZ}
 use Rattle.whole.specs.Lists.{entry}
-use Rattle.text.specs.Written.{written}
+use Rattle.text.specs.Overwriting.{overwritten}
 use Rattle.sections.specs.Sections.{deckColumns}
 use Rattle.sections.specs.StatedColumns.{columnWidth}
 use Rattle.deck.specs.ReaderTables.{picked}
@@ -24,11 +24,11 @@ record Sofar (t : List ℤ) (f : ℕ) (o : List ℤ) (i : ℕ) (out : List ℤ) 
   size : length out ≡ deckColumns
   done : List ℤ
   many : length done ≡ i
-  wrote : out ≡ written o 0 done
+  wrote : out ≡ overwritten o 0 done
   rest : done ++ picked f (deckColumns - i) (drop (i * columnWidth) t) ≡ picked f deckColumns t
 
-wrote-more : (o out done : List ℤ) (i : ℕ) (x : ℤ) → out ≡ written o 0 done → length done ≡ i → i < length out → i < length o
-    → set out i x ≡ written o 0 (done ++ (x ∷ []))
+wrote-more : (o out done : List ℤ) (i : ℕ) (x : ℤ) → out ≡ overwritten o 0 done → length done ≡ i → i < length out → i < length o
+    → set out i x ≡ overwritten o 0 (done ++ (x ∷ []))
 wrote-more o out done i x e m h k =
     let j : i ≡ 0 + length done = omega arith in
     written-one out i x h ∙ (rw (e, j) (written-then o 0 done (x ∷ []) (omega arith)))

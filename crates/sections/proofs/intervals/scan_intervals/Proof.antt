@@ -10,7 +10,7 @@ use lib.ListN.{length}
 use mir.Syntax.{w64}
 use mir.Val.{toZ, ofZ}
 use mir.Facts.{toZ-ofZ}
-use Rattle.text.specs.Written.{written}
+use Rattle.text.specs.Overwriting.{overwritten}
 use Rattle.problem.specs.declared.Refusal.the-variants.{Size}
 use Rattle.sections.specs.declared.Interval.{Interval}
 use Rattle.sections.specs.declared.Section.the-variants.{Read}
@@ -50,7 +50,7 @@ start s at v e n k h q a =
     }
 
 more : (s : List ℕ) (o : Outcome (List Interval)) (n i p e : ℕ) (k k' : List ℤ) (v : Interval) → Sofar s o n i p k → i < n → interval s p ≡ ok v e
-    → k' ≡ written k (i * columnWidth) (cell v) → length k' ≡ length k → Sofar s o n (i + 1) e k'
+    → k' ≡ overwritten k (i * columnWidth) (cell v) → length k' ≡ length k → Sofar s o n (i + 1) e k'
 more s o n i p e k k' v f h q w l =
     let d : n - (i + 1) ≡ n - i - 1 = omega arith in
     record {

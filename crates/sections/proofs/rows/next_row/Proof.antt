@@ -6,7 +6,7 @@ use native.Mathlib.Omega.{arith}
 use borrow.Author.Needs.{needs}
 use lib.IntN.{ℤ}
 use Rattle.sections.specs.StatedColumns.{placed, withSlack, blank}
-use Rattle.text.specs.Written.{written}
+use Rattle.text.specs.Overwriting.{overwritten}
 use Rattle.problem.specs.Kinds.{slackOf, slackCount}
 use Rattle.problem.specs.declared.Row.{Row}
 use Rattle.sections.specs.Sections.{deckColumns, line}
@@ -83,7 +83,7 @@ returns c =
       rights-is = w .rights-is;
       table-is =
           w .table-is ∙
-          ap (λ (u : List ℤ). written (x .table .now) (x .c .rows * deckColumns) (withSlack (slackOf (r .kind)) (x .c .columns) u))
+          ap (λ (u : List ℤ). overwritten (x .table .now) (x .c .rows * deckColumns) (withSlack (slackOf (r .kind)) (x .c .columns) u))
           (st .line ∙ ap (placed (st .terms)) (blank-is deckColumns));
     }
 

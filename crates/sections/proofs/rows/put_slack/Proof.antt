@@ -1,4 +1,4 @@
--- `sections::rows::put_slack` meets its contract: with no y nothing is written, else a number of the line and a column. Assumes nothing.
+-- `sections::rows::put_slack` meets its contract: with no y nothing is overwritten, else a number of the line and a column. Assumes nothing.
 use mathlib.Core.Path.{_≡_, refl, sym, _∙_, ap}
 use Prim.Native.Nat.{ℕ, _*_, _<_, _^_}
 use native.Mathlib.Omega.{arith}
@@ -7,7 +7,7 @@ use lib.IntN.{ℤ, pos}
 use mir.Syntax.{w64}
 use mir.Val.{SFits, toZ, ofZ}
 use mir.Facts.{toZ-ofZ}
-use Rattle.text.specs.Written.{written}
+use Rattle.text.specs.Overwriting.{overwritten}
 use Rattle.problem.specs.Limits.{maxBound}
 use Rattle.problem.specs.Kinds.{none, slack, slackOf, slackColumns}
 use Rattle.sections.specs.StatedColumns.{slackInterval, columnWidth, cells}
@@ -73,7 +73,7 @@ returns-2 c =
     let f : SFits w64 (pos lo) = record { sfits = omega (arith, h) } in
     let b : toZ w64 lo ≡ pos lo = toZ-ofZ f in
     let u : toZ w64 (ofZ w64 (c .before .before .before .positive .result)) ≡ pos maxBound = toZ-ofZ (sfits-of (c .before .before .before .positive .ok)) ∙ c .before .before .before .positive .ensures in
-    rw (e, a) (refl, (rw (b, u) at (c .before .put-column .ensures)) ∙ ap (written (x .columns .now) (x .column * columnWidth)) (sym (cells-one (slackInterval lo))))
+    rw (e, a) (refl, (rw (b, u) at (c .before .put-column .ensures)) ∙ ap (overwritten (x .columns .now) (x .column * columnWidth)) (sym (cells-one (slackInterval lo))))
 
 pub put-slack-spec : {M : Type 1} → statement M
 put-slack-spec =

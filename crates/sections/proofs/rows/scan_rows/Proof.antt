@@ -10,7 +10,7 @@ use lib.ListN.{length, length-append, length-map}
 use mir.Syntax.{w64}
 use mir.Val.{toZ, ofZ}
 use mir.Facts.{toZ-ofZ}
-use Rattle.text.specs.Written.{written}
+use Rattle.text.specs.Overwriting.{overwritten}
 use Rattle.problem.specs.Kinds.{slackOf}
 use Rattle.problem.specs.declared.Refusal.the-variants.{Size}
 use Rattle.sections.specs.declared.Interval.{Interval}
@@ -36,9 +36,9 @@ record Sofar (s : List ℕ) (m : ℕ) (a : Cursor) (k₀ b₀ t₀ : List ℤ) (
   many : length done ≡ c .rows
   rest : lines s (m - c .rows) (a .intervals) (c .columns) done (c .at) ≡ lines s m (a .intervals) (a .intervals) [] (a .at)
   columns : c .columns ≡ a .intervals + length (slackColumns done)
-  columns-is : k ≡ written k₀ (a .intervals * columnWidth) (cells (slackColumns done))
-  rights-is : b ≡ written b₀ 0 (map rightOf done)
-  table-is : t ≡ written t₀ 0 (coefficientRows deckColumns (a .intervals) done)
+  columns-is : k ≡ overwritten k₀ (a .intervals * columnWidth) (cells (slackColumns done))
+  rights-is : b ≡ overwritten b₀ 0 (map rightOf done)
+  table-is : t ≡ overwritten t₀ 0 (coefficientRows deckColumns (a .intervals) done)
   lengths : Lengths k b t
 
 sized : {k b t : List ℤ} → (length k ≡ columnCells) × (b ≡ blank deckRows) × (t ≡ blank coefficientCount) → Lengths k b t
@@ -91,8 +91,8 @@ module _ (s : List ℕ) (m : ℕ) (a : Cursor) (k₀ b₀ t₀ : List ℤ) (size
 -- what is left, where all rows are read
 stored : (n : ℕ) (k₀ : List ℤ) (c : Cursor) (b₀ t₀ k b t : List ℤ) (ls : List Line) {o : Outcome (List Line)} → o ≡ ok ls (c .at)
     → (length k₀ ≡ columnCells) × (b₀ ≡ blank deckRows) × (t₀ ≡ blank coefficientCount) → c .intervals ≡ n → c .columns ≡ n + length (slackColumns ls)
-    → length ls ≡ c .rows → c .rows ≤ deckRows → k ≡ written k₀ (n * columnWidth) (cells (slackColumns ls)) → b ≡ written b₀ 0 (map rightOf ls)
-    → t ≡ written t₀ 0 (coefficientRows deckColumns n ls) → rowsDone (Read c) k b t ≡ rowsLeft n k₀ o
+    → length ls ≡ c .rows → c .rows ≤ deckRows → k ≡ overwritten k₀ (n * columnWidth) (cells (slackColumns ls)) → b ≡ overwritten b₀ 0 (map rightOf ls)
+    → t ≡ overwritten t₀ 0 (coefficientRows deckColumns n ls) → rowsDone (Read c) k b t ≡ rowsLeft n k₀ o
 stored n k₀ c b₀ t₀ k b t ls e p i j r few ek eb et =
     let pb = from-blank deckRows b₀ b (map rightOf ls) (omega (arith, length-map ls rightOf)) (p .1) eb in
     let pt = from-blank coefficientCount t₀ t (coefficientRows deckColumns n ls) (omega (arith, length-rows deckColumns n ls)) (p .2) et in

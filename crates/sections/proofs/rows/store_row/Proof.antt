@@ -5,7 +5,7 @@ use native.Mathlib.Omega.{arith}
 use borrow.Author.Needs.{needs}
 use mir.Syntax.{w64}
 use mir.Val.{toZ, ofZ}
-use Rattle.text.specs.Written.{written}
+use Rattle.text.specs.Overwriting.{overwritten}
 use Rattle.sections.specs.Sections.{deckColumns}
 use Rattle.text.proofs.Copying.{written-one}
 use Rattle.sections.proofs.rows.store_row.Statement.{statement}
@@ -46,7 +46,7 @@ returns c =
     record {
       columns-is = c .before .before .before .before .before .before .put-slack .ensures .1;
       rights-is = rw b (written-one (x .rights .now) (x .c .rows) (r .right) (omega (arith, c .before .before .before .before .before .before .before .before .before .before .pre .1 .1 .rights, c .before .before .before .before .before .before .before .before .before .before .pre .0 .1)));
-      table-is = c .before .copy .ensures ∙ ap (written (x .table .now) (x .c .rows * deckColumns)) (c .before .before .before .before .before .before .put-slack .ensures .0);
+      table-is = c .before .copy .ensures ∙ ap (overwritten (x .table .now) (x .c .rows * deckColumns)) (c .before .before .before .before .before .before .put-slack .ensures .0);
     }
 
 pub store-row-spec : {M : Type 1} → statement M

@@ -10,7 +10,7 @@ use Rattle.problem.specs.Limits.{maxBound}
 use Rattle.settling.specs.declared.Part.{Part}
 use Rattle.settling.specs.declared.Part.the-variants.{Goals}
 use Rattle.settling.specs.Measures as Measures
-use Rattle.settling.specs.Sizes.{Sized, reach}
+use Rattle.settling.specs.Sizes.{FitCell, reach}
 use Rattle.settling.proofs.Machine.{read}
 use Rattle.settling.proofs.measures.measure.Statement.{statement}
 use Rattle.settling.proofs.measures.measure.Tie as tie
@@ -30,7 +30,7 @@ enum-told : tie.Need-enum-told
 enum-told c = search needs
 
 distance-requires : tie.Need-distance-requires
-distance-requires c κs = let s = c .before .before in subst (λ (p : Part). Sized p (s .args .c)) (c .enum-told .given .1) (s .pre)
+distance-requires c κs = let s = c .before .before in subst (λ (p : Part). FitCell p (s .args .c)) (c .enum-told .given .1) (s .pre)
 
 enum-told-2 : tie.Need-enum-told-2
 enum-told-2 c = search needs

@@ -8,7 +8,7 @@ use Rattle.problem.proofs.Laws.{passed, failed}
 use Rattle.settling.specs.declared.Measure.{Measure}
 use Rattle.settling.specs.Measures as Measures
 use Rattle.settling.specs.Steps.{isAllowed, isCompared}
-use Rattle.settling.specs.Sizes.{Sized}
+use Rattle.settling.specs.Sizes.{FitCell}
 use Rattle.settling.proofs.Sizes.{allowed-sized, measure-room}
 use Rattle.settling.proofs.Passing.{passes-far, passes-still, passes-free, passes-measured}
 use Rattle.settling.proofs.measures.passes.Statement.{statement}
@@ -27,7 +27,7 @@ compared :
     c .is-compared .result ≡ isCompared (s .args .part) (s .args .c)
 compared c = c .is-compared .ensures
 
-sized : (c : tie.Else1) → let s = c .before .before in Sized (s .args .part) (s .args .c)
+sized : (c : tie.Else1) → let s = c .before .before in FitCell (s .args .part) (s .args .c)
 sized c = let s = c .before .before in allowed-sized (s .args .part) (s .args .c) (s .pre .0) (allowed c)
 
 is-allowed-requires : tie.Need-is-allowed-requires

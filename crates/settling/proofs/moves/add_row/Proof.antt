@@ -12,12 +12,12 @@ use Rattle.whole.specs.Lists.{entry}
 use Rattle.whole.proofs.Signed.{back}
 use Rattle.lattice.specs.Rows.{plus}
 use Rattle.lattice.proofs.RowLaws.{length-plus, entry-plus}
-use Rattle.lattice.proofs.Writing.{Written, starts, goes-on, ends, unread}
+use Rattle.lattice.proofs.Writing.{WrittenTo, starts, goes-on, ends, unread}
 use Rattle.settling.proofs.moves.add_row.Statement.{statement}
 use Rattle.settling.proofs.moves.add_row.Tie as tie
 
 abbrev Inv-loop : tie.InvT-loop
-Inv-loop values₀ row a j₀ values j = Written values₀ (plus (toZ w64 a) row values₀) values j
+Inv-loop values₀ row a j₀ values j = WrittenTo values₀ (plus (toZ w64 a) row values₀) values j
 
 abbrev μ-loop : tie.MeasureT-loop
 μ-loop values₀ row a j₀ values j = length row - j

@@ -17,7 +17,7 @@ use Rattle.settling.specs.Columns.{Columns, columnsIn}
 use Rattle.settling.specs.Moves.{vector}
 use Rattle.settling.specs.Seating.{seated, far, seatOne}
 use Rattle.settling.specs.Seating as Seating
-use Rattle.settling.specs.Seats.{within, Addable, Led, Seatable}
+use Rattle.settling.specs.Seats.{within, Addable, PositiveLead, Seatable}
 use Rattle.settling.proofs.Seats.{row-end, row-addable, placeable, still-seatable, seat-end, seat-far, seat-on}
 use Rattle.settling.specs.Views.{vectors}
 use Rattle.settling.proofs.Views.{vector-part}
@@ -68,7 +68,7 @@ module _ (c : tie.In-loop Inv-loop μ-loop) where
   addable : Addable (c .before .loop .values) row
   addable = row-addable (B start) _ _ _ (c .before .loop .inv .seatable) (c .before .loop .s) (c .loop-test .taken)
 
-  led : Led row
+  led : PositiveLead row
   led = c .before .loop .inv .seatable .led (c .before .loop .s) (c .loop-test .taken)
 
 -- its lead
@@ -136,7 +136,7 @@ seat-one-requires c κs =
     let l = t .before .loop in (
       placeable (B (start t)) _ _ _ (l .inv .seatable),
       subst (Addable (l .values)) (sym (is t)) (addable t),
-      subst Led (sym (is t)) (led t),
+      subst PositiveLead (sym (is t)) (led t),
       found (c .before .before) ∙ ap lead (sym (is t)),
     )
 

@@ -13,7 +13,7 @@ use Rattle.lattice.proofs.LentParts.{tail-is, tail-back}
 use Rattle.tableau.specs.Within.{Within}
 use Rattle.tableau.proofs.Within.{within-take}
 use Rattle.tableau.specs.RowSteps.{StopsRun, Pivot, eachOf}
-use Rattle.tableau.specs.ColumnPass.{passedOf, tableOf}
+use Rattle.tableau.specs.ColumnPass.{passedOf, rejoined}
 use Rattle.tableau.specs.declared.rows.Way.the-variants.{Above}
 use Rattle.tableau.specs.Tails.{Gathers, gatheringOf}
 use Rattle.tableau.proofs.Passing.{tail-of, room-of, rows-of, pivot-of, passed-over, passed-stops}
@@ -126,7 +126,7 @@ returns-2 c =
     let a = s n .args in
     let p = s n .pre in
     let e = c .before .each in
-    let R = tableOf (passedOf (a .rows) (length (a .pivot .now)) (a .c) (a .k) (t-of n)) in
+    let R = rejoined (passedOf (a .rows) (length (a .pivot .now)) (a .c) (a .k) (t-of n)) in
     subst (λ (l : List ℤ). StopsRun R (e .result) (e .last .0 ++ l))
     (sym (ap (drop (at n)) (back-is n) ∙ drop-at (take (at n) (t-of n)) (u n) (at n) (length-take-le (at n) (t-of n) (room n))))
     (passed-stops (p .0) (p .1 .0) (p .1 .1 .0) (unmarked n) (g .row (n .if1 .left)) (g .left (n .if1 .left))

@@ -13,7 +13,7 @@ use Rattle.lattice.proofs.LentParts.{tail-is}
 use Rattle.tableau.specs.Elimination.{Run, none, choose, passColumns, eliminate}
 use Rattle.tableau.specs.Choices.{Chooses}
 use Rattle.tableau.specs.Tails.{Picked}
-use Rattle.tableau.specs.ColumnPass.{Standing, aboveOf, belowOf, passedOf, tableOf}
+use Rattle.tableau.specs.ColumnPass.{Standing, aboveOf, belowOf, passedOf, rejoined}
 use Rattle.tableau.specs.RowSteps.{StopsRun}
 use Rattle.tableau.proofs.Choosing.{sighted-none, sighted-some}
 use Rattle.tableau.proofs.Passing.{columns-over, columns-on, columns-skip, tail-of, room-of, passed-above, passed-below, passed-on, skipped-on, starts, starts-all, picked-of, ends-columns, ends-rows}
@@ -69,7 +69,7 @@ told :
     (c : tie.After-pass Inv-loop μ-loop) →
     let m = turn c in
     let a = m .before .args in
-    StopsRun (tableOf (passedOf (a .rows) (length (a .pivot .now)) (m .loop .c) (m .loop .k) (m .loop .t))) (c .pass .result) (c .pass .last .0)
+    StopsRun (rejoined (passedOf (a .rows) (length (a .pivot .now)) (m .loop .c) (m .loop .k) (m .loop .t))) (c .pass .result) (c .pass .last .0)
 told c = rw (turn c .loop .inv .wide) at (c .pass .ensures)
 
 loop-holds : tie.Need-loop-holds Inv-loop μ-loop

@@ -7,14 +7,14 @@ use lib.ListN.{length}
 use Rattle.whole.proofs.Signed.{back}
 use Rattle.lattice.specs.Rows.{chop}
 use Rattle.lattice.proofs.FlatLaws.{in-table}
-use Rattle.lattice.proofs.Writing.{Written, starts, goes-on, ends}
+use Rattle.lattice.proofs.Writing.{WrittenTo, starts, goes-on, ends}
 use Rattle.tableau.specs.Table.{column}
 use Rattle.tableau.proofs.Tableaus.{column-length, column-number}
 use Rattle.tableau.proofs.filling.fill_column.Statement.{statement}
 use Rattle.tableau.proofs.filling.fill_column.Tie as tie
 
 abbrev Inv-loop : tie.InvT-loop
-Inv-loop to₀ coefficients n j i₀ to i = Written to₀ (column j (chop (length to₀) n coefficients)) to i
+Inv-loop to₀ coefficients n j i₀ to i = WrittenTo to₀ (column j (chop (length to₀) n coefficients)) to i
 
 abbrev μ-loop : tie.MeasureT-loop
 μ-loop to₀ coefficients n j i₀ to i = length to₀ - i

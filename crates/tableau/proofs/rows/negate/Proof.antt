@@ -11,13 +11,13 @@ use Rattle.whole.specs.Lists.{entry}
 use Rattle.whole.proofs.Signed.{back}
 use Rattle.lattice.specs.Rows.{neg}
 use Rattle.lattice.proofs.RowLaws.{length-neg, entry-neg}
-use Rattle.lattice.proofs.Writing.{Written, starts, goes-on, ends, unread}
+use Rattle.lattice.proofs.Writing.{WrittenTo, starts, goes-on, ends, unread}
 use Rattle.tableau.proofs.Within.{within-entry}
 use Rattle.tableau.proofs.rows.negate.Statement.{statement}
 use Rattle.tableau.proofs.rows.negate.Tie as tie
 
 abbrev Inv-loop : tie.InvT-loop
-Inv-loop row₀ i₀ row i = Written row₀ (neg row₀) row i
+Inv-loop row₀ i₀ row i = WrittenTo row₀ (neg row₀) row i
 
 abbrev μ-loop : tie.MeasureT-loop
 μ-loop row₀ i₀ row i = length row₀ - i

@@ -17,14 +17,14 @@ use Rattle.whole.specs.Lists.{entry}
 use Rattle.whole.proofs.Signed.{back}
 use Rattle.lattice.specs.Rows.{plus}
 use Rattle.lattice.proofs.RowLaws.{length-plus, entry-plus}
-use Rattle.lattice.proofs.Writing.{Written, starts, goes-on, ends, unread}
+use Rattle.lattice.proofs.Writing.{WrittenTo, starts, goes-on, ends, unread}
 use Rattle.problem.specs.Limits.{M, beyond, anyBeyond}
 use Rattle.tableau.proofs.Within.{within-entry, beyond-none, beyond-next}
 use Rattle.tableau.proofs.rows.subtract_all.Statement.{statement}
 use Rattle.tableau.proofs.rows.subtract_all.Tie as tie
 
 record Inv (row₀ pivot : List ℤ) (q : ℤ) (row : List ℤ) (bits i : ℕ) : Type 0 where
-  written : Written row₀ (plus (negℤ q) pivot row₀) row i
+  written : WrittenTo row₀ (plus (negℤ q) pivot row₀) row i
   mark : ltb M bits ≡ anyBeyond (take i (plus (negℤ q) pivot row₀))
 
 abbrev Inv-loop : tie.InvT-loop

@@ -7,13 +7,13 @@ use native.Mathlib.Omega.{arith}
 use lib.ListN.{length}
 use Rattle.lattice.proofs.LentParts.{part-is, part-back}
 use Rattle.tableau.specs.Elimination.{Left}
-use Rattle.tableau.specs.RowSteps.{Stops, stepOf}
+use Rattle.tableau.specs.RowSteps.{Stops, rowStep}
 use Rattle.tableau.proofs.Walking.{Walk, starts, goes-on, stops, ends, ahead, row, row-wide, row-small, stepping}
 use Rattle.tableau.proofs.tables.each.Statement.{statement}
 use Rattle.tableau.proofs.tables.each.Tie as tie
 
 abbrev Inv-loop : tie.InvT-loop
-Inv-loop t₀ rows pivot c way w at₀ left₀ t at left = Walk (stepOf way c pivot) w rows t₀ t at left
+Inv-loop t₀ rows pivot c way w at₀ left₀ t at left = Walk (rowStep way c pivot) w rows t₀ t at left
 
 abbrev μ-loop : tie.MeasureT-loop
 μ-loop t₀ rows pivot c way w at₀ left₀ t at left = left
@@ -23,7 +23,7 @@ told :
     (c : tie.After-step Inv-loop μ-loop) →
     let a = c .before .before .before .before .args in
     let l = c .before .before .before .loop in
-    let f : Left = stepOf (a .way) (a .c) (a .pivot .now) (row (l .inv) (c .before .before .loop-test .taken)) in
+    let f : Left = rowStep (a .way) (a .c) (a .pivot .now) (row (l .inv) (c .before .before .loop-test .taken)) in
     Stops (f .over) (f .row) (c .step .result) (c .step .last .0)
 told c =
     let a = c .before .before .before .before .args in

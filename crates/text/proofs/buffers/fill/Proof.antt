@@ -7,13 +7,13 @@ use lib.ListN.{length, replicate, length-set}
 use mir.Syntax.{w64}
 use mir.Val.{toZ}
 use mir.Facts.{toZ-ofZ}
-use Rattle.text.specs.Written.{written}
+use Rattle.text.specs.Overwriting.{overwritten}
 use Rattle.text.proofs.Copying.{fill-none, fill-more}
 use Rattle.text.proofs.buffers.fill.Statement.{statement}
 use Rattle.text.proofs.buffers.fill.Tie as tie
 
 abbrev Inv-loop : tie.InvT-loop
-Inv-loop out₀ from to value i₀ out i = (length out ≡ length out₀) × (from ≤ i) × (i ≤ to) × (out ≡ written out₀ from (replicate (i - from) (toZ w64 value)))
+Inv-loop out₀ from to value i₀ out i = (length out ≡ length out₀) × (from ≤ i) × (i ≤ to) × (out ≡ overwritten out₀ from (replicate (i - from) (toZ w64 value)))
 
 abbrev μ-loop : tie.MeasureT-loop
 μ-loop out₀ from to value i₀ out i = to - i
