@@ -7,3 +7,4 @@ pub mod Forming
 pub mod Finishing
 pub mod Assigning
 pub mod Keeping
+pub mod Leaving

@@ -1,4 +1,4 @@
--- Laws of `divisor`: its two clauses, with the count of calls out of sight. Assumes nothing.
+-- Laws of `divisor`: its two clauses, with the count of calls out of sight, and how large it is. Assumes nothing.
 use mathlib.Core.Path.{_≡_, refl, sym, ap, _∙_}
 use Prim.Native.Nat.{ℕ, zero, suc, _%_, _<_, _≤_}
 use native.Mathlib.Nat.{mod-lt, zero-lt-suc}
@@ -33,3 +33,16 @@ divisor-step a zero h = absurd (none h)
     none h = omega arith
 divisor-step a (suc b) h =
     enough (suc b) (suc (a % suc b)) (suc b) (a % suc b) (mod-lt a (zero-lt-suc b)) (omega arith)
+
+-- ---- it is no larger than the two numbers
+by-most : (f k a b : ℕ) → a ≤ k → b ≤ k → divisorBy f a b ≤ k
+unfolding divisorBy
+by-most zero k a b h l = h
+by-most (suc f) k a zero h l = h
+by-most (suc f) k a (suc b) h l =
+    let r : a % suc b < suc b = mod-lt a (zero-lt-suc b) in
+    by-most f k (suc b) (a % suc b) l (omega arith)
+
+pub divisor-most : (k a b : ℕ) → a ≤ k → b ≤ k → divisor a b ≤ k
+unfolding divisor
+divisor-most k a b h l = by-most (suc b) k a b h l
