@@ -68,7 +68,8 @@ module _ (P : Posed) (L : Lent) (q : Passes P L) where
   unfolding form
   form-within e =
       let z : length (zeros (L .tableau)) ≡ L .tableau = length-replicate (L .tableau) (pos 0) in
-      eliminate-all (length (matrix P) + n P) (tableau (n P) (matrix P)) (all-flat (tableau (n P) (matrix P)) (table-within (formable (zeros (L .tableau)) z))) e
+      let w : All Within (tableau (n P) (matrix P)) = all-flat (tableau (n P) (matrix P)) (table-within (formable (zeros (L .tableau)) z)) in
+      eliminate-all (length (matrix P) + n P) (tableau (n P) (matrix P)) w e
 
   -- ---- the form in a list
   pub record Laid (t : List ℤ) : Type 0 where

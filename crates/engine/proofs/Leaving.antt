@@ -3,7 +3,7 @@
 --   basis-within      no number of a basis lies beyond ±M, where none of its table does
 --   assign-leaves     so a whole assignment does
 -- Assumes nothing.
-use mathlib.Core.Path.{_≡_, refl, sym, _∙_, ap, subst}
+use mathlib.Core.Path.{_≡_, refl, sym, subst}
 use mathlib.Core.Bool.{Bool, true, false, cond, true≢false}
 use mathlib.Core.List.{List, [], _∷_, map}
 use Prim.Native.Nat.{ℕ, _≤_}
@@ -26,7 +26,8 @@ use Rattle.settling.specs.Seating.{Seated, seated, far, seat}
 use Rattle.settling.specs.Settle.{settle}
 use Rattle.settling.proofs.Settlings.{Values}
 use Rattle.settling.proofs.Leaving.{seat-values, settle-values, total, settle-steps, strides-small}
-use Rattle.engine.specs.Assign.{Buffers, Done, n, matrix, columns, lentOf, overLimit, settleOn, onCheck, onSeated, onFound, solved, formed, assignFit, assign}
+use Rattle.engine.specs.Assign.{Buffers, Done, n, matrix, columns, lentOf, overLimit, settleOn, onCheck, onSeated, onFound}
+use Rattle.engine.specs.Assign.{solved, formed, assignFit, assign}
 use Rattle.engine.specs.Demand.{within-sized}
 use Rattle.engine.specs.Satisfied.{found-basis}
 use Rattle.engine.proofs.Readiness.{fit-column}
@@ -84,7 +85,8 @@ module _ (P : Posed) (B : Buffers) (h : firstCause P (lentOf B) ≡ Passed) wher
   seated-leaves T N s far a w e v = refuses v
   seated-leaves T N s (seated u) a w e v = settled-leaves T N u (seat-values (columns P) (n P) N s u a e) w
 
-  found-leaves : (T : List (List ℤ)) (x : Found) → solved P .over ≡ false → solved P .found ≡ x → isVerdict (onFound P T B x .answer) ≡ true → Leaves P (onFound P T B x)
+  found-leaves : (T : List (List ℤ)) (x : Found) → solved P .over ≡ false → solved P .found ≡ x → isVerdict (onFound P T B x .answer) ≡ true
+      → Leaves P (onFound P T B x)
   found-leaves T none o e v = refuses v
   found-leaves T (some s N) o e v = seated-leaves T N s (seat (columns P) N s) (start-values s N o e) (found-within s N o e) refl v
 

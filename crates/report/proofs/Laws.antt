@@ -1,20 +1,17 @@
 -- Laws of the listing: how long its lines are, its columns one at a time, and what the call leaves. Assumes nothing.
 -- ---- lengths: a number of 64 bits has at most 20 digits
 use mathlib.Core.Path.{_≡_, sym, ap, _∙_}
-use mathlib.Core.Bool.{Bool, true, false, cond}
 use mathlib.Core.List.{List, [], _++_, append-nil}
-use Prim.Native.Nat.{ℕ, _+_, _-_, _≤_, _<_, _^_}
+use Prim.Native.Nat.{ℕ, _+_, _≤_, _<_, _^_}
 use native.Mathlib.Numerals.{add-one}
 use native.Mathlib.Omega.{arith}
 use borrow.Author.Tests.{eq-eqb, ne-eqb, le-leb, lt-leb}
-use lib.Dec.{eqb}
 use lib.IntN.{ℤ, pos, negsuc, natAbs}
 use lib.ListN.{length, take, drop, getD, length-append, drop-of-length-le}
 use lib.Seq.{drop-cons, take-length, take-all, length-take-le}
 use mir.Syntax.{w64}
 use mir.Val.{SFits}
 use Rattle.text.specs.Buffers.{Wrote}
-use Rattle.text.specs.Decimals.{natural, integer}
 use Rattle.problem.specs.Answers.{refusalNumber}
 use Rattle.problem.specs.declared.Counts.{Counts}
 use Rattle.problem.specs.declared.Refusal.the-variants.{NoWholeNumbers}

@@ -14,7 +14,8 @@ use Rattle.whole.specs.Lists.{entry}
 use Rattle.problem.specs.Answers.{refusalNumber, answerCounts}
 use Rattle.problem.specs.declared.Counts.{Counts}
 use Rattle.problem.specs.declared.Refusal.{Refusal}
-use Rattle.problem.specs.declared.Refusal.the-variants.{Size, Length, Coefficient, Bound, Goal, Limit, Elimination, NoWholeNumbers, Seating, Standing, Layout, Term}
+use Rattle.problem.specs.declared.Refusal.the-variants.{Size, Length, Coefficient, Bound, Goal, Limit}
+use Rattle.problem.specs.declared.Refusal.the-variants.{Elimination, NoWholeNumbers, Seating, Standing, Layout, Term}
 use Rattle.problem.specs.declared.Answer.{Answer}
 use Rattle.problem.specs.declared.Answer.the-variants.{Fitted, Outside, Spent, Refused}
 use Rattle.report.specs.Listing.{FITTED, OUTSIDE, SPENT, NONE, lineEnd, verdict, line, linesFrom, numbered, refusal, listing}
@@ -35,7 +36,8 @@ refusal-most i k h = by (eqb k (refusalNumber NoWholeNumbers))
     by false = simp length-append (omega (arith, length-natural i k h))
 
 -- ---- the columns' lines
-pub lines-most : (i j k at : ℕ) (v : List ℤ) (d : List ℕ) → at + length v < 10 ^ suc i → ((x : ℕ) → natAbs (entry x v) < 10 ^ suc j) → ((x : ℕ) → getD d x 0 < 10 ^ suc k)
+pub lines-most : (i j k at : ℕ) (v : List ℤ) (d : List ℕ)
+    → at + length v < 10 ^ suc i → ((x : ℕ) → natAbs (entry x v) < 10 ^ suc j) → ((x : ℕ) → getD d x 0 < 10 ^ suc k)
     → length (linesFrom at v d) ≤ length v * (i + j + k + 7)
 unfolding linesFrom
 lines-most i j k at [] d p q r = omega arith

@@ -85,10 +85,12 @@ module _ (C : Columns) (N : List (List ℤ)) where
       go Rest = rest-steps (partOf C v) k limit (omega arith)
       go (Take i o) = omega arith
   settle-steps (suc g) limit k v h =
-      go (nextStep C N v) (λ o. settle-steps g limit (counted (partOf C v) k) (moved N o v) (omega (arith, counted-sum (partOf C v) k (suc g) limit h (λ e. omega arith))))
+      let d = counted-sum (partOf C v) k (suc g) limit h (λ e. omega arith) in
+      go (nextStep C N v) (λ o. settle-steps g limit (counted (partOf C v) k) (moved N o v) (omega arith))
     where
       go : (z : Step) → ((o : Move) → total (answerCounts (settleFrom g C N (counted (partOf C v) k) (moved N o v) .answer)) ≤ limit)
-          → total (answerCounts (onStep z (ended (atRest (partOf C v) k) v) (λ o. settleFrom g C N (counted (partOf C v) k) (moved N o v)) .answer)) ≤ limit
+          → total (answerCounts (onStep z (ended (atRest (partOf C v) k) v) (λ o. settleFrom g C N (counted (partOf C v) k) (moved N o v)) .answer))
+          ≤ limit
       go Rest ih = rest-steps (partOf C v) k limit (omega arith)
       go (Take i o) ih = ih o
 

@@ -111,13 +111,16 @@ pub record Values (n : ℕ) (v : List ℤ) : Type 0 where
   pub small : (j : ℕ) → natAbs (entry j v) ≤ M
 
 pub taken-values :
-    (C : Columns) (N : List (List ℤ)) (v : List ℤ) (i : ℕ) (o : Move) → ((j : ℕ) → FitColumn (C .column j)) → length v ≡ C .count → nextStep C N v ≡ Take i o
-    → Values (C .count) (moved N o v)
+    (C : Columns) (N : List (List ℤ)) (v : List ℤ) (i : ℕ) (o : Move) → ((j : ℕ) → FitColumn (C .column j)) → length v ≡ C .count
+    → nextStep C N v ≡ Take i o → Values (C .count) (moved N o v)
 taken-values C N v i o f l e = record {
   long = moved-length N o v ∙ l;
-  small = λ j. ⊎-elim (λ h. allowed-near (partOf C v) (cell C (moved N o v) j) (f j .lower) (f j .upper) (step-good C N v i o e .1 j h)) (past j) (lt-or-ge j (C .count));
+  small = λ j. ⊎-elim (near j) (past j) (lt-or-ge j (C .count));
 }
   where
+    near : (j : ℕ) → j < C .count → natAbs (entry j (moved N o v)) ≤ M
+    near j h = allowed-near (partOf C v) (cell C (moved N o v) j) (f j .lower) (f j .upper) (step-good C N v i o e .1 j h)
+
     past : (j : ℕ) → C .count ≤ j → natAbs (entry j (moved N o v)) ≤ M
     past j h = rw (List·getD-eq-default (moved N o v) (pos 0) {n = j} (omega (arith, moved-length N o v, l))) (omega arith)
 

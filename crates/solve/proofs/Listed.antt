@@ -1,16 +1,20 @@
 -- Every text is listed: its listing has room in the program's buffer.
---   assigned-short         the listing of a whole assignment with a verdict is short; refused-short, and so is that of a refusal
+--   longest                the longest listing that numbers of these sizes have
+--   assigned-short         the listing of a whole assignment is short; refused-short, and so is that of a refusal
 --   every-text-is-listed   of every list of numbers, bytes or not
+--   never-uneven, never-full   so a call on a buffer with that room returns neither; length-fits, but a length within the room
 -- Assumes nothing.
-use mathlib.Core.Path.{_≡_, refl}
-use mathlib.Core.Bool.{Bool, true, false, cond}
-use mathlib.Core.List.{List, [], _++_}
-use Prim.Native.Nat.{ℕ, _+_, _*_, _≤_}
+use mathlib.Core.Path.{_≡_, refl, _∙_, ap}
+use mathlib.Core.Bool.{true}
+use mathlib.Core.List.{List, []}
+use Prim.Native.Nat.{ℕ, _≤_}
 use native.Mathlib.Omega.{arith}
 use borrow.Author.Tests.{le-leb}
-use lib.IntN.{ℤ}
-use lib.ListN.{length, drop}
-use Rattle.problem.specs.Answers.{isVerdict}
+use lib.IntN.{ℤ, natAbs}
+use lib.ListN.{length, getD}
+use Rattle.whole.specs.Lists.{entry}
+use Rattle.problem.specs.Limits.{M, maxColumns}
+use Rattle.problem.specs.Answers.{answerCounts, isVerdict}
 use Rattle.problem.specs.Checks.{Posed}
 use Rattle.problem.specs.declared.Refusal.{Refusal}
 use Rattle.problem.specs.declared.Answer.{Answer}
@@ -19,29 +23,31 @@ use Rattle.sections.specs.Rules.{Outcome, ok, no}
 use Rattle.deck.specs.Posing.{Deck, readDeck, posed}
 use Rattle.engine.specs.Assign.{Buffers, Done, assign}
 use Rattle.engine.proofs.Leaving.{Leaves, assign-leaves}
-use Rattle.report.specs.Listing.{listing, listingDone, placedIn}
-use Rattle.report.specs.declared.Written.the-variants.{Bytes, NoRoom}
+use Rattle.settling.proofs.Keeping.{never}
+use Rattle.settling.proofs.Leaving.{total}
+use Rattle.report.specs.Listing.{listing, ListingDone, listingDone}
+use Rattle.report.specs.declared.Written.{Written}
+use Rattle.report.specs.declared.Written.the-variants.{Bytes, Uneven, NoRoom}
 use Rattle.report.proofs.Lengths.{listing-most}
 use Rattle.solve.specs.Program.{programLimit, blank, listed, onDeck, printed, printInto, listingRoom, longestListing, Listed}
 
 abbrev Short : List ℕ → Type 0
 Short w = length w ≤ longestListing
 
+-- a column has two digits, a value and a stride ten, a count of steps five
+longest : (a : Answer) (v : List ℤ) (d : List ℕ) → length v ≤ maxColumns → ((j : ℕ) → natAbs (entry j v) ≤ M) → ((j : ℕ) → getD d j 0 ≤ M)
+    → total (answerCounts a) ≤ programLimit → Short (listing a v d)
+longest a v d n x y k =
+    omega (arith, listing-most 4 1 9 9 v d (omega arith) (λ j. omega (arith, x j)) (λ j. omega (arith, y j)) a (omega arith) (omega arith))
+
 -- a refusal lists no column
 refused-short : (why : Refusal) (v : List ℤ) (d : List ℕ) → Short (listing (Refused why) v d)
 unfolding listing
-refused-short why v d = omega (arith, listing-most 4 1 9 9 [] [] (omega arith) (λ x. omega arith) (λ x. omega arith) (Refused why) (omega arith) (omega arith))
+refused-short why v d = longest (Refused why) [] [] (omega arith) (λ j. omega arith) (λ j. omega arith) (omega arith)
 
--- 48 columns have two digits, numbers within ±M ten, and counts within 10,000 five
 leaves-short : (P : Posed) (d : Done) → P .problem .limit ≤ programLimit → Leaves P d → Short (listed d)
 leaves-short P d h l =
-    omega (
-      arith,
-      listing-most 4 1 9 9 (d .values) (d .strides) (omega (arith, l .few, l .values .long)) (λ x. omega (arith, l .values .small x)) (λ x. omega (arith, l .strides x)) (d .answer)
-      (omega (arith, l .steps)) (omega (arith, l .steps)),
-      l .few,
-      l .values .long,
-    )
+    longest (d .answer) (d .values) (d .strides) (omega (arith, l .few, l .values .long)) (l .values .small) (l .strides) (omega (arith, l .steps))
 
 by-answer : (d : Done) → (isVerdict (d .answer) ≡ true → Short (listed d)) → Short (listed d)
 by-answer d f = go (d .answer) f
@@ -70,3 +76,20 @@ every-text-is-listed s = record {
   short = printed-short s;
   whole = λ o h. rw (le-leb (length (printed s)) (length o) (omega (arith, printed-short s))) refl;
 }
+
+-- ---- what a call returns, where the buffer has room
+module _ (o s : List ℕ) (h : listingRoom ≤ length o) where
+  returned : (w : Written) (p : List ℕ) → listingDone w p ≡ printInto o s → w ≡ Bytes (length (printed s))
+  returned w p e = ap (λ (x : ListingDone). x .written) (e ∙ every-text-is-listed s .whole o h)
+
+  pub never-uneven : {A : Type 0} (p : List ℕ) → listingDone Uneven p ≡ printInto o s → A
+  never-uneven p e = let q : Uneven ≡ Bytes (length (printed s)) = returned Uneven p e in never (cc)
+
+  pub never-full : {A : Type 0} (p : List ℕ) → listingDone NoRoom p ≡ printInto o s → A
+  never-full p e = let q : NoRoom ≡ Bytes (length (printed s)) = returned NoRoom p e in never (cc)
+
+  pub length-fits : (n : ℕ) (p : List ℕ) → listingDone (Bytes n) p ≡ printInto o s → n ≤ listingRoom
+  length-fits n p e =
+      let q : Bytes n ≡ Bytes (length (printed s)) = returned (Bytes n) p e in
+      let l : n ≡ length (printed s) = cc in
+      omega (arith, printed-short s)
