@@ -1,5 +1,6 @@
 -- What the form of a problem leaves in the tableau.
 --   formable        a problem that passes the checks can be formed; solvable, and its right side taken through the form
+--   form-within     no number of a form lies beyond ±M
 --   Laid P t        the list t is the form's table, row after row, and the problem is not past the elimination limit
 --   laid-table      its rows are the form's; laid-basis, and the basis among them is the problem's
 --   laid-parted     it is parted; laid-placed, so everything is placed for seating and settling
@@ -64,6 +65,14 @@ module _ (P : Posed) (L : Lent) (q : Passes P L) where
   rows : chop (n P) (width (P .problem)) (flat (formed P .table)) ≡ formed P .table
   rows = ap (λ (k : ℕ). chop k (width (P .problem)) (flat (formed P .table))) (sym (problem-count (n P) (matrix P))) ∙ chop-flat (width (P .problem)) (formed P .table) wide
 
+  -- no number of a form that is not past the limit lies beyond ±M
+  pub form-within : formed P .over ≡ false → All Within (formed P .table)
+  unfolding form
+  form-within e =
+      let z : length (zeros (L .tableau)) ≡ L .tableau = length-replicate (L .tableau) (pos 0) in
+      let w : All Within (tableau (n P) (matrix P)) = all-flat (tableau (n P) (matrix P)) (table-within (formable (zeros (L .tableau)) z)) in
+      eliminate-all (length (matrix P) + n P) (tableau (n P) (matrix P)) w e
+
   -- ---- the form in a list
   pub record Laid (t : List ℤ) : Type 0 where
     pub is : t ≡ flat (formed P .table)
@@ -77,12 +86,7 @@ module _ (P : Posed) (L : Lent) (q : Passes P L) where
     laid-basis = ap (basis (m P)) laid-table
 
     laid-within : Within t
-    unfolding form
-    laid-within =
-        let z : length (zeros (L .tableau)) ≡ L .tableau = length-replicate (L .tableau) (pos 0) in
-        subst Within (sym (a .is))
-        (flat-all (formed P .table)
-        (eliminate-all (length (matrix P) + n P) (tableau (n P) (matrix P)) (all-flat (tableau (n P) (matrix P)) (table-within (formable (zeros (L .tableau)) z))) (a .kept)))
+    laid-within = subst Within (sym (a .is)) (flat-all (formed P .table) (form-within (a .kept)))
 
     pub laid-parted : Parted (P .problem) t
     laid-parted = record {

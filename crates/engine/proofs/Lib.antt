@@ -13,3 +13,4 @@ pub mod Verdicts
 pub mod Satisfied
 pub mod Demand
 pub mod Stride
+pub mod Leaving

@@ -1,6 +1,6 @@
 -- A problem that passes the checks is ready for seating and settling over the basis that lies in its tableau.
 --   view-lies   the basis lies in a tableau of n rows, and no number of it lies beyond ±M where none of the tableau does
---   table P     its columns, packed; table-columns, and read back
+--   table P     its columns, packed; table-columns, and read back; fit-column, each of them fits
 --   ready       so it is, with a list of values within ±M
 -- Assumes nothing.
 use mathlib.Core.Path.{_≡_, refl, sym, subst}
@@ -51,7 +51,7 @@ table P = packed (columns P)
 pub table-columns : (P : Posed) (L : Lent) → Fits P L → columnsIn (n P) (table P) ≡ columns P
 table-columns P L f = packed-columns (n P) (P .lower) (P .upper) (P .goals) (f .lower-long) (f .upper-long) (f .goals-long)
 
-fit-column : (P : Posed) (L : Lent) → Fits P L → (j : ℕ) → FitColumn (columns P .column j)
+pub fit-column : (P : Posed) (L : Lent) → Fits P L → (j : ℕ) → FitColumn (columns P .column j)
 fit-column P L f j = record {
   lower = f .lower-small j;
   upper = f .upper-small j;

@@ -1,20 +1,17 @@
 -- Laws of the listing: how long its lines are, its columns one at a time, and what the call leaves. Assumes nothing.
 -- ---- lengths: a number of 64 bits has at most 20 digits
 use mathlib.Core.Path.{_≡_, sym, ap, _∙_}
-use mathlib.Core.Bool.{Bool, true, false, cond}
 use mathlib.Core.List.{List, [], _++_, append-nil}
 use Prim.Native.Nat.{ℕ, _+_, _≤_, _<_, _^_}
 use native.Mathlib.Numerals.{add-one}
 use native.Mathlib.Omega.{arith}
 use borrow.Author.Tests.{eq-eqb, ne-eqb, le-leb, lt-leb}
-use lib.Dec.{eqb}
 use lib.IntN.{ℤ, pos, negsuc, natAbs}
 use lib.ListN.{length, take, drop, getD, length-append, drop-of-length-le}
 use lib.Seq.{drop-cons, take-length, take-all, length-take-le}
 use mir.Syntax.{w64}
 use mir.Val.{SFits}
 use Rattle.text.specs.Overwriting.{Wrote}
-use Rattle.text.specs.Decimals.{natural, integer}
 use Rattle.problem.specs.Answers.{refusalNumber}
 use Rattle.problem.specs.declared.Counts.{Counts}
 use Rattle.problem.specs.declared.Refusal.the-variants.{NoWholeNumbers}
@@ -22,22 +19,17 @@ use Rattle.problem.specs.declared.Answer.{Answer}
 use Rattle.problem.specs.declared.Answer.the-variants.{Fitted, Outside, Spent, Refused}
 use Rattle.report.specs.Listing.{NONE, lineEnd, verdict, line, linesFrom, numbered, refusal, headline, listing, linesOf, listingDone, writeListing}
 use Rattle.report.specs.declared.Written.the-variants.{Bytes, Uneven, NoRoom}
-use Rattle.text.proofs.Digits.{length-natural, length-integer}
-
-pub length-digits : (n : ℕ) → n < 2 ^ 64 → length (natural n) ≤ 20
-length-digits n h = length-natural 19 n (omega arith)
+use Rattle.report.proofs.Lengths.{line-most, verdict-most, refusal-most}
 
 pub length-line : (c : ℕ) (v : ℤ) (d : ℕ) → c < 2 ^ 64 → natAbs v < 2 ^ 64 → d < 2 ^ 64 → length (line c v d) ≤ 64
-length-line c v d p q r =
-    let k : length (integer v) ≤ 21 = length-integer 19 v (omega arith) in
-    simp length-append (omega (arith, length-digits c p, length-digits d r))
+length-line c v d p q r = line-most 19 19 19 c v d (omega arith) (omega arith) (omega arith)
 
 pub abs-fits : (v : ℤ) → SFits w64 v → natAbs v < 2 ^ 64
 abs-fits (pos n) f = omega (arith, f .sfits)
 abs-fits (negsuc n) f = omega (arith, f .sfits)
 
 pub length-verdict : (w : List ℕ) (k : Counts) → length w ≤ 7 → k .bounds < 2 ^ 64 → k .goals < 2 ^ 64 → length (verdict w k) ≤ 64
-length-verdict w k h p q = simp length-append (omega (arith, length-digits (k .bounds) p, length-digits (k .goals) q))
+length-verdict w k h p q = omega (arith, verdict-most 19 w k (omega arith) (omega arith))
 
 -- ---- the line of a refusal's number
 pub refusal-none : (k : ℕ) → k ≡ refusalNumber NoWholeNumbers → refusal k ≡ NONE ++ lineEnd
@@ -47,11 +39,7 @@ pub refusal-other : (k : ℕ) → (k ≡ refusalNumber NoWholeNumbers → ⊥) �
 refusal-other k h = rw (ne-eqb k (refusalNumber NoWholeNumbers) h)
 
 pub length-refusal : (k : ℕ) → k < 2 ^ 64 → length (refusal k) ≤ 64
-length-refusal k h = by (eqb k (refusalNumber NoWholeNumbers))
-  where
-    by : (t : Bool) → length (cond t (NONE ++ lineEnd) (numbered k)) ≤ 64
-    by true = omega arith
-    by false = simp length-append (omega (arith, length-digits k h))
+length-refusal k h = omega (arith, refusal-most 19 k (omega arith))
 
 -- ---- the columns' lines, one at a time
 module _ (v : List ℤ) (d : List ℕ) (i : ℕ) where

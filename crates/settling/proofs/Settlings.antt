@@ -1,7 +1,8 @@
 -- Settling, a step at a time.
 --   listed-..              a listed move is of the basis
 --   step-good              a step's move is of the basis, and leaves allowed values
---   taken-ready            after a step the lists are ready for the next one: its values lie within ±M
+--   Values n v             v has n numbers, each within ±M
+--   taken-values           after a step its values are so; `taken-ready` and the lists are ready for the next one
 --   settle-rest, -spent, -on   settling with g steps left, by what the next step is
 --   counted-sum            the counts and the steps left stay within the limit
 -- Assumes nothing.
@@ -35,7 +36,7 @@ use Rattle.settling.specs.Verdicts.{Listed}
 use Rattle.settling.proofs.Sizes.{inside-small}
 use Rattle.settling.specs.Views.{vectors, OfBasis}
 use Rattle.settling.proofs.Views.{rows-length, moved-length}
-use Rattle.settling.specs.Ready.{Ready}
+use Rattle.settling.specs.Ready.{Ready, FitColumn}
 use Rattle.settling.proofs.Stepping.{next-taken, taken-allowed}
 
 -- ---- the moves
@@ -107,27 +108,41 @@ allowed-near : (p : Part) (c : Cell) → natAbs (c .lower) ≤ maxBound → natA
 allowed-near Bounds c a b e = ltb-false M (natAbs (c .value)) (not-true _ e)
 allowed-near Goals c a b e = omega (arith, inside-small maxBound c a b (eqb-true (distance c) 0 e))
 
+pub record Values (n : ℕ) (v : List ℤ) : Type 0 where
+  pub long : length v ≡ n
+  pub small : (j : ℕ) → natAbs (entry j v) ≤ M
+
+pub taken-values :
+    (C : Columns) (N : List (List ℤ)) (v : List ℤ) (i : ℕ) (o : Move) → ((j : ℕ) → FitColumn (C .column j)) → length v ≡ C .count
+    → nextStep C N v ≡ Take i o → Values (C .count) (moved N o v)
+taken-values C N v i o f l e = record {
+  long = moved-length N o v ∙ l;
+  small = λ j. ⊎-elim (near j) (past j) (lt-or-ge j (C .count));
+}
+  where
+    near : (j : ℕ) → j < C .count → natAbs (entry j (moved N o v)) ≤ M
+    near j h = allowed-near (partOf C v) (cell C (moved N o v) j) (f j .lower) (f j .upper) (step-good C N v i o e .1 j h)
+
+    past : (j : ℕ) → C .count ≤ j → natAbs (entry j (moved N o v)) ≤ M
+    past j h = rw (List·getD-eq-default (moved N o v) (pos 0) {n = j} (omega (arith, moved-length N o v, l))) (omega arith)
+
 pub taken-ready :
     (B : Basis) (v t b : List ℤ) (i : ℕ) (o : Move) → Ready B v t b → nextStep (columnsIn (B .columns) t) (vectors B b) v ≡ Take i o
     → OfBasis (B .vectors) o × Ready B (moved (vectors B b) o v) t b
 taken-ready B v t b i o r e =
     let C = columnsIn (B .columns) t in
-    let m = step-good C (vectors B b) v i o e in (
-      subst (λ (k : ℕ). OfBasis k o) (rows-length (B .vectors) (B .columns) (B .stride) b) (m .0),
+    let u = taken-values C (vectors B b) v i o (r .columns) (r .values-long) e in (
+      subst (λ (k : ℕ). OfBasis k o) (rows-length (B .vectors) (B .columns) (B .stride) b) (step-good C (vectors B b) v i o e .0),
       record {
         few = r .few;
         few-vectors = r .few-vectors;
         basis = r .basis;
-        values-long = moved-length (vectors B b) o v ∙ r .values-long;
-        values-small = λ j. ⊎-elim
-            (λ h. allowed-near (partOf C v) (cell C (moved (vectors B b) o v) j) (r .columns j .lower) (r .columns j .upper) (m .1 j h)) (past j) (lt-or-ge j (B .columns));
+        values-long = u .long;
+        values-small = u .small;
         table-long = r .table-long;
         columns = r .columns;
       },
     )
-  where
-    past : (j : ℕ) → B .columns ≤ j → natAbs (entry j (moved (vectors B b) o v)) ≤ M
-    past j h = rw (List·getD-eq-default (moved (vectors B b) o v) (pos 0) {n = j} (omega (arith, moved-length (vectors B b) o v, r .values-long))) (omega arith)
 
 -- ---- by what the next step is
 module _ (C : Columns) (N : List (List ℤ)) (k : Counts) (v : List ℤ) where

@@ -4,17 +4,24 @@
 --   printed s       the bytes that the program prints for the text s
 --   printInto o s   what a call returns and leaves that puts these bytes at the front of the lent buffer o
 --   listInto o P    the same of the listing of an assignment
+--   listingRoom     the bytes of the program's buffer for a listing
+--   longestListing  no listing has more: a first line of at most 20 bytes, as `OUTSIDE 10000 10000` and byte 10 are, and 48 lines of at most 26, as
+--                   `48 -2147483647 2147483647` and byte 10 are
+--   ListedWhole s        the listing of s has room there, so that a call leaves all of it at the front of the buffer and never returns that there is none
 -- Assumes nothing.
-use mathlib.Core.List.{List, []}
-use Prim.Native.Nat.{ℕ, _+_, _*_}
-use lib.ListN.{replicate}
+use mathlib.Core.Path.{_≡_}
+use mathlib.Core.List.{List, [], _++_}
+use Prim.Native.Nat.{ℕ, _+_, _*_, _≤_}
+use lib.ListN.{length, drop, replicate}
 use Rattle.whole.specs.Lists.{zeros}
+use Rattle.problem.specs.Limits.{maxColumns}
 use Rattle.problem.specs.Checks.{Posed}
 use Rattle.problem.specs.declared.Answer.the-variants.{Refused}
 use Rattle.engine.specs.Assign.{Buffers, Done, n, m, assign}
 use Rattle.sections.specs.Rules.{Outcome, ok, no}
 use Rattle.deck.specs.Posing.{Deck, readDeck, posed}
-use Rattle.report.specs.Listing.{listing, ListingDone, placedIn}
+use Rattle.report.specs.Listing.{listing, ListingDone, listingDone, placedIn}
+use Rattle.report.specs.declared.Written.the-variants.{Bytes}
 
 abbrev pub programLimit : ℕ
 programLimit = 10000
@@ -37,3 +44,17 @@ printInto o s = placedIn o (printed s)
 
 unfoldable pub listInto : List ℕ → Posed → ListingDone
 listInto o P = placedIn o (listed (assign P (zeroBuffers P)))
+
+-- ---- every text is listed
+abbrev pub listingRoom : ℕ
+listingRoom = 4096
+
+abbrev pub longestListing : ℕ
+longestListing = 20 + maxColumns * 26
+
+-- "The listing program reads the text .. and prints": of every text, whatever it holds
+pub record ListedWhole (s : List ℕ) : Type 0 where
+  pub short : length (printed s) ≤ longestListing
+  pub whole :
+      (o : List ℕ) → listingRoom ≤ length o
+      → printInto o s ≡ listingDone (Bytes (length (printed s))) (printed s ++ drop (length (printed s)) o)

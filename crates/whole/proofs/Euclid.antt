@@ -1,11 +1,12 @@
 -- Laws of `divisor` and of what divides magnitudes.
 --   divisor-zero, -step   its two clauses, with the count of calls out of sight
 --   divisor-greatest      it is the greatest common divisor
+--   divisor-most          it is no larger than a number that neither of the two is above
 --   dvd-abs-add, -mul     what divides two magnitudes divides that of the sum; what divides one divides those of its multiples
 -- Assumes nothing.
 use mathlib.Core.Path.{_≡_, refl}
 use mathlib.Core.Bool.{Bool, true, false}
-use Prim.Native.Nat.{ℕ, zero, suc, _+_, _-_, _%_, _<_, _∣_}
+use Prim.Native.Nat.{ℕ, zero, suc, _+_, _-_, _%_, _<_, _≤_, _∣_}
 use native.Mathlib.Nat.{mod-lt, zero-lt-suc, dvd-refl, dvd-zero, dvd-add, dvd-sub, dvd-mod-iff, dvd-mul-left-of-dvd}
 use native.Mathlib.Omega.{arith}
 use borrow.Author.Tests.{ltb-true, ltb-false}
@@ -80,3 +81,16 @@ dvd-abs-add c (negsuc a) (negsuc b) h k =
 
 pub dvd-abs-mul : (c : ℕ) (k x : ℤ) → c ∣ natAbs x → c ∣ natAbs (k *ℤ x)
 dvd-abs-mul c k x h = rw (abs-mul k x) (dvd-mul-left-of-dvd c {b = natAbs x} h (natAbs k))
+
+-- ---- it is no larger than the two numbers
+by-most : (f k a b : ℕ) → a ≤ k → b ≤ k → divisorBy f a b ≤ k
+unfolding divisorBy
+by-most zero k a b h l = h
+by-most (suc f) k a zero h l = h
+by-most (suc f) k a (suc b) h l =
+    let r : a % suc b < suc b = mod-lt a (zero-lt-suc b) in
+    by-most f k (suc b) (a % suc b) l (omega arith)
+
+pub divisor-most : (k a b : ℕ) → a ≤ k → b ≤ k → divisor a b ≤ k
+unfolding divisor
+divisor-most k a b h l = by-most (suc b) k a b h l

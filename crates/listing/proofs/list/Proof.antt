@@ -1,60 +1,42 @@
--- `listing::list` is safe: the bytes that it writes lie in its buffer. Assumes nothing.
+-- `listing::list` is safe: every text is listed, so that the bytes that it writes lie in its buffer. Assumes nothing.
 use mathlib.Core.Path.{sym}
 use native.Mathlib.Omega.{arith}
+use Prim.Native.Nat.{_≤_}
+use lib.ListN.{length}
 use lib.Seq.{length-take-le}
 use borrow.Author.Needs.{needs}
+use Rattle.solve.proofs.Listed.{length-fits}
 use Rattle.listing.proofs.list.Statement.{statement}
 use Rattle.listing.proofs.list.Tie as tie
 
-slice-aggregate-list-text : tie.Need-slice-aggregate-list-text
-slice-aggregate-list-text c = search needs
+within : (w : tie.After-fill) → w .fill .result ≤ length (w .fill .last .1 .0)
+within w = omega (arith, length-fits _ _ (search needs) _ _ (w .fill .ensures), w .fill .kept)
 
-list-text-requires : tie.Need-list-text-requires
-list-text-requires c κs = search needs
+slice-aggregate-fill : tie.Need-slice-aggregate-fill
+slice-aggregate-fill c = search needs
 
-enum-known-written : tie.Need-enum-known-written
-enum-known-written c = search needs
+fill-requires : tie.Need-fill-requires
+fill-requires c κs = search needs
 
 array-share-prefix-out : tie.Need-array-share-prefix-out
-array-share-prefix-out c = search needs
+array-share-prefix-out c = within (c .before)
 
 slice-aggregate-write-all : tie.Need-slice-aggregate-write-all
-slice-aggregate-write-all c = sym (length-take-le _ _ (omega arith))
+slice-aggregate-write-all c = sym (length-take-le _ _ (within (c .before .before)))
 
 write-all-requires : tie.Need-write-all-requires
 write-all-requires c κs = search needs
 
-enum-told : tie.Need-enum-told
-enum-told c = search needs
-
-enum-told-2 : tie.Need-enum-told-2
-enum-told-2 c = search needs
-
 returns : tie.Need-returns
 returns c = search needs
-
-returns-2 : tie.Need-returns-2
-returns-2 c = search needs
-
-returns-3 : tie.Need-returns-3
-returns-3 c = search needs
-
-returns-4 : tie.Need-returns-4
-returns-4 c = search needs
 
 pub list-spec : {M : Type 1} → statement M
 list-spec =
     tie.close
     (tie.spec
-    slice-aggregate-list-text
-    list-text-requires
-    enum-known-written
+    slice-aggregate-fill
+    fill-requires
     array-share-prefix-out
     slice-aggregate-write-all
     write-all-requires
-    enum-told
-    enum-told-2
-    returns
-    returns-2
-    returns-3
-    returns-4)
+    returns)
