@@ -20,9 +20,10 @@ STATEMENTS = {
     "engine/specs/Demand.antt": ["Demand3"],
     "engine/specs/Outcomes.antt": ["KeepsRows", "VerdictMeans", "NoneExactlyWhen"],
     "engine/specs/Stride.antt": ["AssignStrides", "ContinueStrides"],
+    "whole/specs/Divisor.antt": ["DivisorGreatest"],
     "settling/specs/Strides.antt": ["StrideGreatest"],
     "solve/specs/Cases.antt": ["DeckCases"],
-    "solve/specs/Program.antt": [],
+    "solve/specs/Program.antt": ["ListedWhole"],
     "runs/specs/CallRuns.antt": ["NoListTwice", "assignRun", "continueRun"],
     "tableau/specs/Theorems.antt": None,
 }
