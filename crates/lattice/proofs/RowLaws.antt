@@ -1,6 +1,6 @@
 -- Laws of rows: of plus, minus and neg, of zeros, and of entries.
 --   length-..               the lengths
---   plus-none .. -append     v + c r: no multiple; multiples of one row add up; those of two rows may change places; a multiple of a sum; of a
+--   plus-none .. -append    v + c r: no multiple; multiples of one row add up; those of two rows may change places; a multiple of a sum; of a
 --                           negated row; of zeros; once a row and zeros; of rows end to end. Lengths are asked for only where a sum is
 --                           itself taken times a number
 --   minus-..                u − v by way of w; turned round; of two sums; of a sum and one of its parts; behind m zeros

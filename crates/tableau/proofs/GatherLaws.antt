@@ -22,7 +22,7 @@ use lib.ListN.{length, getD, set}
 use Rattle.whole.specs.Lists.{entry}
 use Rattle.whole.specs.Tests.{isZero}
 use Rattle.whole.specs.Quotient.{gatheringQuotient}
-use Rattle.whole.proofs.Integers.{isZero-true, positive-of, gatheringQuotient-left}
+use Rattle.whole.proofs.Integers.{isZero-true, positive-of, gatheringQuotient-left, natAbs-zero}
 use Rattle.lattice.proofs.RowLaws.{entry-plus, entry-neg}
 use Rattle.lattice.specs.Span.{All, Len, _~_, same, _then_, under, swap, sign, add}
 use Rattle.lattice.proofs.Span.{all-at, steps-length}
@@ -85,10 +85,6 @@ gather-steps (suc f) c (at j p) b B =
 abbrev pub Stands : ℕ → List (List ℤ) → Choice → Type 0
 Stands c B none = All (λ (s : List ℤ). entry c s ≡ pos 0) B
 Stands c B (at j p) = (0 < p) × (j < length B) × ((d : List ℤ) → natAbs (entry c (getD B j d)) ≡ p)
-
-natAbs-zero : (x : ℤ) → natAbs x ≡ 0 → x ≡ pos 0
-natAbs-zero (pos n) a = ap pos a
-natAbs-zero (negsuc n) a = absurd (omega arith)
 
 prefer-stands : (c k : ℕ) (r : List ℤ) (B : List (List ℤ)) (z : Choice) → natAbs (entry c r) ≡ k → Stands c B z → Stands c (r ∷ B) (prefer k z)
 prefer-stands c zero r B none a s = (natAbs-zero (entry c r) a, s)

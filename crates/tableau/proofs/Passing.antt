@@ -23,19 +23,20 @@ use Rattle.whole.specs.Lists.{entry}
 use Rattle.lattice.specs.Rows.{ZeroTo, flat, chop}
 use Rattle.lattice.proofs.RowLaws.{ZeroTo-next, ZeroTo-plus, ZeroTo-neg}
 use Rattle.lattice.specs.Span.{All, Len}
-use Rattle.lattice.proofs.Span.{all-both, all-append, steps-length, steps-all}
+use Rattle.lattice.proofs.Span.{all-both, all-append, steps-count, steps-length, steps-all}
 use Rattle.lattice.proofs.FlatLaws.{flat-append, flat-chop, chop-next, chop-rows, chop-take, chop-split, length-chop, front-rows, front-rest}
 use Rattle.tableau.specs.Elimination.{Run, each, reduced, Choice, none, at, choose, Gathered, Passed, passColumn, passColumns, eliminate}
 use Rattle.tableau.specs.Gathering.{Alone}
 use Rattle.tableau.proofs.GatherLaws.{Stands, choose-stands, gather-steps, gather-alone, gathering-first}
 use Rattle.tableau.specs.Within.{Within}
-use Rattle.tableau.proofs.Within.{neither, within-append, within-take, within-drop}
+use Rattle.whole.proofs.Tests.{neither}
+use Rattle.tableau.proofs.Within.{within-append, within-take, within-drop}
 use Rattle.tableau.specs.RowSteps.{StopsRun, eachOf, Pivot}
 use Rattle.tableau.specs.Tails.{Tail, Picked, gatheringOf}
 use Rattle.tableau.specs.ColumnPass.{Standing, aboveOf, belowOf, passedOf, rejoined}
 use Rattle.tableau.specs.declared.rows.Way.the-variants.{Above}
 use Rattle.tableau.proofs.Walking.{stepping, each-wide, each-count}
-use Rattle.tableau.proofs.Staying.{flat-all, all-flat, each-all, gather-all, gather-count}
+use Rattle.tableau.proofs.Staying.{flat-all, all-flat, each-all, gather-all}
 
 -- ---- the columns of the definition
 after : ℕ → ℕ → Passed → Run
@@ -108,7 +109,7 @@ gathered {k} {w} {c} {j} {t} h g =
       wide = steps-length w (gather-steps p c (at j p) b B) (g .is .wide);
       front = steps-all (ZeroTo c) (ZeroTo-neg c) (ZeroTo-plus c) (gather-steps p c (at j p) b B) (subst (All (ZeroTo c)) e (h .front));
       alone = gather-alone (g .is) p j p (omega arith);
-      count = gather-count p c (at j p) b B ∙ length-chop (k - 1) w (drop w t);
+      count = omega (arith, steps-count (gather-steps p c (at j p) b B), length-chop (k - 1) w (drop w t));
       small = gather-all p c (at j p) b B (subst (All Within) e (all-flat (chop k w t) (rw (flat-chop k w t (h .wide)) (h .small))));
     })
 

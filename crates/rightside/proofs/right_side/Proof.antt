@@ -14,8 +14,9 @@ use Rattle.lattice.specs.Rows.{allZero, chop}
 use Rattle.lattice.proofs.LentParts.{tail-is}
 use Rattle.tableau.specs.Within.{Within}
 use Rattle.tableau.specs.RightSide.{sweep, leading, remaining}
+use Rattle.tableau.proofs.RightLaws.{sweep-length}
 use Rattle.rightside.specs.Sweeps.{Swept, Sweepable}
-use Rattle.rightside.proofs.Sweeping.{over-left, kept-left, sweep-wide, sweep-within}
+use Rattle.rightside.proofs.Sweeping.{over-left, kept-left, sweep-within}
 use Rattle.rightside.proofs.Parting.{few, inside, first, second, first-sweepable, second-sweepable}
 use Rattle.rightside.proofs.Answers.{righted-over, righted-none, righted-late, righted-found}
 use borrow.Author.Needs.{needs}
@@ -164,7 +165,7 @@ returns-3 c =
     let o = late (c .before .before) in
     let z = zero (c .before .before .before .before .before) in
     righted-late (s .args .m) (T-of s) (s .args .v .now) (unmarked n) z (sym (o .answer) ∙ c .if3 .taken)
-    (over-left (rw (c .if3 .taken) at o) ∙ ap zeros (sweep-wide (leading (s .args .m) (T-of s)) (s .args .v .now)))
+    (over-left (rw (c .if3 .taken) at o) ∙ ap zeros (sweep-length (leading (s .args .m) (T-of s)) (s .args .v .now)))
 
 same-length-4 : tie.Need-same-length-4
 same-length-4 c = search needs
