@@ -6,14 +6,14 @@
 -- Assumes nothing.
 use mathlib.Core.Path.{_≡_, _∙_, ap}
 use mathlib.Core.List.{List, _∷_}
-use Prim.Native.Nat.{ℕ, zero, suc, _+_, _*_, _-_, _<_, _≤_}
-use native.Mathlib.Nat.{mul-le-mul-right, suc-mul}
+use Prim.Native.Nat.{ℕ, _+_, _*_, _-_, _<_, _≤_}
+use native.Mathlib.Nat.{mul-le-mul-right}
 use native.Mathlib.Omega.{arith}
 use lib.IntN.{ℤ}
 use lib.ListN.{length, take, drop, length-drop}
 use lib.Seq.{length-take-le, drop-drop}
 use Rattle.lattice.specs.Rows.{chop}
-use Rattle.lattice.proofs.FlatLaws.{chop-next}
+use Rattle.lattice.proofs.FlatLaws.{one-less, chop-next}
 
 pub record RowsAhead (w : ℕ) (t : List ℤ) (at left : ℕ) : Type 0 where
   pub room : at + left * w ≡ length t
@@ -35,8 +35,4 @@ module _ {w : ℕ} {t : List ℤ} {at left : ℕ} (h : RowsAhead w t at left) (s
   apart = chop-next left w (drop at t) some ∙ ap (λ (l : List ℤ). row ∷ chop (left - 1) w l) (drop-drop w at t)
 
   pub behind : RowsAhead w t (at + w) (left - 1)
-  behind = let m : left * w ≡ (left - 1) * w + w = less left some in record { room = omega (arith, h .room) }
-    where
-      less : (n : ℕ) → 0 < n → n * w ≡ (n - 1) * w + w
-      less zero p = absurd (omega arith)
-      less (suc n) p = suc-mul n w ∙ ap (λ (i : ℕ). i * w + w) {x = n} {y = suc n - 1} (omega arith)
+  behind = record { room = omega (arith, h .room, one-less left w some) }

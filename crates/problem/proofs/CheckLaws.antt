@@ -86,6 +86,7 @@ pub record Fits (P : Posed) (L : Lent) : Type 0 where
   pub coefficients-long : length (P .coefficients) ≡ P .problem .rows * P .problem .columns
   pub rights-long : length (P .rights) ≡ P .problem .rows
   pub lower-long : length (P .lower) ≡ P .problem .columns
+  pub upper-long : length (P .upper) ≡ P .problem .columns
   pub goals-long : length (P .goals) ≡ P .problem .columns
   pub tableau-long : L .tableau ≡ P .problem .columns * (P .problem .rows + P .problem .columns)
   pub values-long : L .values ≡ P .problem .columns
@@ -200,6 +201,7 @@ module _ (P : Posed) (L : Lent) (f : Passes P L) where
         coefficients-long = eqb-true _ _ (rows-long .0);
         rights-long = eqb-true _ _ (rows-long .1);
         lower-long = lower;
+        upper-long = upper;
         goals-long = goals;
         tableau-long = eqb-true _ _ (lent-long .0);
         values-long = eqb-true _ _ (lent-long .1);

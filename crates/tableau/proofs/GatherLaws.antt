@@ -1,5 +1,6 @@
--- The laws of specs/GatherLaws.
+-- Laws of gathering: it is made of elementary row steps, it ends, and what it leaves.
 --   each-steps           where f only takes multiples of r away, `each f` is row steps
+--   round-steps, gather-steps   so are a round and gathering
 --   Stands c B z         z tells of the rows B: they have nothing but 0 at c, or row j has the magnitude p there, above 0
 --   choose-stands        what `choose` chooses does
 --   round-lead, -below   after a round the pivot's entry is p, and the magnitudes below it are smaller. Of the gathering quotient this uses the
@@ -26,7 +27,8 @@ use Rattle.whole.proofs.Integers.{isZero-true, positive-of, gatheringQuotient-l
 use Rattle.lattice.proofs.RowLaws.{entry-plus, entry-neg}
 use Rattle.lattice.specs.Span.{All, Len, _~_, same, _then_, under, swap, sign, add}
 use Rattle.lattice.proofs.Span.{all-at, steps-length}
-use Rattle.tableau.specs.Elimination.{Left, subtract, kept, lowered, each, Choice, none, at, prefer, choose, Gathered, exchange, signed, clear, round, onward, gather}
+use Rattle.tableau.specs.Elimination.{Left, subtract, kept, lowered, each, Choice, none, at, prefer, choose}
+use Rattle.tableau.specs.Elimination.{Gathered, exchange, signed, clear, round, onward, gather}
 use Rattle.tableau.specs.Gathering.{Alone, Chosen, gathering, magnitude}
 
 -- ---- row steps

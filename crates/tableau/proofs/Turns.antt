@@ -30,11 +30,6 @@ use Rattle.tableau.proofs.Walking.{each-count}
 use Rattle.tableau.proofs.Staying.{flat-all, all-flat, round-all}
 use Rattle.tableau.proofs.Rounds.{round-is}
 
--- the size of the choice, which falls with each round
-abbrev pub sizeOf : Choice → ℕ
-sizeOf none = 0
-sizeOf (at j p) = p
-
 module _ {k w c j : ℕ} {t : List ℤ} (h : Tail k w c t) (g : Picked k w c t j) where
   abbrev x : Gathered
   x = roundOf k w c t

@@ -11,15 +11,15 @@ use lib.ListN.{length, take, drop, length-drop}
 use Rattle.whole.specs.Lists.{entry}
 use Rattle.whole.proofs.Signed.{back}
 use Rattle.lattice.specs.Rows.{flat, chop}
+use Rattle.lattice.proofs.FlatLaws.{one-less}
 use Rattle.lattice.proofs.LentParts.{tail-is}
 use Rattle.tableau.specs.Elimination.{Gathered, none, choose}
-use Rattle.tableau.specs.Gathering.{Chosen}
+use Rattle.tableau.specs.Gathering.{Chosen, magnitude}
 use Rattle.tableau.specs.Choices.{choiceOf}
 use Rattle.tableau.specs.Tails.{Tail, Picked, Gathers, roundOf, gatheringOf}
 use Rattle.tableau.proofs.Choosing.{sighted-none, sighted-some}
 use Rattle.tableau.proofs.Rounds.{chosen-low, ends-inside}
-use Rattle.tableau.proofs.Lifting.{one-less}
-use Rattle.tableau.proofs.Turns.{sizeOf, marked, finished, last-one, going-on, next-tail, next-below}
+use Rattle.tableau.proofs.Turns.{marked, finished, last-one, going-on, next-tail, next-below}
 use Rattle.tableau.proofs.gathering.rounds.Statement.{statement}
 use Rattle.tableau.proofs.gathering.rounds.Tie as tie
 
@@ -34,7 +34,7 @@ abbrev Inv-loop : tie.InvT-loop
 Inv-loop t₀ rows pivot₀ c chosen w j₀ t pivot j = Inv t₀ rows w c t pivot j
 
 abbrev μ-loop : tie.MeasureT-loop
-μ-loop t₀ rows pivot₀ c chosen w j₀ t pivot j = sizeOf (choose c (take w t ∷ chop (rows - 1) w (drop w t)))
+μ-loop t₀ rows pivot₀ c chosen w j₀ t pivot j = magnitude (choose c (take w t ∷ chop (rows - 1) w (drop w t)))
 
 -- what the round answers and leaves
 told :
@@ -223,7 +223,7 @@ loop-less : tie.Need-loop-less Inv-loop μ-loop
 loop-less c =
     let m = more (c .before) in
     let n = c .before .before .before .before .before .before .before .before .before in
-    omega (arith, m .1, ap sizeOf (m .2 .choice), ap sizeOf (l n .loop .inv .picked .is .choice))
+    omega (arith, m .1, ap magnitude (m .2 .choice), ap magnitude (l n .loop .inv .picked .is .choice))
 
 loop-again : tie.Need-loop-again Inv-loop μ-loop
 loop-again c =
