@@ -33,12 +33,18 @@ told c =
 -- what the call answers and leaves of v, with that row
 taken :
     (c : tie.After-reduce Inv-loop μ-loop) →
-    let l = c .before .before .before .before .before .before .loop in
-    let r = next (l .inv) (c .before .before .before .before .before .loop-test .taken) in
-    Swept (reduced (c .before .before .before .lead-from .result) r (l .v)) (l .v) (c .reduce .result) (c .reduce .last .0)
+    let after-lead-from = c .before .before .before in
+    let entered = after-lead-from .before .before in
+    let turn = entered .before in
+    let l = turn .loop in
+    let r = next (l .inv) (entered .loop-test .taken) in
+    Swept (reduced (after-lead-from .lead-from .result) r (l .v)) (l .v) (c .reduce .result) (c .reduce .last .0)
 taken c =
-    let a = c .before .before .before .before .before .before .before .args in
-    let l = c .before .before .before .before .before .before .loop in
+    let entered = c .before .before .before .before .before in
+    let turn = entered .before in
+    let start = turn .before in
+    let a = start .args in
+    let l = turn .loop in
     let e = rw (part-is (l .at) (length (a .v .now)) (a .t .now)) at (c .reduce .ensures) in
     record { answer = e .0; left = e .1 }
 
@@ -84,7 +90,10 @@ reduce-requires c κs =
     rw (part-is (l .at) (length (a .v .now)) (a .t .now)) (p, l .inv .small)
 
 same-length : tie.Need-same-length Inv-loop μ-loop
-same-length c = c .before .before .reduce .kept .0 ∙ c .before .before .before .before .before .before .before .before .loop .inv .wide
+same-length c =
+    let after-lead-from = c .before .before .before .before .before in
+    let turn = after-lead-from .before .before .before in
+    c .before .before .reduce .kept .0 ∙ turn .loop .inv .wide
 
 returns : tie.Need-returns Inv-loop μ-loop
 returns c =

@@ -24,7 +24,8 @@ use Rattle.tableau.proofs.elimination.pass.Tie as tie
 -- what gathering answers and leaves
 told :
     (c : tie.After-gather) →
-    let a = c .before .before .before .args in
+    let start = c .before .before .before in
+    let a = start .args in
     Gathers (gatheringOf (a .rows - a .k) (length (a .pivot .now)) (a .c) (drop (a .k * length (a .pivot .now)) (a .t .now))) (c .gather .result) (c .gather .last .0) (c .gather .last .1 .1 .0)
 told c =
     let a = c .before .before .before .args in
@@ -75,7 +76,9 @@ sub-gather-2 : tie.Need-sub-gather-2
 sub-gather-2 c = omega (arith, c .before .pre .0 .most)
 
 gather-requires : tie.Need-gather-requires
-gather-requires c κs = rw (tail-is (c .before .before .args .k * length (c .before .before .args .pivot .now)) (c .before .before .args .t .now)) (tail-of (c .before .before .pre .0) (c .before .before .pre .1 .0), c .before .before .pre .1 .1)
+gather-requires c κs =
+    let start = c .before .before in
+    rw (tail-is (start .args .k * length (start .args .pivot .now)) (start .args .t .now)) (tail-of (start .pre .0) (start .pre .1 .0), start .pre .1 .1)
 
 same-length : tie.Need-same-length
 same-length c = search needs

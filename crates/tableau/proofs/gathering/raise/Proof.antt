@@ -28,10 +28,16 @@ same-length : tie.Need-same-length
 same-length c = search needs
 
 returns : tie.Need-returns
-returns c = c .before .negate .ensures ∙ sym (Lifting.taken (entry (c .before .before .before .before .before .before .args .c) (c .before .before .before .before .before .before .args .row .now)) (c .before .before .before .before .before .before .args .row .now) (sym (tested (c .before .before .before .before)) ∙ c .before .before .before .if1 .taken))
+returns c =
+    let met-less = c .before .before .before in
+    let after-less = met-less .before in
+    let start = after-less .before .before in
+    c .before .negate .ensures ∙ sym (Lifting.taken (entry (start .args .c) (start .args .row .now)) (start .args .row .now) (sym (tested after-less) ∙ met-less .if1 .taken))
 
 returns-2 : tie.Need-returns-2
-returns-2 c = sym (Lifting.left (entry (c .before .before .before .args .c) (c .before .before .before .args .row .now)) (c .before .before .before .args .row .now) (sym (tested (c .before)) ∙ c .if1 .left))
+returns-2 c =
+    let start = c .before .before .before in
+    sym (Lifting.left (entry (start .args .c) (start .args .row .now)) (start .args .row .now) (sym (tested (c .before)) ∙ c .if1 .left))
 
 pub raise-spec : {M : Type 1} → statement M
 raise-spec =

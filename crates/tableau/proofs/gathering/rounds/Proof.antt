@@ -92,10 +92,12 @@ module _ (c : tie.Else1 Inv-loop μ-loop) where
 
 -- the choice among the rows below
 chosen-next : (c : tie.After-choose Inv-loop μ-loop) →
-    let n = c .before .before .before .before .before .before in
+    let after-magnitude = c .before .before .before .before in
+    let n = after-magnitude .before .before in
     choiceOf (c .choose .result) ≡ choose (col n) (x-of n .below)
 chosen-next c =
-    let n = c .before .before .before .before .before .before in
+    let after-magnitude = c .before .before .before .before in
+    let n = after-magnitude .before .before in
     c .choose .ensures .is
     ∙ ap (λ (v : List ℤ). choose (col n) (chop (k n - 1) (w n) v)) (tail-is (w n) (u n))
     ∙ ap (choose (col n))
@@ -120,22 +122,26 @@ one c =
 
 more :
     (c : tie.Else3 Inv-loop μ-loop) →
-    let n = c .before .before .before .before .before .before .before .before in
+    let after-t2 = c .before .before .before .before in
+    let n = after-t2 .before .before .before .before in
     let z = c .before .before .choose .result in
     (gatheringOf (k n) (w n) (col n) (u n) ≡ gatheringOf (k n) (w n) (col n) (l n .loop .t))
     × (z .size < l n .loop .inv .picked .size)
     × Chosen (w n) (col n) (take (w n) (u n)) (chop (k n - 1) (w n) (drop (w n) (u n))) (z .row + 1) (z .size)
 more c =
-    let n = c .before .before .before .before .before .before .before .before in
+    let after-t2 = c .before .before .before .before in
+    let n = after-t2 .before .before .before .before in
     let z = c .before .before .choose .result in
     going-on (l n .loop .inv .tail) (l n .loop .inv .picked) (unmarked n) (rows-next n) (n .before .before .before .round .kept .0) (z .row) (z .size)
     (sym (chosen-next (c .before .before)) ∙ sighted-some (z .count) (z .row) (z .size) (c .if3 .left))
 
 picked-next : (c : tie.Else3 Inv-loop μ-loop) →
-    let n = c .before .before .before .before .before .before .before .before in
+    let after-t2 = c .before .before .before .before in
+    let n = after-t2 .before .before .before .before in
     Picked (k n) (w n) (col n) (u n) (c .before .before .choose .result .row + 1)
 picked-next c =
-    let n = c .before .before .before .before .before .before .before .before in
+    let after-t2 = c .before .before .before .before in
+    let n = after-t2 .before .before .before .before in
     record { some = l n .loop .inv .picked .some; size = c .before .before .choose .result .size; is = more c .2 }
 
 loop-holds : tie.Need-loop-holds Inv-loop μ-loop
@@ -153,7 +159,8 @@ same-length-2 c = same-pivot (c .before)
 returns : tie.Need-returns Inv-loop μ-loop
 returns c =
     let r = c .before .before .before in
-    let l = c .before .before .before .before .before .before .loop in
+    let turn = r .before .before .before in
+    let l = turn .loop in
     record {
       answer =
           sym (ap (λ (y : Gathered). y .over) (sym (l .inv .rest)) ∙ marked (l .inv .tail) (l .inv .picked) (sym (told r .answer) ∙ c .if1 .taken));
@@ -180,10 +187,16 @@ returns-2 : tie.Need-returns-2 Inv-loop μ-loop
 returns-2 c = let n = c .before .before .before in done n (last-one (l n .loop .inv .tail) (l n .loop .inv .picked) (one c))
 
 mul-choose : tie.Need-mul-choose Inv-loop μ-loop
-mul-choose c = omega (arith, room (c .before .before .before), c .before .before .before .before .before .before .round .kept .0)
+mul-choose c =
+    let past-pivot = c .before .before .before in
+    let after-round = past-pivot .before .before .before in
+    omega (arith, room past-pivot, after-round .round .kept .0)
 
 sub-choose : tie.Need-sub-choose Inv-loop μ-loop
-sub-choose c = omega (arith, room (c .before .before .before), c .before .before .before .before .before .before .round .kept .0)
+sub-choose c =
+    let past-pivot = c .before .before .before in
+    let after-round = past-pivot .before .before .before in
+    omega (arith, room past-pivot, after-round .round .kept .0)
 
 part-choose-start : tie.Need-part-choose-start Inv-loop μ-loop
 part-choose-start c = let n = c .before .before .before .before in omega (arith, room n, n .before .before .before .round .kept .0)
@@ -192,7 +205,11 @@ part-choose-end : tie.Need-part-choose-end Inv-loop μ-loop
 part-choose-end c = search needs
 
 sub-choose-2 : tie.Need-sub-choose-2 Inv-loop μ-loop
-sub-choose-2 c = omega (arith, c .before .before .before .before .before .before .before .before .before .before .before .loop .inv .picked .some)
+sub-choose-2 c =
+    let after-magnitude = c .before .before .before in
+    let after-round = after-magnitude .before .before .before .before .before in
+    let turn = after-round .before .before .before in
+    omega (arith, turn .loop .inv .picked .some)
 
 choose-requires : tie.Need-choose-requires Inv-loop μ-loop
 choose-requires c κs =
@@ -203,31 +220,42 @@ choose-requires c κs =
     )
 
 same-length-5 : tie.Need-same-length-5 Inv-loop μ-loop
-same-length-5 c = same-tail (c .before .before .before .before .before .before .before .before .before)
+same-length-5 c =
+    let after-t2 = c .before .before .before .before in
+    let after-pivot = after-t2 .before .before .before .before .before in
+    same-tail after-pivot
 
 same-length-6 : tie.Need-same-length-6 Inv-loop μ-loop
-same-length-6 c = same-pivot (c .before .before .before .before .before .before .before .before .before)
+same-length-6 c =
+    let after-t2 = c .before .before .before .before in
+    let after-pivot = after-t2 .before .before .before .before .before in
+    same-pivot after-pivot
 
 returns-3 : tie.Need-returns-3 Inv-loop μ-loop
 returns-3 c =
+    let after-t2 = c .before .before .before .before in
+    let past-pivot = after-t2 .before .before .before .before in
     let z = c .before .before .choose .result in
-    done (c .before .before .before .before .before .before .before .before)
+    done past-pivot
     (sym (chosen-next (c .before .before)) ∙ sighted-none (z .row) (z .size) (c .if3 .taken))
 
 add-j : tie.Need-add-j Inv-loop μ-loop
 add-j c =
-    let n = c .before .before .before .before .before .before .before .before .before in
+    let after-t2 = c .before .before .before .before .before in
+    let n = after-t2 .before .before .before .before in
     omega (arith, chosen-low (tail-next n) (picked-next (c .before)), l n .before .fits .rows)
 
 loop-less : tie.Need-loop-less Inv-loop μ-loop
 loop-less c =
+    let after-t2 = c .before .before .before .before .before in
+    let n = after-t2 .before .before .before .before in
     let m = more (c .before) in
-    let n = c .before .before .before .before .before .before .before .before .before in
     omega (arith, m .1, ap magnitude (m .2 .choice), ap magnitude (l n .loop .inv .picked .is .choice))
 
 loop-again : tie.Need-loop-again Inv-loop μ-loop
 loop-again c =
-    let n = c .before .before .before .before .before .before .before .before .before in
+    let after-t2 = c .before .before .before .before .before in
+    let n = after-t2 .before .before .before .before in
     record {
       same = same-tail (n .before);
       wide = same-pivot (n .before);

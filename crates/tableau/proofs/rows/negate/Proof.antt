@@ -44,7 +44,10 @@ slice-copy-out-negated : tie.Need-slice-copy-out-negated Inv-loop μ-loop
 slice-copy-out-negated c = omega arith
 
 negated-requires : tie.Need-negated-requires Inv-loop μ-loop
-negated-requires c κs = rw (back _ (c .negated-arg .given), unread (c .before .before .loop .inv) (inside (c .before))) (omega (arith, within-entry (c .before .before .before .args .row .now) (c .before .before .loop .i) (c .before .before .before .pre)))
+negated-requires c κs =
+    let turn = c .before .before in
+    let start = turn .before in
+    rw (back _ (c .negated-arg .given), unread (turn .loop .inv) (inside (c .before))) (omega (arith, within-entry (start .args .row .now) (turn .loop .i) (start .pre)))
 
 mul-x : tie.Need-mul-x Inv-loop μ-loop
 mul-x c = search needs
