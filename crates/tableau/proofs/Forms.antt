@@ -118,7 +118,8 @@ module _ {p : Problem} {t a : List ℤ} (h : Formable p t a) where
       }
 
 -- ---- the buffer
-pub outcome-by : (x : Run) (t : List ℤ) {r : Bool} {u : List ℤ} → r ≡ x .over → u ≡ cond r (zeros (length t)) (flat (x .table)) → told r u ≡ outcome x t
+pub outcome-by : (x : Run) (t : List ℤ) {r : Bool} {u : List ℤ} → r ≡ x .over → u ≡ cond r (zeros (length t)) (flat (x .table))
+    → told r u ≡ outcome x t
 outcome-by x t e f = ap₂ told e (f ∙ ap (λ (o : Bool). cond o (zeros (length t)) (flat (x .table))) e)
 
 pub form-over : (p : Problem) (a t : List ℤ) → formOf p a .over ≡ true → formAfter (formOf p a) t ≡ zeros (length t)

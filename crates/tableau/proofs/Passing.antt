@@ -134,7 +134,9 @@ module _ {n w c k j : ℕ} {t : List ℤ} (h : Standing n w c k t) (l : c < w) (
       let B : List (List ℤ) = chop (n - k - 1) w (drop w (drop (k * w) t)) in
       ap (λ (T : List (List ℤ)). passColumn c (aboveOf w k t) T (choose c T)) (chop-next (n - k) w (drop (k * w) t) (g .some))
       ∙ ap (passColumn c (aboveOf w k t) (b ∷ B)) (g .is .choice)
-      ∙ ap (λ (y : Gathered). (let a : Run = each (reduced c (y .pivot)) (aboveOf w k t) in record { above = a .table ++ (y .pivot ∷ []); below = y .below; over = y .over || a .over }))
+      ∙ ap (λ (y : Gathered).
+      let a : Run = each (reduced c (y .pivot)) (aboveOf w k t) in
+      record { above = a .table ++ (y .pivot ∷ []); below = y .below; over = y .over || a .over })
       (sym (gathering-first (g .is)))
 
   pub passed-over : G .over ≡ true → passedOf n w c k t .over ≡ true
@@ -178,7 +180,9 @@ module _ {n w c k j : ℕ} {t : List ℤ} (h : Standing n w c k t) (l : c < w) (
     x-wide : All (Len w) X
     x-wide =
         all-append (Len w) (A .table) (G .pivot ∷ []) .1 (
-          each-wide w (aboveOf w k t) (stepping Above c (G .pivot)) (subst (All (Len w)) (chop-take k w (k * w) t (le-refl (k * w))) (chop-rows k w (take (k * w) t) (length-take-le (k * w) t (room-of h)))),
+          each-wide w (aboveOf w k t) (stepping Above c (G .pivot))
+              (subst (All (Len w)) (chop-take k w (k * w) t (le-refl (k * w)))
+              (chop-rows k w (take (k * w) t) (length-take-le (k * w) t (room-of h)))),
           (rows-of .wide .0, tt),
         )
 
@@ -197,7 +201,8 @@ module _ {n w c k j : ℕ} {t : List ℤ} (h : Standing n w c k t) (l : c < w) (
     x-small : All Within X
     x-small =
         all-append Within (A .table) (G .pivot ∷ []) .1 (
-          each-all (aboveOf w k t) (stepping Above c (G .pivot)) (all-flat (aboveOf w k t) (rw (above-list) (within-take (k * w) t (h .small)))) (both .1),
+          each-all (aboveOf w k t) (stepping Above c (G .pivot))
+              (all-flat (aboveOf w k t) (rw (above-list) (within-take (k * w) t (h .small)))) (both .1),
           (rows-of .small (both .0) .0, tt),
         )
 
@@ -224,7 +229,8 @@ module _ {n w c k j : ℕ} {t : List ℤ} (h : Standing n w c k t) (l : c < w) (
       front =
           subst (All (ZeroTo (c + 1))) (sym below-here)
           (rw (add-one)
-          (all-both (ZeroTo c) (λ (r : List ℤ). entry c r ≡ pos 0) (ZeroTo (suc c)) (ZeroTo-next c) (G .below) (rows-of .front .1) (rows-of .alone .lower)));
+          (all-both (ZeroTo c) (λ (r : List ℤ). entry c r ≡ pos 0) (ZeroTo (suc c)) (ZeroTo-next c) (G .below)
+          (rows-of .front .1) (rows-of .alone .lower)));
     }
 
 -- ---- a column with no choice
@@ -237,7 +243,8 @@ skipped-on {n} {w} {c} {k} {t} h e =
       small = h .small;
       front =
           rw (add-one)
-          (all-both (ZeroTo c) (λ (r : List ℤ). entry c r ≡ pos 0) (ZeroTo (suc c)) (ZeroTo-next c) B (h .front) (subst (Stands c B) e (choose-stands c B)));
+          (all-both (ZeroTo c) (λ (r : List ℤ). entry c r ≡ pos 0) (ZeroTo (suc c)) (ZeroTo-next c) B (h .front)
+          (subst (Stands c B) e (choose-stands c B)));
     }
 
 -- ---- all columns

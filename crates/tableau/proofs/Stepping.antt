@@ -82,14 +82,18 @@ step-none Above c r s p h e =
     ap (λ (q : ℤ). subtract q r s) (ap (λ (x : ℤ). floorQuotient x (entry c r)) (natAbs-zero (entry c s) e) ∙ zero-quotient p) ∙ nothing r s h
 
 -- a row with another number there
-step-is : (way : Way) (c : ℕ) (r s : List ℤ) → (natAbs (entry c s) ≡ 0 → ⊥) → rowStep way c r s ≡ subtract (quotientOf way (entry c s) (entry c r)) r s
+step-is : (way : Way) (c : ℕ) (r s : List ℤ) → (natAbs (entry c s) ≡ 0 → ⊥)
+    → rowStep way c r s ≡ subtract (quotientOf way (entry c s) (entry c r)) r s
 unfolding lowered reduced
 step-is Below c r s e = rw (ne-eqb (natAbs (entry c s)) 0 e)
 step-is Above c r s e = refl
 
 pub step-idle : (way : Way) (c : ℕ) (r s : List ℤ) → (natAbs (entry c s) ≡ 0 → ⊥) → Within s → natAbs (quotientOf way (entry c s) (entry c r)) ≡ 0
     → rowStep way c r s ≡ kept s
-step-idle way c r s e h q = step-is way c r s e ∙ ap (λ (x : ℤ). subtract x r s) (natAbs-zero (quotientOf way (entry c s) (entry c r)) q) ∙ nothing r s h
+step-idle way c r s e h q =
+    step-is way c r s e
+    ∙ ap (λ (x : ℤ). subtract x r s) (natAbs-zero (quotientOf way (entry c s) (entry c r)) q)
+    ∙ nothing r s h
 
 -- ---- the numbers from c on
 front : (c : ℕ) (q : ℤ) (r s : List ℤ) → ZeroTo c r → plus q r s ≡ take c s ++ plus q (drop c r) (drop c s)

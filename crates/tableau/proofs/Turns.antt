@@ -93,7 +93,10 @@ module _ {k w c j : ℕ} {t : List ℤ} (h : Tail k w c t) (g : Picked k w c t j
     same : gatheringOf k w c u ≡ gathering c (x .pivot) (x .below)
     same = ap₂ (gathering c) next-top next-below
 
-    pub going-on : (i p : ℕ) → choose c (x .below) ≡ at i p → (gatheringOf k w c u ≡ gatheringOf k w c t) × (p < g .size) × Chosen w c (take w u) (chop (k - 1) w (drop w u)) (i + 1) p
+    pub going-on : (i p : ℕ) → choose c (x .below) ≡ at i p
+        → (gatheringOf k w c u ≡ gatheringOf k w c t)
+        × (p < g .size)
+        × Chosen w c (take w u) (chop (k - 1) w (drop w u)) (i + 1) p
     going-on i p e =
         let n : (p < g .size) × Chosen w c (x .pivot) (x .below) (suc i) p =
         round-next (g .is) (λ (z : Choice). z ≡ at i p → (p < g .size) × Chosen w c (x .pivot) (x .below) (suc i) p)
@@ -104,7 +107,11 @@ module _ {k w c j : ℕ} {t : List ℤ} (h : Tail k w c t) (g : Picked k w c t j
         subst (λ (m : ℕ). (p < g .size) × Chosen w c (x .pivot) (x .below) (suc m) p) a
         (subst (λ (m : ℕ). (m < g .size) × Chosen w c (x .pivot) (x .below) (suc i′) m) b (l′, h′)))
         e in (
-          same ∙ sym (gathering-round (g .is) ∙ ap (λ (z : Choice). following c z x) e ∙ ap (λ (b : Bool). onward b (gathering c (x .pivot) (x .below))) o),
+          same
+              ∙ sym
+              (gathering-round (g .is)
+              ∙ ap (λ (z : Choice). following c z x) e
+              ∙ ap (λ (b : Bool). onward b (gathering c (x .pivot) (x .below))) o),
           n .0,
           subst (λ (m : ℕ). Chosen w c (take w u) (chop (k - 1) w (drop w u)) m p) (sym (add-one i)) (rw (next-top, next-below) (n .1)),
         )

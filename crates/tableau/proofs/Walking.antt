@@ -79,7 +79,8 @@ module _ {f : List ℤ → Left} {w k : ℕ} {t₀ t : List ℤ} {at left : ℕ}
   pub stops : f next .over ≡ true → each f (chop k w t₀) .over ≡ true
   stops e = sym (h .over) ∙ ap (λ (x : Run). x .over) each-apart ∙ ap (λ (b : Bool). b || each f rest .over) e
 
-  pub goes-on : Step f → (u : List ℤ) → f next .over ≡ false → u ≡ f next .row → Walk f w k t₀ (take at t ++ (u ++ drop (at + w) t)) (at + w) (left - 1)
+  pub goes-on : Step f → (u : List ℤ) → f next .over ≡ false → u ≡ f next .row
+      → Walk f w k t₀ (take at t ++ (u ++ drop (at + w) t)) (at + w) (left - 1)
   goes-on s u e d =
       let n : length u ≡ w = ap length d ∙ s .wide next ∙ row-wide (h .room) some in
       let r : at + w ≤ length t = ahead (h .room) some in

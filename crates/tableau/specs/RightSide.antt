@@ -7,7 +7,8 @@
 --   Found           "no whole numbers satisfy the rows", or the starting list and the basis
 --   Solved          what is found, the form, and whether the problem is past the elimination limit (refusal 7)
 --   rightSide m T o v   the right side v of a form T, with what is found; by `afterLeading`, from the list after the leading rows
---   listLeft m T v  the list that v has become then: after the leading rows where no whole numbers satisfy the rows, else after the others too; by `leftOf`
+--   listLeft m T v  the list that v has become then: after the leading rows where no whole numbers satisfy the rows, else after the others
+--                   too; by `leftOf`
 --   form n A        the form of the tableau of n columns and the matrix A
 --   solve n A b     the tableau and the right side of n columns, the matrix A and the right sides b
 -- "starting list" is document 01's term: the reduced representative of the coset of solutions. The basis is the kernel basis in Hermite form.

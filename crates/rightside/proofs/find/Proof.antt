@@ -73,13 +73,16 @@ part-copy-end c = search needs
 
 copy-requires : tie.Need-copy-requires
 copy-requires c κs =
-    let after-v2 = c .before .before .before .before .before in
-    let after-right-side = after-v2 .before in
+    let answered = c .before .before .before .before .before in
+    let after-right-side = answered .before in
     let after-turn-over = after-right-side .before .before .before in
     let s = after-turn-over .before .before in
     let m : ℕ = s .args .p .rows in
     let u : List ℤ = after-right-side .right-side .last .0 in
-    s .pre .start ∙ sym (ap length (tail-is m u) ∙ omega (arith, length-drop m u, after-right-side .right-side .kept .0, after-turn-over .turn-over .kept .0, work-wide (s .pre)))
+    s .pre .start
+    ∙ sym
+    (ap length (tail-is m u)
+    ∙ omega (arith, length-drop m u, after-right-side .right-side .kept .0, after-turn-over .turn-over .kept .0, work-wide (s .pre)))
 
 same-length : tie.Need-same-length
 same-length c = search needs
@@ -109,14 +112,19 @@ same-length-4 c = search needs
 
 returns-3 : tie.Need-returns-3
 returns-3 c =
-    let after-enum-told3 = c .before .before .before .before .before in
-    let n = after-enum-told3 .before .before .before in
+    let on-found = c .before .before .before .before .before in
+    let n = on-found .before .before .before in
     let s = n .before .before .before .before .before in
-    let e = sym (after-enum-told3 .enum-told3 .given .1) ∙ told n in
+    let e = sym (on-found .enum-told3 .given .1) ∙ told n in
     let m : ℕ = s .args .p .rows in
     let u : List ℤ = n .right-side .last .0 in (
       e,
-      c .before .copy .ensures ∙ tail-is m u ∙ sym (start-found (foundOf (s .args .p) (s .args .t .now) (s .args .rights .now)) (s .args .start .now) (drop m u) _ e (ap (λ (x : Solved). x .found) (sym (same n)) ∙ righted-starts _ _ _ (rw (after-enum-told3 .enum-told3 .given .1) at (n .right-side .ensures)))),
+      c .before .copy .ensures
+          ∙ tail-is m u
+          ∙ sym
+          (start-found (foundOf (s .args .p) (s .args .t .now) (s .args .rights .now)) (s .args .start .now) (drop m u) _ e
+          (ap (λ (x : Solved). x .found) (sym (same n))
+          ∙ righted-starts _ _ _ (rw (on-found .enum-told3 .given .1) at (n .right-side .ensures)))),
     )
 
 pub find-spec : {M : Type 1} → statement M

@@ -45,7 +45,7 @@ module _ (c : tie.Else1) where
   counted = c .before .before .before .before .before
 
   abbrev s-of : tie.Start
-  s-of = c .before .before .before .before .before .before
+  s-of = counted .before
 
   unmarked : sweep (leading (s-of .args .m) (T-of s-of)) (s-of .args .v .now) .over ≡ false
   unmarked = sym (early (c .before .before) .answer) ∙ c .if1 .left

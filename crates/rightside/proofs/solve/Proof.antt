@@ -61,10 +61,14 @@ returns : tie.Need-returns
 returns c =
     let after-form = c .before .before in
     let s = after-form .before .before in
-    let o : X s .over ≡ true = solved-over (s .args .p) (s .args .coefficients .now) (s .args .rights .now) (sym (after-form .form .ensures .0) ∙ c .if1 .taken) in (
+    let a = s .args in
+    let f : formOf (a .p) (a .coefficients .now) .over ≡ true = sym (after-form .form .ensures .0) ∙ c .if1 .taken in
+    let o : X s .over ≡ true = solved-over (a .p) (a .coefficients .now) (a .rights .now) f in (
       sym (answer-over (X s) o),
       (
-        after-form .form .ensures .1 ∙ form-over (s .args .p) (s .args .coefficients .now) (s .args .t .now) (sym (after-form .form .ensures .0) ∙ c .if1 .taken) ∙ sym (table-over (s .args .p) (s .args .coefficients .now) (s .args .rights .now) (s .args .t .now) o),
+        after-form .form .ensures .1
+            ∙ form-over (a .p) (a .coefficients .now) (a .t .now) f
+            ∙ sym (table-over (a .p) (a .coefficients .now) (a .rights .now) (a .t .now) o),
         sym (start-kept (X s) (s .args .start .now) o),
       ),
     )
@@ -83,10 +87,10 @@ slice-aggregate-find c =
 
 find-requires : tie.Need-find-requires
 find-requires c κs =
-    let past-t = c .before .before .before .before in
-    let after-form = past-t .before .before in
+    let kept = c .before .before .before .before in
+    let after-form = kept .before .before in
     let start = after-form .before .before in
-    findable maxWidth (start .pre) (omega (arith, start .pre .form .columns, start .pre .form .rows)) (after-form .form .kept .0) (stands past-t)
+    findable maxWidth (start .pre) (omega (arith, start .pre .form .columns, start .pre .form .rows)) (after-form .form .kept .0) (stands kept)
 
 enum-told : tie.Need-enum-told
 enum-told c = search needs
@@ -108,16 +112,17 @@ same-length-3 c = search needs
 
 returns-2 : tie.Need-returns-2
 returns-2 c =
-    let after-enum-told = c .before .before .before in
-    let m = after-enum-told .before .before .before .before in
-    let after-struct-known = m .before .before .before .before in
-    let after-form = after-struct-known .before .before .before in
+    let on-over = c .before .before .before in
+    let m = on-over .before .before .before .before in
     let n = m .before .before .before .before .before in
+    let after-form = n .before .before in
     let s = s-of n in
-    let e = sym (after-enum-told .enum-told .given .1) ∙ told m in (
+    let e = sym (on-over .enum-told .given .1) ∙ told m in (
       e,
       (
-        c .before .wipe .ensures ∙ ap zeros (after-form .form .kept .0) ∙ sym (table-over (s .args .p) (s .args .coefficients .now) (s .args .rights .now) (s .args .t .now) (solution-over (X s) e)),
+        c .before .wipe .ensures
+            ∙ ap zeros (after-form .form .kept .0)
+            ∙ sym (table-over (s .args .p) (s .args .coefficients .now) (s .args .rights .now) (s .args .t .now) (solution-over (X s) e)),
         started m,
       ),
     )
@@ -134,7 +139,8 @@ returns-3 c =
     let n = m .before .before .before .before .before in
     let s = s-of n in
     let e = sym (c .enum-told2 .given .1) ∙ told m in
-    (e, (form-is n ∙ sym (table-kept (s .args .p) (s .args .coefficients .now) (s .args .rights .now) (s .args .t .now) (solution-none (X s) e)), started m))
+    let a = s .args in
+    (e, (form-is n ∙ sym (table-kept (a .p) (a .coefficients .now) (a .rights .now) (a .t .now) (solution-none (X s) e)), started m))
 
 same-length-6 : tie.Need-same-length-6
 same-length-6 c = search needs
@@ -148,7 +154,8 @@ returns-4 c =
     let n = m .before .before .before .before .before in
     let s = s-of n in
     let e = sym (c .enum-told3 .given .1) ∙ told m in
-    (e, (form-is n ∙ sym (table-kept (s .args .p) (s .args .coefficients .now) (s .args .rights .now) (s .args .t .now) (solution-found (X s) e)), started m))
+    let a = s .args in
+    (e, (form-is n ∙ sym (table-kept (a .p) (a .coefficients .now) (a .rights .now) (a .t .now) (solution-found (X s) e)), started m))
 
 pub solve-spec : {M : Type 1} → statement M
 solve-spec =

@@ -70,11 +70,14 @@ loop-again c =
     let i : ℕ = turn .loop .i in
     record {
       most = omega (arith, entered .loop-test .taken);
-      written = goes-on (turn .loop .inv .written) (omega (arith, goal-wide b (start .args .v .now) (start .pre .0), start .pre .0, entered .loop-test .taken))
+      written = goes-on (turn .loop .inv .written)
+          (omega (arith, goal-wide b (start .args .v .now) (start .pre .0), start .pre .0, entered .loop-test .taken))
           (back (c .negated .result) (c .negated .ok)
           ∙ c .negated .ensures
           ∙ ap negℤ (back (entry i b) (c .before .negated-arg .given))
-          ∙ sym (List·getD-append (neg b) (drop (length b) (start .args .v .now)) (pos 0) i (omega (arith, length-neg b, entered .loop-test .taken)) ∙ entry-neg i b));
+          ∙ sym
+          (List·getD-append (neg b) (drop (length b) (start .args .v .now)) (pos 0) i (omega (arith, length-neg b, entered .loop-test .taken))
+          ∙ entry-neg i b));
     }
 
 same-length : tie.Need-same-length Inv-loop μ-loop
@@ -88,7 +91,9 @@ returns c =
     let v : List ℤ = start .args .v .now in
     let l = c .before .loop in
     let e : l .i ≡ length b = omega (arith, l .inv .most) in
-    l .inv .written .is ∙ ap₂ (λ (i k : ℕ). take i (goal b v) ++ drop k v) e e ∙ ap (λ (x : List ℤ). x ++ drop (length b) v) (take-at (neg b) (drop (length b) v) (length b) (length-neg b))
+    l .inv .written .is
+    ∙ ap₂ (λ (i k : ℕ). take i (goal b v) ++ drop k v) e e
+    ∙ ap (λ (x : List ℤ). x ++ drop (length b) v) (take-at (neg b) (drop (length b) v) (length b) (length-neg b))
 
 pub turn-over-spec : {M : Type 1} → statement M
 turn-over-spec =

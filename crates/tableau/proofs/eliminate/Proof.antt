@@ -41,10 +41,11 @@ same-length c = search needs
 
 returns : tie.Need-returns
 returns c =
-    let met-pivot2 = c .before .before .before in
-    let n = met-pivot2 .before .before .before in
+    let stopped = c .before .before .before in
+    let n = stopped .before .before .before in
     let start = n .before .before .before in
-    outcome-by (goal (n .before .before .before)) (start .args .t .now) (sym (met-pivot2 .if1 .taken) ∙ ran n .answer) (c .before .wipe .ensures ∙ ap zeros (n .pass-all .kept .0))
+    outcome-by (goal (n .before .before .before)) (start .args .t .now) (sym (stopped .if1 .taken) ∙ ran n .answer)
+    (c .before .wipe .ensures ∙ ap zeros (n .pass-all .kept .0))
 
 same-length-2 : tie.Need-same-length-2
 same-length-2 c = search needs

@@ -17,8 +17,10 @@ add-w c = search needs
 eliminate-requires : tie.Need-eliminate-requires
 eliminate-requires c κs =
     let after-fill = c .before .before .before in
-    let start = after-fill .before .before in
-    ((after-fill .fill .kept .0 ∙ start .pre .table, omega (arith, start .pre .columns, start .pre .rows)), subst Within (sym (after-fill .fill .ensures)) (table-within (start .pre)))
+    let start = after-fill .before .before in (
+      (after-fill .fill .kept .0 ∙ start .pre .table, omega (arith, start .pre .columns, start .pre .rows)),
+      subst Within (sym (after-fill .fill .ensures)) (table-within (start .pre)),
+    )
 
 same-length : tie.Need-same-length
 same-length c = search needs

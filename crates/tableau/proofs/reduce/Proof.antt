@@ -19,11 +19,11 @@ same-length c = search needs
 
 returns : tie.Need-returns
 returns c =
-    let met-row = c .before .before .before in
-    let after-step = met-row .before .before in
+    let stopped = c .before .before .before in
+    let after-step = stopped .before .before in
     let start = after-step .before .before in
     let x : Left = reduced (start .args .c) (start .args .pivot .now) (start .args .row .now) in
-    let e : x .over ≡ true = sym (after-step .step .ensures .answer) ∙ met-row .if1 .taken in
+    let e : x .over ≡ true = sym (after-step .step .ensures .answer) ∙ stopped .if1 .taken in
     (sym e, c .before .wipe .ensures ∙ ap zeros (after-step .step .kept .0) ∙ sym (left-by x (start .args .row .now) e))
 
 same-length-2 : tie.Need-same-length-2

@@ -16,7 +16,8 @@ use Rattle.tableau.specs.Tails.{Picked}
 use Rattle.tableau.specs.ColumnPass.{Standing, aboveOf, belowOf, passedOf, rejoined}
 use Rattle.tableau.specs.RowSteps.{StopsRun}
 use Rattle.tableau.proofs.Choosing.{sighted-none, sighted-some}
-use Rattle.tableau.proofs.Passing.{columns-over, columns-on, columns-skip, tail-of, room-of, passed-above, passed-below, passed-on, skipped-on, starts, starts-all, picked-of, ends-columns, ends-rows}
+use Rattle.tableau.proofs.Passing.{columns-over, columns-on, columns-skip, tail-of, room-of, passed-above, passed-below, passed-on}
+use Rattle.tableau.proofs.Passing.{skipped-on, starts, starts-all, picked-of, ends-columns, ends-rows}
 use Rattle.tableau.proofs.elimination.pass_all.Statement.{statement}
 use Rattle.tableau.proofs.elimination.pass_all.Tie as tie
 
@@ -51,8 +52,8 @@ chosen c =
 
 picked :
     (c : tie.Else2 Inv-loop μ-loop) →
-    let after-t = c .before .before .before .before in
-    let turn = after-t .before .before .before in
+    let lent-tail = c .before .before .before .before in
+    let turn = lent-tail .before .before .before in
     let start = turn .before in
     let l = turn .loop in
     let a = start .args in
@@ -66,8 +67,11 @@ picked c =
     (sym (chosen (c .before .before) .is) ∙ sighted-some (z .count) (z .row) (z .size) (c .if2 .left))
 
 -- the turn of a pass
+abbrev choice : tie.After-pass Inv-loop μ-loop → tie.After-choose Inv-loop μ-loop
+choice c = c .before .before .before .before .before
+
 abbrev tested : tie.After-pass Inv-loop μ-loop → tie.In-loop Inv-loop μ-loop
-tested c = c .before .before .before .before .before .before .before .before .before
+tested c = choice c .before .before .before .before
 
 abbrev turn : tie.After-pass Inv-loop μ-loop → tie.At-loop Inv-loop μ-loop
 turn c = tested c .before
@@ -130,21 +134,21 @@ choose-requires c κs =
 
 add-c : tie.Need-add-c Inv-loop μ-loop
 add-c c =
-    let after-t = c .before .before .before .before in
-    let entered = after-t .before .before in
+    let lent-tail = c .before .before .before .before in
+    let entered = lent-tail .before .before in
     omega (arith, entered .loop-test .taken)
 
 loop-less : tie.Need-loop-less Inv-loop μ-loop
 loop-less c =
-    let after-t = c .before .before .before .before in
-    let entered = after-t .before .before in
+    let lent-tail = c .before .before .before .before in
+    let entered = lent-tail .before .before in
     omega (arith, entered .loop-test .taken)
 
 loop-again : tie.Need-loop-again Inv-loop μ-loop
 loop-again c =
     let after-choose = c .before .before in
-    let after-t = after-choose .before .before in
-    let entered = after-t .before .before in
+    let lent-tail = after-choose .before .before in
+    let entered = lent-tail .before .before in
     let turn = entered .before in
     let start = turn .before in
     let a = start .args in
@@ -209,11 +213,11 @@ loop-less-2 c = omega (arith, tested (c .before .before .before) .loop-test .tak
 loop-again-2 : tie.Need-loop-again-2 Inv-loop μ-loop
 loop-again-2 c =
     let n = c .before .before .before in
-    let past-struct-known = n .before .before .before in
+    let some-chosen = n .before .before .before in
     let a = turn n .before .args in
     let l = turn n .loop in
     let f = tested n .loop-test .taken in
-    let g = picked past-struct-known in
+    let g = picked some-chosen in
     let w : ℕ = length (a .pivot .now) in
     let d : w - (l .c + 1) ≡ w - l .c - 1 = omega arith in
     let o = sym (told n .answer) ∙ c .if3 .left in
@@ -239,7 +243,8 @@ same-length-6 c = c .before .loop .inv .wide
 
 returns-3 : tie.Need-returns-3 Inv-loop μ-loop
 returns-3 c =
-    ends-columns (length (c .before .before .args .pivot .now) - c .before .loop .c) (c .before .loop .inv .stands) (c .before .loop .inv .rest) (omega (arith, c .loop-test .left))
+    let l = c .before .loop in
+    ends-columns (length (c .before .before .args .pivot .now) - l .c) (l .inv .stands) (l .inv .rest) (omega (arith, c .loop-test .left))
 
 pub pass-all-spec : {M : Type 1} → statement M
 pass-all-spec =

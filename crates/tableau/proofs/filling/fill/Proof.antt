@@ -43,7 +43,8 @@ fill-row-requires c κs =
     let turn = c .before .before in
     let start = turn .before .before in
     let w : ℕ = start .args .p .rows + start .args .p .columns in
-    ((ap length (part-is (turn .loop .at) w (turn .loop .t)) ∙ row-wide (turn .loop .inv) (start .pre .table) (c .before .loop-test .taken), c .before .loop-test .taken), start .pre .matrix)
+    let some = c .before .loop-test .taken in
+    ((ap length (part-is (turn .loop .at) w (turn .loop .t)) ∙ row-wide (turn .loop .inv) (start .pre .table) some, some), start .pre .matrix)
 
 add-j : tie.Need-add-j Inv-loop μ-loop
 add-j c = omega (arith, c .before .before .before .loop-test .taken)

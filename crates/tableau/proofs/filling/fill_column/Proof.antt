@@ -24,9 +24,13 @@ inside : (c : tie.In-loop Inv-loop μ-loop) → let a = c .before .before .args 
 inside c =
     let start = c .before .before in
     let a = start .args in
-    omega (arith, in-table (length (a .to .now)) (a .n) (a .j) (c .before .loop .i) (start .pre .1) (omega (arith, c .before .loop .inv .same)), start .pre .0)
+    let l = c .before .loop in
+    omega (arith, in-table (length (a .to .now)) (a .n) (a .j) (l .i) (start .pre .1) (omega (arith, l .inv .same)), start .pre .0)
 
-low : (c : tie.In-loop Inv-loop μ-loop) → let a = c .before .before .args in c .before .loop .i < length (column (a .j) (chop (length (a .to .now)) (a .n) (a .coefficients .now)))
+low :
+    (c : tie.In-loop Inv-loop μ-loop) →
+    let a = c .before .before .args in
+    c .before .loop .i < length (column (a .j) (chop (length (a .to .now)) (a .n) (a .coefficients .now)))
 low c =
     let a = c .before .before .args in
     omega (arith, c .before .loop .inv .same, column-length (a .j) (length (a .to .now)) (a .n) (a .coefficients .now))
@@ -62,8 +66,11 @@ loop-again : tie.Need-loop-again Inv-loop μ-loop
 loop-again c =
     let turn = c .before .before in
     let start = turn .before in
+    let a = start .args in
     goes-on (turn .loop .inv) (low (c .before))
-    (back _ (c .x .given) ∙ sym (column-number (turn .loop .i) (start .args .j) (length (start .args .to .now)) (start .args .n) (start .args .coefficients .now) (omega (arith, turn .loop .inv .same)) (start .pre .1)))
+    (back _ (c .x .given)
+    ∙ sym
+    (column-number (turn .loop .i) (a .j) (length (a .to .now)) (a .n) (a .coefficients .now) (omega (arith, turn .loop .inv .same)) (start .pre .1)))
 
 same-length : tie.Need-same-length Inv-loop μ-loop
 same-length c = c .before .loop .inv .same
@@ -71,7 +78,9 @@ same-length c = c .before .loop .inv .same
 returns : tie.Need-returns Inv-loop μ-loop
 returns c =
     let start = c .before .before in
-    ends (c .before .loop .inv) (omega (arith, c .before .loop .inv .same, column-length (start .args .j) (length (start .args .to .now)) (start .args .n) (start .args .coefficients .now)))
+    let a = start .args in
+    let i = c .before .loop .inv in
+    ends i (omega (arith, i .same, column-length (a .j) (length (a .to .now)) (a .n) (a .coefficients .now)))
 
 pub fill-column-spec : {M : Type 1} → statement M
 fill-column-spec =

@@ -23,7 +23,8 @@ same-length c = search needs
 returns : tie.Need-returns
 returns c =
     let start = c .before .before .before in
-    ap (λ (l : List ℤ). set l (start .args .j) (pos 1)) (c .before .wipe .ensures) ∙ unit-set (length (start .args .to .now)) (start .args .j) (start .pre)
+    ap (λ (l : List ℤ). set l (start .args .j) (pos 1)) (c .before .wipe .ensures)
+    ∙ unit-set (length (start .args .to .now)) (start .args .j) (start .pre)
 
 pub fill-unit-spec : {M : Type 1} → statement M
 fill-unit-spec = tie.close (tie.spec wipe-requires mul-to slice-set-of-to same-length returns)

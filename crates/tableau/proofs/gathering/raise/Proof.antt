@@ -1,6 +1,7 @@
 -- `tableau::gathering::raise` meets its contract: its test is the sign of the entry. Assumes nothing.
 use mathlib.Core.Path.{_≡_, sym, _∙_}
-use lib.IntN.{pos}
+use mathlib.Core.List.{List}
+use lib.IntN.{ℤ, pos}
 use lib.Signed.{ltZ}
 use Rattle.whole.specs.Lists.{entry}
 use Rattle.whole.proofs.Signed.{back}
@@ -32,7 +33,8 @@ returns c =
     let met-less = c .before .before .before in
     let after-less = met-less .before in
     let start = after-less .before .before in
-    c .before .negate .ensures ∙ sym (Lifting.taken (entry (start .args .c) (start .args .row .now)) (start .args .row .now) (sym (tested after-less) ∙ met-less .if1 .taken))
+    let r : List ℤ = start .args .row .now in
+    c .before .negate .ensures ∙ sym (Lifting.taken (entry (start .args .c) r) r (sym (tested after-less) ∙ met-less .if1 .taken))
 
 returns-2 : tie.Need-returns-2
 returns-2 c =

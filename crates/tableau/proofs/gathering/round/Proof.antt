@@ -41,7 +41,10 @@ each-requires c κs =
     let w : ℕ = length (start .args .pivot .now) in
     let u : List ℤ = after-lift .lift .last .0 in (
       ap length (tail-is w u) ∙ below-is-wide (start .pre .0) (start .pre .1) (after-lift .lift .ensures),
-      (pivot-is (start .pre .0) (start .pre .1) (after-lift .lift .ensures), subst Within (sym (tail-is w u)) (below-is-small (start .pre .0) (start .pre .1) (after-lift .lift .ensures))),
+      (
+        pivot-is (start .pre .0) (start .pre .1) (after-lift .lift .ensures),
+        subst Within (sym (tail-is w u)) (below-is-small (start .pre .0) (start .pre .1) (after-lift .lift .ensures)),
+      ),
     )
 
 same-length : tie.Need-same-length
@@ -52,14 +55,15 @@ same-length-2 c = search needs
 
 returns : tie.Need-returns
 returns c =
-    let after-t = c .before .before .before .before .before in
-    let after-lift = after-t .before in
+    let lent-back = c .before .before .before .before .before in
+    let after-lift = lent-back .before in
     let start = after-lift .before .before .before in
     let w : ℕ = length (start .args .pivot .now) in
     let u : List ℤ = after-lift .lift .last .0 in
     let v : List ℤ = c .before .each .last .0 in
     rw (tail-back w u v (omega (arith, after-lift .lift .kept .0, ends-inside (start .pre .0) (start .pre .1))))
-    (round-stops (start .pre .0) (start .pre .1) (after-lift .lift .ensures) (c .before .each .result) v (rw (tail-is w u) at (c .before .each .ensures)))
+    (round-stops (start .pre .0) (start .pre .1) (after-lift .lift .ensures) (c .before .each .result) v
+    (rw (tail-is w u) at (c .before .each .ensures)))
 
 pub round-spec : {M : Type 1} → statement M
 round-spec =
