@@ -8,12 +8,13 @@ use lib.IntN.{ℤ, pos}
 use lib.ListN.{length, take, drop, set}
 use lib.Seq.{drop-at, drop-drop, take-append-le}
 use Rattle.whole.specs.Lists.{zeros, entry}
+use Rattle.whole.proofs.Lists.{take-zeros, drop-zeros, entry-zeros}
 use Rattle.problem.specs.Kinds.{Slack, none, slack, slackOf, slackCount}
 use Rattle.sections.specs.Sections.{deckColumns, Line}
 use Rattle.sections.specs.StatedColumns.{placed, withSlack, coefficientRow, coefficientRows, columnWidth, cell, cells}
 use Rattle.sections.specs.declared.Interval.{Interval}
 use Rattle.sections.specs.declared.Term.{Term}
-use Rattle.sections.proofs.Storage.{length-row, drop-zeros}
+use Rattle.sections.proofs.Storage.{length-row}
 use Rattle.deck.specs.ReaderTables.{compacted, picked}
 
 -- the first n numbers of a wider row are the row of n
@@ -22,11 +23,6 @@ take-set zero u i x = refl
 take-set (suc n) [] i x = refl
 take-set (suc n) (y ∷ u) zero x = refl
 take-set (suc n) (y ∷ u) (suc i) x = ap (λ (v : List ℤ). y ∷ v) (take-set n u i x)
-
-take-zeros : (n k : ℕ) → n ≤ k → take n (zeros k) ≡ zeros n
-take-zeros zero k h = refl
-take-zeros (suc n) zero h = absurd (omega arith)
-take-zeros (suc n) (suc k) h = ap (λ (v : List ℤ). pos 0 ∷ v) (take-zeros n k (omega arith))
 
 take-placed : (n : ℕ) (ts : List Term) (u : List ℤ) → take n (placed ts u) ≡ placed ts (take n u)
 unfolding placed
@@ -86,11 +82,6 @@ module _ (f : ℕ) where
   pub picked-end : (t : List ℤ) → picked f 0 t ≡ []
   unfolding picked
   picked-end t = refl
-
-  entry-zeros : (i m : ℕ) → entry i (zeros m) ≡ pos 0
-  entry-zeros i zero = refl
-  entry-zeros zero (suc m) = refl
-  entry-zeros (suc i) (suc m) = entry-zeros i m
 
   picked-zeros : (k m : ℕ) → picked f k (zeros m) ≡ zeros k
   unfolding picked

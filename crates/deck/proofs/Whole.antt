@@ -1,7 +1,7 @@
 -- A whole text: what its sections left in the tables is the deck that they state, and what the call then leaves. Assumes nothing.
 -- ---- what a section answered
 use mathlib.Core.Path.{_≡_, refl, sym, ap, _∙_, subst}
-use mathlib.Core.Bool.{Bool, true, false, _&&_}
+use mathlib.Core.Bool.{true, false}
 use mathlib.Core.List.{List, _++_, map}
 use Prim.Native.Nat.{ℕ, _+_, _-_, _*_, _≤_, _<_}
 use native.Mathlib.Omega.{arith}
@@ -12,6 +12,7 @@ use lib.IntN.{ℤ, pos}
 use lib.ListN.{length, take, drop, replicate, length-append, length-map}
 use lib.Seq.{length-take-le}
 use Rattle.whole.specs.Lists.{zeros, entry}
+use Rattle.whole.proofs.Tests.{both-true}
 use Rattle.text.specs.Overwriting.{overwritten}
 use Rattle.text.specs.Positions.{nextAt}
 use Rattle.text.specs.declared.Token.{Token}
@@ -212,16 +213,12 @@ pub record Largest (B : DeckBuffers) : Type 0 where
   pub upper : length (B .upper) ≡ deckColumns
   pub goals : length (B .goals) ≡ deckColumns
 
-both : (a b : Bool) → a && b ≡ true → (a ≡ true) × (b ≡ true)
-both true b h = (refl, h)
-both false b h = absurd (subst T (sym h) tt)
-
 pub sizes : (B : DeckBuffers) → lengthsFit B ≡ true → Largest B
 sizes B h =
-    let a = both (eqb (length (B .coefficients)) (coefficientCount)) _ h in
-    let b = both (eqb (length (B .rights)) deckRows) _ (a .1) in
-    let c = both (eqb (length (B .lower)) deckColumns) _ (b .1) in
-    let d = both (eqb (length (B .upper)) deckColumns) _ (c .1) in
+    let a = both-true (eqb (length (B .coefficients)) (coefficientCount)) _ h in
+    let b = both-true (eqb (length (B .rights)) deckRows) _ (a .1) in
+    let c = both-true (eqb (length (B .lower)) deckColumns) _ (b .1) in
+    let d = both-true (eqb (length (B .upper)) deckColumns) _ (c .1) in
     record {
       coefficients = eqb-true (length (B .coefficients)) (coefficientCount) (a .0);
       rights = eqb-true (length (B .rights)) deckRows (b .0);

@@ -22,7 +22,8 @@ use Rattle.lattice.proofs.FlatLaws.{length-chop, chop-flat}
 use Rattle.problem.specs.Limits.{M, maxCoefficient, maxRight}
 use Rattle.tableau.specs.Within.{Within}
 use Rattle.problem.specs.Checks.{Posed, allSpan}
-use Rattle.problem.proofs.CheckLaws.{Passes, Fits, fits, both-true}
+use Rattle.whole.proofs.Tests.{both-true}
+use Rattle.problem.proofs.CheckLaws.{Passes, Fits, fits}
 use Rattle.problem.specs.declared.Lent.{Lent}
 use Rattle.tableau.specs.Table.{tableau}
 use Rattle.tableau.specs.Elimination.{Left}

@@ -29,7 +29,8 @@ use Rattle.lattice.proofs.Coset.{coset-self}
 use Rattle.problem.specs.Limits.{anyBeyond}
 use Rattle.problem.specs.Answers.{noSteps}
 use Rattle.problem.specs.Checks.{Posed}
-use Rattle.problem.proofs.CheckLaws.{both-true, passes, fits}
+use Rattle.whole.proofs.Tests.{both-true}
+use Rattle.problem.proofs.CheckLaws.{passes, fits}
 use Rattle.problem.specs.declared.Refusal.the-variants.{Standing}
 use Rattle.tableau.specs.RightSide.{Found, none, some}
 use Rattle.tableau.specs.Generators.{Tells, Sized}

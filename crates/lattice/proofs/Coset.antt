@@ -1,5 +1,7 @@
--- The laws of specs/Coset.
+-- Laws of the cosets of a row span, and the reduced list of a coset.
+--   coset-..           u and v are of one coset of T if `Span T (minus u v)`: of itself, one after the other, turned round, under a sum
 --   residue H v        v reduced by the rows of H, top first: the floor quotient times each row taken away
+--   residue-..         its length; it is reduced; it is of v's coset; it stands for v; it is the only such list; lists of one coset have one
 --   describes-unique   a set has only one description
 -- Assumes nothing.
 use mathlib.Core.Path.{_≡_, refl, sym, _∙_, ap, subst}

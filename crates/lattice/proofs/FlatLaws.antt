@@ -1,7 +1,8 @@
 -- Laws of tables in one list, row after row.
 --   flat-append, flat-chop, chop-flat   rows put end to end; a list cut into rows is that list; rows put end to end and cut are those rows
---   chop-rows, length-chop              the rows have the width; there are as many as asked for
---   chop-split, chop-take               the first a rows, and b more
+--   first-wide, chop-rows, length-chop  the rows have the width; there are as many as asked for
+--   chop-split, chop-take               the first a rows, and b more; rows in the front of a list
+--   one-less, chop-next                 the first row, and those behind it
 --   length-flat, front-rows, front-rest rows in one list: how long it is; the rows in front of a list, and that list
 --   chop-row, chop-set                  row j of a table; row j replaced
 --   row-number                          a number of row j, in the list
@@ -59,7 +60,9 @@ chop-split (suc a) b w t =
     let e : suc a + b ≡ suc (a + b) = omega arith in
     ap (λ (n : ℕ). chop n w t) e
     ∙ ap (λ (T : List (List ℤ)). take w t ∷ T)
-    (chop-split a b w (drop w t) ∙ ap (λ (l : List ℤ). chop a w (drop w t) ++ chop b w l) (drop-drop (a * w) w t ∙ ap (λ (n : ℕ). drop n t) (sym (suc-mul a w ∙ back a w))))
+    (chop-split a b w (drop w t)
+    ∙ ap (λ (l : List ℤ). chop a w (drop w t) ++ chop b w l)
+    (drop-drop (a * w) w t ∙ ap (λ (n : ℕ). drop n t) (sym (suc-mul a w ∙ back a w))))
   where
     back : (a w : ℕ) → a * w + w ≡ w + a * w
     back a w = omega arith
@@ -96,7 +99,11 @@ module _ (k w : ℕ) (T : List (List ℤ)) (l : List ℤ) (a : All (Len w) T) (e
   pub front-rest : drop (k * w) (flat T ++ l) ≡ l
   front-rest = drop-at (flat T) l (k * w) rows-end
 
--- the first of k rows, at the code's k − 1
+-- ---- the first of k rows, at the code's k − 1
+pub one-less : (k w : ℕ) → 0 < k → k * w ≡ w + (k - 1) * w
+one-less zero w p = absurd (omega arith)
+one-less (suc k) w p = let e : suc k - 1 ≡ k = omega arith in rw e (omega (arith, suc-mul k w))
+
 pub chop-next : (k w : ℕ) (t : List ℤ) → 0 < k → chop k w t ≡ take w t ∷ chop (k - 1) w (drop w t)
 chop-next zero w t h = absurd (omega arith)
 chop-next (suc k) w t h = ap (λ (m : ℕ). take w t ∷ chop m w (drop w t)) {x = k} {y = suc k - 1} (omega arith)

@@ -1,9 +1,10 @@
--- The laws of specs/Hermite.
---   past m H            the rows whose lead lies past the first m columns, without these
---   rows-led            so has each row of a Hermite form
---   rows-rising         so they do in a Hermite form, from column 0 on
+-- Laws of row Hermite forms: their leads, what they span, and that a form is the only one of its span.
+--   rows-led            each row of a Hermite form has the form's width, and a lead above 0
+--   rows-rising         the leads of its rows rise, from column 0 on
 --   rising-parts        and so they do in the rows of each of two parts
 --   span-indent, -pivot the span of a table behind a column of zeros, and below a pivot's row
+--   past m H            the rows whose lead lies past the first m columns, without these
+--   past-..             their width, their form, what is reduced by them, what they span
 --   reduced-unique      of the lists that differ by a list of the span at most one is reduced
 --   reduced-head        a reduced list of the coset of (m zeros, u) begins with m zeros
 --   hermite-unique      two Hermite forms of one span are the same
@@ -18,7 +19,8 @@ use lib.IntN.{ℤ, pos, negsuc, _+ℤ_, _*ℤ_}
 use lib.Signed.{≤ℤ-refl}
 use Rattle.whole.specs.Lists.{zeros}
 use Rattle.whole.specs.Tests.{positive, Positive}
-use Rattle.whole.proofs.Integers.{rep, diff-rel, positive-above, positive-nonzero, multiple-zero, multiple-small, multiple-both, multiple-self, add-none}
+use Rattle.whole.proofs.Integers.{rep, diff-rel, add-none, positive-above, positive-nonzero}
+use Rattle.whole.proofs.Integers.{multiple-zero, multiple-small, multiple-both, multiple-self}
 use Rattle.lattice.specs.Rows.{plus, minus, ZeroTo, lead}
 use Rattle.lattice.proofs.RowLaws.{plus-none}
 use Rattle.lattice.specs.Span.{All, Span, Same}
@@ -83,7 +85,7 @@ span-indent (r ∷ T) x v = (
   (λ s. (s .1 .0, span-indent T _ _ .1 (add-none (s .1 .0) x (pos 0) refl ∙ s .0, s .1 .1))),
 )
 
-pub span-pivot : {p : ℤ} (r : List ℤ) (T : List (List ℤ)) (v : List ℤ) → Positive p → Span ((p ∷ r) ∷ indent T) (pos 0 ∷ v) ↔ Span T v
+span-pivot : {p : ℤ} (r : List ℤ) (T : List (List ℤ)) (v : List ℤ) → Positive p → Span ((p ∷ r) ∷ indent T) (pos 0 ∷ v) ↔ Span T v
 unfolding plus
 span-pivot {p} r T v h = (
   (λ s.

@@ -7,4 +7,5 @@ pub mod Span
 pub mod Hermite
 pub mod RowLaws
 pub mod FlatLaws
+pub mod RowsAhead
 pub mod SumLaws

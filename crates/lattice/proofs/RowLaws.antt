@@ -1,16 +1,17 @@
 -- Laws of rows: of plus, minus and neg, of zeros, and of entries.
 --   length-..               the lengths
---   plus-none .. -take      v + c r: no multiple; multiples of one row add up; those of two rows may change places; a multiple of a sum; of a
+--   plus-none .. -append    v + c r: no multiple; multiples of one row add up; those of two rows may change places; a multiple of a sum; of a
 --                           negated row; of zeros; once a row and zeros; of rows end to end. Lengths are asked for only where a sum is
 --                           itself taken times a number
 --   minus-..                u − v by way of w; turned round; of two sums; of a sum and one of its parts; behind m zeros
 --   Zero-.., ZeroTo-..      what zeros are, and what keeps them
---   entry-..                the number at a place of a sum, a negated row, zeros, a unit list
+--   entry-..                the number at a place of a sum, a negated row, a unit list
+--   allZero-Zero            what the test for zeros says
 --   lead-behind             a lead at column c or behind, looked for from there on
 -- Assumes nothing.
 use mathlib.Core.Path.{_≡_, refl, sym, _∙_, ap, ap₂, subst}
 use mathlib.Core.Logic.{_↔_}
-use mathlib.Core.Bool.{Bool, true, false, _&&_, false≢true}
+use mathlib.Core.Bool.{Bool, true, _&&_}
 use mathlib.Core.List.{List, [], _∷_, _++_}
 use Prim.Native.Nat.{ℕ, zero, suc, _+_, _<_, _≤_}
 use native.Mathlib.Omega.{arith}
@@ -19,6 +20,7 @@ use lib.Seq.{take-all}
 use lib.IntN.{ℤ, pos, negsuc, negℤ, _+ℤ_, _*ℤ_, +ℤ-invr}
 use Rattle.whole.specs.Lists.{entry, zeros}
 use Rattle.whole.specs.Tests.{isZero}
+use Rattle.whole.proofs.Tests.{both-true}
 use Rattle.whole.proofs.Integers.{rep, diff-rel, add-none, isZero-true}
 use Rattle.lattice.specs.Rows.{plus, minus, neg, unit, Zero, ZeroTo, allZero, lead}
 
@@ -106,7 +108,7 @@ plus-append c [] (x ∷ v) s w l = absurd (omega arith)
 plus-append c (y ∷ r) [] s w l = absurd (omega arith)
 plus-append c (y ∷ r) (x ∷ v) s w l = ap (λ (t : List ℤ). (x +ℤ c *ℤ y) ∷ t) (plus-append c r v s w (omega arith))
 
-pub plus-take : (m : ℕ) (c : ℤ) (r v : List ℤ) → take m (plus c r v) ≡ plus c (take m r) (take m v)
+plus-take : (m : ℕ) (c : ℤ) (r v : List ℤ) → take m (plus c r v) ≡ plus c (take m r) (take m v)
 unfolding plus
 plus-take zero c r v = refl
 plus-take (suc m) c [] v = refl
@@ -210,11 +212,6 @@ entry-neg i [] = refl
 entry-neg zero (x ∷ r) = refl
 entry-neg (suc i) (x ∷ r) = entry-neg i r
 
-pub entry-zeros : (i n : ℕ) → entry i (zeros n) ≡ pos 0
-entry-zeros i zero = refl
-entry-zeros zero (suc n) = refl
-entry-zeros (suc i) (suc n) = entry-zeros i n
-
 pub entry-unit-at : (n j : ℕ) → j < n → entry j (unit n j) ≡ pos 1
 entry-unit-at zero j h = absurd (omega arith)
 entry-unit-at (suc n) zero h = refl
@@ -231,13 +228,9 @@ pub allZero-Zero : (v : List ℤ) → (allZero v ≡ true) ↔ Zero v
 unfolding allZero
 allZero-Zero [] = ((λ t. tt), (λ z. refl))
 allZero-Zero (x ∷ v) = (
-  go (isZero x) (isZero-true x) (allZero-Zero v .0),
+  (λ t. let d = both-true (isZero x) (allZero v) t in (isZero-true x (d .0), allZero-Zero v .0 (d .1))),
   (λ z. ap₂ (λ (y : ℤ) (b : Bool). isZero y && b) (z .0) (allZero-Zero v .1 (z .1))),
 )
-  where
-    go : (b : Bool) → (b ≡ true → x ≡ pos 0) → (allZero v ≡ true → Zero v) → (b && allZero v) ≡ true → (x ≡ pos 0) × Zero v
-    go true f g t = (f refl, g t)
-    go false f g t = absurd (false≢true t)
 
 -- ---- leads
 pub lead-behind : (c : ℕ) (r : List ℤ) → c ≤ lead r → c + lead (drop c r) ≡ lead r

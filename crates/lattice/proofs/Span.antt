@@ -1,5 +1,8 @@
--- The laws of specs/Span.
---   front, back         a row brought past others
+-- Laws of row spans and of the elementary row steps.
+--   all-..              properties of all rows
+--   span-..             the span has zeros, each row, multiples and sums
+--   front, back, unders a row brought past others, and steps below others
+--   steps-..            the steps keep what negation and sums keep, the rows' number and lengths, the span, and independence
 --   independent-nonzero there is no row of zeros among independent rows
 -- Assumes nothing.
 use mathlib.Core.Path.{_≡_, refl, sym, _∙_, ap, subst}
@@ -13,7 +16,8 @@ use Rattle.whole.specs.Lists.{entry, zeros}
 use Rattle.whole.specs.Tests.{positive}
 use Rattle.whole.proofs.Integers.{rep, diff-rel, add-none, positive-nonzero}
 use Rattle.lattice.specs.Rows.{plus, minus, neg, Zero}
-use Rattle.lattice.proofs.RowLaws.{length-plus, length-neg, plus-none, plus-plus, plus-comm, plus-nest, plus-neg, plus-zeros, Zero-minus, Zero-plus, Zero-zeros, entry-plus}
+use Rattle.lattice.proofs.RowLaws.{length-plus, length-neg, plus-none, plus-plus, plus-comm, plus-nest, plus-neg, plus-zeros}
+use Rattle.lattice.proofs.RowLaws.{Zero-minus, Zero-plus, Zero-zeros, entry-plus}
 use Rattle.lattice.specs.Span.{All, Independent, Len, Span, _~_, same, _then_, under, swap, sign, add}
 
 -- ---- all rows

@@ -1,8 +1,8 @@
 -- Laws of dot and sums: they are linear.
---   dot-plus, sums-plus    of v + c u: the sums of v, and c times those of u
---   dot-unit, sums-unit    of a unit list: one number of each row
---   dot-Zero, sums-Zero    of zeros: zeros
---   length-sums            as many as rows
+--   sums-plus     of v + c u: the sums of v, and c times those of u
+--   sums-unit     of a unit list: one number of each row
+--   sums-Zero     of zeros: zeros
+--   length-sums   as many as rows
 -- Assumes nothing.
 use mathlib.Core.Path.{_≡_, refl, sym, _∙_, ap, ap₂}
 use mathlib.Core.List.{List, [], _∷_, map}
@@ -17,7 +17,7 @@ use Rattle.lattice.specs.Sums.{dot, sums}
 use Rattle.lattice.proofs.RowLaws.{Zero-zeros}
 use Rattle.lattice.specs.Span.{All, Len}
 
-pub dot-plus : (a : List ℤ) (c : ℤ) (u v : List ℤ) → length u ≡ length v → dot a (plus c u v) ≡ dot a v +ℤ c *ℤ dot a u
+dot-plus : (a : List ℤ) (c : ℤ) (u v : List ℤ) → length u ≡ length v → dot a (plus c u v) ≡ dot a v +ℤ c *ℤ dot a u
 unfolding dot plus
 dot-plus [] c u v l = sym (add-none c (pos 0) (pos 0) refl)
 dot-plus (a ∷ r) c [] [] l = sym (add-none c (pos 0) (pos 0) refl)
@@ -28,13 +28,13 @@ dot-plus (a ∷ r) c (y ∷ u) (x ∷ v) l = ap (λ (t : ℤ). t +ℤ (x +ℤ c 
     regroup : (s t : ℤ) → s +ℤ c *ℤ t +ℤ (x +ℤ c *ℤ y) *ℤ a ≡ s +ℤ x *ℤ a +ℤ c *ℤ (t +ℤ y *ℤ a)
     regroup s t = rw (rep s, rep t, rep c, rep x, rep y, rep a) (simp diff-rel (omega arith))
 
-pub dot-Zero : (a v : List ℤ) → Zero v → dot a v ≡ pos 0
+dot-Zero : (a v : List ℤ) → Zero v → dot a v ≡ pos 0
 unfolding dot
 dot-Zero [] v z = refl
 dot-Zero (a ∷ r) [] z = refl
 dot-Zero (a ∷ r) (x ∷ v) z = ap₂ (λ (s y : ℤ). s +ℤ y *ℤ a) (dot-Zero r v (z .1)) (z .0) ∙ ap (λ (s : ℤ). pos 0 +ℤ s) (zero-*ℤ a)
 
-pub dot-unit : (a : List ℤ) (n j : ℕ) → length a ≤ n → dot a (unit n j) ≡ entry j a
+dot-unit : (a : List ℤ) (n j : ℕ) → length a ≤ n → dot a (unit n j) ≡ entry j a
 unfolding dot
 dot-unit [] n j l = refl
 dot-unit (a ∷ r) zero j l = absurd (omega arith)

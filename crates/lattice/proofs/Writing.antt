@@ -1,9 +1,9 @@
 -- Laws of a loop that writes a list of numbers from the left.
 --   WrittenTo t₀ g t i   the first i numbers of t are those of g, and the others are still those of t₀, which is as long
---   starts, goes-on    it holds at 0 of t₀ itself, and at i + 1 once g's number is stored at i
---   passes             and further on where t₀'s numbers are those of g
---   ends               past the last number t is g
---   unread             the number at i is still that of t₀
+--   starts, goes-on      it holds at 0 of t₀ itself, and at i + 1 once g's number is stored at i
+--   passes               and further on where t₀'s numbers are those of g
+--   ends                 past the last number t is g
+--   unread               the number at i is still that of t₀
 -- Assumes nothing.
 use mathlib.Core.Path.{_≡_, refl, _∙_, ap, ap₂}
 use mathlib.Core.List.{List, [], _∷_, _++_, append-nil}

@@ -1,9 +1,6 @@
--- Cosets of a row span, and the reduced list of a coset.
+-- Cosets of a row span: u and v are of one coset of T if `Span T (minus u v)`.
 --   Describes n Q s N  the lists of n numbers with the property Q are s and the whole combinations of N added to it; N is in Hermite form and s is
 --                      reduced by it
---   coset-..           u and v are of one coset of T if `Span T (minus u v)`: turned round, one after the other, under a sum
---   residue-..         the residue's length; it is reduced; it is of v's coset; it stands for v; it is the only such list; lists of one
---                      coset have one
 -- Assumes nothing.
 use mathlib.Core.Path.{_≡_}
 use mathlib.Core.Logic.{_↔_}

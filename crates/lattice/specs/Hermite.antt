@@ -1,4 +1,4 @@
--- Row Hermite forms, built column by column, and that a form is the only one of its span.
+-- Row Hermite forms, built column by column.
 --   Echelon             the shape: `done`, no column; `skip H`, a column of zeros before H; `step p r H`, the row p ∷ r above, and a column of
 --                       zeros before H
 --   width H, rows H     the number of columns, and the table
@@ -7,7 +7,6 @@
 --   Hermite H           the leads are above 0, and each row is reduced by the rows below it
 --   Led n r             r has n numbers, and a lead above 0
 --   Rising c T          T's leads rise: the first row's lies at column c or behind, each further row's behind the lead above it
---   past-..             the rows past m columns: their width, their form, what is reduced by them, what they span
 -- Assumes nothing.
 use mathlib.Core.Path.{_≡_}
 use mathlib.Core.List.{List, [], _∷_, map}

@@ -1,4 +1,4 @@
--- The root of the definitions and of the lattice's laws.
+-- The root of the definitions.
 pub mod Rows
 pub mod Sums
 pub mod Span

@@ -6,6 +6,7 @@
 --   Zero v        every number of v is 0
 --   ZeroTo c v    the first c numbers are 0
 --   allZero r     the test: every number is 0
+--   leadAt x k    the lead's column, where x stands before a row whose lead is at k
 --   lead r        the column of the first number other than 0; r's length if there is none
 --   flat T        a table's rows one after the other, as they lie in a buffer
 --   chop k w l    the first k rows of w numbers of a buffer
@@ -47,7 +48,6 @@ unfoldable pub allZero : List ℤ → Bool
 allZero [] = true
 allZero (x ∷ r) = isZero x && allZero r
 
--- the lead's column, where x stands before a row whose lead is at k
 abbrev pub leadAt : ℤ → ℕ → ℕ
 leadAt (pos zero) k = suc k
 leadAt (pos (suc n)) k = 0

@@ -5,9 +5,6 @@
 --   Same n T U          T and U span the same lists of n numbers
 --   Independent n T     of n columns: only 0 times a row lies in the span of the rows below it
 --   T ~ U               U comes from T by elementary row steps: exchange of neighbours, negation, adding a multiple of a row to the next one
---   all-..              properties of all rows
---   span-..             the span has zeros, each row, multiples and sums
---   steps-..            the steps keep what negation and sums keep, the rows' number and lengths, the span, and independence
 -- Assumes nothing.
 use mathlib.Core.Path.{_≡_}
 use mathlib.Core.Logic.{_↔_}

@@ -1,32 +1,75 @@
 -- What a problem that passes the checks has.
+--   tested-at     what a test of a column's numbers in two lists answers, where the machine reads them back
+--   Room p, room  a problem of the allowed sizes has lengths that a usize holds
+--   same-lengths  the columns' lists are equally long, once their lengths have passed
 --   Passes P L    each of the tests of causes 1 to 6 holds
 --   passes        so it is where no cause is named
+--   all-small     how large a list's numbers are, by the test over the list
 --   Fits P L      in numbers: sizes, lengths, and how large the numbers of each list are, at every place
 --   fits          so it is
---   both-true     both of two tests hold
---   all-small     how large a list's numbers are, by the test over the list
 -- Assumes nothing.
-use mathlib.Core.Path.{_≡_, refl, sym, _∙_, ap, subst}
-use mathlib.Core.Bool.{Bool, true, false, _&&_, _||_}
+use mathlib.Core.Path.{_≡_, refl, sym, _∙_, ap, ap₂, subst}
+use mathlib.Core.Bool.{Bool, true, false, _||_}
 use mathlib.Core.List.{List}
-use Prim.Native.Nat.{ℕ, _+_, _*_, _<_, _≤_}
+use Prim.Native.Nat.{ℕ, _+_, _*_, _^_, _<_, _≤_}
+use native.Mathlib.Nat.{mul-le-mul, lt-of-le-of-lt}
 use native.Mathlib.Omega.{arith}
 use borrow.Author.Tests.{leb-true, eqb-true, ltb-true, ltb-false}
-use lib.Dec.{leb, eqb, ltb}
-use lib.IntN.{ℤ, pos, negsuc, natAbs}
+use lib.Dec.{leb, eqb, ltb, lit<}
+use lib.IntN.{ℤ, pos, natAbs}
 use lib.ListN.{length, List·getD-eq-default}
-use lib.Signed.{leZ}
+use lib.Signed.{leZ, mag}
+use mir.Syntax.{w64}
+use mir.Val.{toZ, ofZ}
+use mir.Val as Val
 use Rattle.whole.specs.Lists.{entry}
 use Rattle.whole.specs.Tests.{isZero, spans, inRange}
+use Rattle.whole.proofs.Tests.{both-true, all-true, range-small}
+use Rattle.whole.proofs.Signed.{back}
 use Rattle.whole.proofs.Counted.{every-at}
-use Rattle.problem.specs.Limits.{maxColumns, maxRows, maxCoefficient, maxRight, maxBound, maxGoal, maxSteps}
-use Rattle.problem.specs.Checks.{Posed, sizesFit, rowLengthsFit, columnLengthsFit, lentFit, allSpan, rowsFit, boundFits, boundsFit, goalFits, goalsFit, limitFits, orNext, firstCause}
+use Rattle.problem.specs.Limits.{maxColumns, maxRows, maxCoefficient, maxRight, maxBound, maxGoal}
+use Rattle.problem.specs.Checks.{Posed, sizesFit, rowLengthsFit, columnLengthsFit, lentFit, allSpan, rowsFit}
+use Rattle.problem.specs.Checks.{boundFits, boundsFit, goalFits, goalsFit, limitFits, orNext, firstCause}
+use Rattle.problem.specs.declared.Problem.{Problem}
 use Rattle.problem.specs.declared.Lent.{Lent}
 use Rattle.problem.specs.declared.Refusal.{Refusal}
 use Rattle.problem.specs.declared.Refusal.the-variants.{Size, Length, Coefficient, Bound, Goal, Limit}
 use Rattle.problem.specs.declared.Check.{Check}
 use Rattle.problem.specs.declared.Check.the-variants.{Passed}
 
+-- ---- the code's tests
+pub tested-at : (f : ℤ → ℤ → Bool) (l m : List ℤ) (j : ℕ) {r : Bool} → mag (entry j l) < 2 ^ 63 → mag (entry j m) < 2 ^ 63
+    → r ≡ f (toZ w64 (ofZ w64 (entry j l))) (toZ w64 (ofZ w64 (entry j m))) → r ≡ f (entry j l) (entry j m)
+tested-at f l m j a b e = e ∙ ap₂ f (back (entry j l) a) (back (entry j m) b)
+
+pub record Room (p : Problem) : Type 0 where
+  pub table : Val.Fits w64 (p .rows * p .columns)
+  pub width : Val.Fits w64 (p .rows + p .columns)
+  pub tableau : Val.Fits w64 (p .columns * (p .rows + p .columns))
+
+product : (a b : ℕ) → a ≤ maxColumns → b ≤ maxRows + maxColumns → Val.Fits w64 (a * b)
+product a b h k = record { fits = lt-of-le-of-lt (mul-le-mul {n₂ = maxColumns} {m₂ = maxRows + maxColumns} h k) (lit< tt) }
+
+pub room : (p : Problem) → sizesFit maxColumns maxRows p ≡ true → Room p
+room p e =
+    let tests = all-true (leb 1 (p .columns)) (leb (p .columns) maxColumns) (leb (p .rows) maxRows) e in
+    let columns : p .columns ≤ maxColumns = leb-true _ _ (tests .1) in
+    let rows : p .rows ≤ maxRows = leb-true _ _ (tests .2) in
+    record {
+      table = product (p .rows) (p .columns) (omega arith) (omega arith);
+      width = omega arith;
+      tableau = product (p .columns) (p .rows + p .columns) (omega arith) (omega arith);
+    }
+
+pub same-lengths :
+    (p : Problem) (lower upper goals : List ℤ) → columnLengthsFit p lower upper goals ≡ true
+    → (length upper ≡ length lower) × (length goals ≡ length lower)
+same-lengths p lower upper goals e =
+    let tests = all-true (eqb (length lower) (p .columns)) (eqb (length upper) (p .columns)) (eqb (length goals) (p .columns)) e in
+    let l : length lower ≡ p .columns = eqb-true _ _ (tests .0) in
+    (eqb-true _ _ (tests .1) ∙ sym l, eqb-true _ _ (tests .2) ∙ sym l)
+
+-- ---- what no cause leaves
 pub record Passes (P : Posed) (L : Lent) : Type 0 where
   pub sizes : sizesFit maxColumns maxRows (P .problem) ≡ true
   pub row-lengths : rowLengthsFit (P .problem) (P .coefficients) (P .rights) ≡ true
@@ -38,7 +81,6 @@ pub record Passes (P : Posed) (L : Lent) : Type 0 where
   pub limit : limitFits (P .problem) ≡ true
 
 pub record Fits (P : Posed) (L : Lent) : Type 0 where
-  pub some-columns : 1 ≤ P .problem .columns
   pub few-columns : P .problem .columns ≤ maxColumns
   pub few-rows : P .problem .rows ≤ maxRows
   pub coefficients-long : length (P .coefficients) ≡ P .problem .rows * P .problem .columns
@@ -55,7 +97,6 @@ pub record Fits (P : Posed) (L : Lent) : Type 0 where
   pub upper-small : (j : ℕ) → natAbs (entry j (P .upper)) ≤ maxBound
   pub goals-small : (j : ℕ) → natAbs (entry j (P .goals)) ≤ maxGoal
   pub goal-above : (j : ℕ) → isZero (entry j (P .goals)) || leZ (pos 1) (entry j (P .lower)) ≡ true
-  pub few-steps : P .problem .limit ≤ maxSteps
 
 both : (t : Bool) (why : Refusal) (next : Check) → orNext t why next ≡ Passed → (t ≡ true) × (next ≡ Passed)
 both true why next e = (refl, e)
@@ -83,14 +124,7 @@ passes P L e =
       limit = i .0;
     }
 
--- ---- tests
-pub both-true : (a b : Bool) → a && b ≡ true → (a ≡ true) × (b ≡ true)
-both-true true b e = (refl, e)
-both-true false b e = absurd (let z : _≡_ {A = ℕ} 0 1 = cc in omega arith)
-
-all-true : (a b c : Bool) → a && (b && c) ≡ true → (a ≡ true) × (b ≡ true) × (c ≡ true)
-all-true a b c e = let x : (a ≡ true) × (b && c ≡ true) = both-true a (b && c) e in (x .0, both-true b c (x .1) .0, both-true b c (x .1) .1)
-
+-- ---- how large the numbers are
 -- what holds of a list's numbers, and of 0, holds at every place
 every-place : (Q : ℤ → Type 0) (l : List ℤ) → ((j : ℕ) → j < length l → Q (entry j l)) → Q (pos 0) → (j : ℕ) → Q (entry j l)
 every-place Q l f z j = go (ltb j (length l)) refl
@@ -104,10 +138,6 @@ spans-small k l f = every-place (λ (x : ℤ). natAbs x ≤ k) l (λ j h. leb-tr
 
 pub all-small : (k : ℕ) (l : List ℤ) → allSpan k l ≡ true → (j : ℕ) → natAbs (entry j l) ≤ k
 all-small k l e = spans-small k l (λ j h. every-at (length l) (λ i. spans k (entry i l)) j e h)
-
-range-small : (k : ℕ) (x : ℤ) → inRange (pos 0) (pos k) x ≡ true → natAbs x ≤ k
-range-small k (pos n) e = leb-true n k (both-true (leb 0 n) (leb n k) e .1)
-range-small k (negsuc n) e = absurd (let z : _≡_ {A = ℕ} 0 1 = cc in omega arith)
 
 module _ (P : Posed) (L : Lent) (f : Passes P L) where
   n : ℕ
@@ -132,12 +162,17 @@ module _ (P : Posed) (L : Lent) (f : Passes P L) where
   unfolding n m
   lent-long = all-true (eqb (L .tableau) (n * (m + n))) (eqb (L .values) n) (eqb (L .strides) n) (f .lent)
 
-  bound-at : (j : ℕ) → j < length (P .lower) → (spans maxBound (entry j (P .lower)) ≡ true) × (spans maxBound (entry j (P .upper)) ≡ true) × (leZ (entry j (P .lower)) (entry j (P .upper)) ≡ true)
+  bound-at : (j : ℕ) → j < length (P .lower)
+      → (spans maxBound (entry j (P .lower)) ≡ true)
+      × (spans maxBound (entry j (P .upper)) ≡ true)
+      × (leZ (entry j (P .lower)) (entry j (P .upper)) ≡ true)
   bound-at j h =
       all-true (spans maxBound (entry j (P .lower))) (spans maxBound (entry j (P .upper))) (leZ (entry j (P .lower)) (entry j (P .upper)))
       (every-at (length (P .lower)) (λ j. boundFits (entry j (P .lower)) (entry j (P .upper))) j (f .bounds) h)
 
-  goal-at : (j : ℕ) → j < length (P .lower) → (inRange (pos 0) (pos maxGoal) (entry j (P .goals)) ≡ true) × (isZero (entry j (P .goals)) || leZ (pos 1) (entry j (P .lower)) ≡ true)
+  goal-at : (j : ℕ) → j < length (P .lower)
+      → (inRange (pos 0) (pos maxGoal) (entry j (P .goals)) ≡ true)
+      × (isZero (entry j (P .goals)) || leZ (pos 1) (entry j (P .lower)) ≡ true)
   goal-at j h =
       both-true (inRange (pos 0) (pos maxGoal) (entry j (P .goals))) (isZero (entry j (P .goals)) || leZ (pos 1) (entry j (P .lower)))
       (every-at (length (P .lower)) (λ j. goalFits (entry j (P .lower)) (entry j (P .goals))) j (f .goals) h)
@@ -161,7 +196,6 @@ module _ (P : Posed) (L : Lent) (f : Passes P L) where
       let rows : (allSpan maxCoefficient (P .coefficients) ≡ true) × (allSpan maxRight (P .rights) ≡ true) =
       both-true (allSpan maxCoefficient (P .coefficients)) (allSpan maxRight (P .rights)) (f .rows) in
       record {
-        some-columns = leb-true 1 (P .problem .columns) (sizes .0);
         few-columns = leb-true (P .problem .columns) maxColumns (sizes .1);
         few-rows = leb-true (P .problem .rows) maxRows (sizes .2);
         coefficients-long = eqb-true _ _ (rows-long .0);
@@ -177,7 +211,7 @@ module _ (P : Posed) (L : Lent) (f : Passes P L) where
         lower-small = spans-small maxBound (P .lower) (λ j h. bound-at j h .0);
         upper-small = spans-small maxBound (P .upper) (λ j h. bound-at j (omega arith) .1);
         goals-small =
-            every-place (λ (x : ℤ). natAbs x ≤ maxGoal) (P .goals) (λ j h. range-small maxGoal (entry j (P .goals)) (goal-at j (omega arith) .0)) (omega arith);
+            every-place (λ (x : ℤ). natAbs x ≤ maxGoal) (P .goals)
+            (λ j h. range-small maxGoal (entry j (P .goals)) (goal-at j (omega arith) .0)) (omega arith);
         goal-above = above-at (goals ∙ sym lower);
-        few-steps = leb-true _ _ (f .limit);
       }

@@ -1,3 +1,2 @@
 -- The root of the laws that the proofs cite.
-pub mod Laws
 pub mod CheckLaws

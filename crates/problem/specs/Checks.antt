@@ -1,7 +1,11 @@
 -- A problem as it is handed to a call, and the causes 1 to 6 that turn it back.
 --   emptyProblem     no columns, no rows, no steps
 --   Posed            a problem with its lists: the coefficients, n to a row, and the right sides; the bounds and goals of the columns
---   sizesFit ..      none of cause 1 holds; and so for the causes 2 to 6
+--   sizesFit columns rows p   cause 1 does not hold, with that many columns and rows allowed
+--   rowLengthsFit, columnLengthsFit, lentFit   nor cause 2, of the rows' lists, the columns' lists and the buffers that the call fills
+--   allSpan k l      every number of l lies in −k to k
+--   rowsFit, boundFits, boundsFit, goalFits, goalsFit, limitFits   nor the causes 3 to 6; at one column, and at all
+--   orNext t why c   the refusal where the test t fails, else the next check c
 --   firstCause P L   the first cause of 1 to 6 that holds of the problem P and the lengths L of the buffers lent with it
 -- The checks are pieces, put together by `orNext`, so that other calls can take the first three or the first five.
 -- Assumes nothing.
@@ -76,7 +80,6 @@ goalsFit lower goals = every (length lower) (λ j. goalFits (entry j lower) (ent
 abbrev pub limitFits : Problem → Bool
 limitFits p = leb (p .limit) maxSteps
 
--- the refusal where the test fails, else the next check
 abbrev pub orNext : Bool → Refusal → Check → Check
 orNext true why next = next
 orNext false why next = Failed why

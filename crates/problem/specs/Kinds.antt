@@ -2,7 +2,7 @@
 --   Slack        the y of a row: its coefficient in the row and its lower bound; `none` for an equal row
 --   slackOf k    "Equal: sum = number. At least: sum − y = number, y from 0. At most: sum + y = number, y from 0. Even: sum − 2y = 0, y from the
 --                number, which is 0 to 1,000,000."
---   slackCount k how many columns the kind adds
+--   slackColumns y, slackCount k   how many columns a y is, and how many the kind adds
 -- Assumes nothing.
 use Prim.Native.Nat.{ℕ}
 use lib.IntN.{ℤ, pos, negsuc}

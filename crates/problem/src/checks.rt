@@ -3,7 +3,8 @@ ghost use mathlib.Core.Bool.{true};
 ghost use lib.ListN.{length};
 ghost use Rattle.whole.specs.Tests as Tests;
 ghost use Rattle.problem.specs.Limits.{maxColumns, maxRows};
-ghost use Rattle.problem.specs.Checks.{allSpan, sizesFit, rowLengthsFit, columnLengthsFit, lentFit, rowsFit, boundFits, boundsFit, goalFits, goalsFit, firstCause};
+ghost use Rattle.problem.specs.Checks.{allSpan, sizesFit, rowLengthsFit, columnLengthsFit, lentFit, rowsFit};
+ghost use Rattle.problem.specs.Checks.{boundFits, boundsFit, goalFits, goalsFit, firstCause};
 use crate::Check;
 use crate::Lent;
 use crate::Problem;
@@ -12,7 +13,7 @@ use whole::less;
 use whole::magnitude;
 
 // Cause 1, against the most columns and rows that the caller allows.
-pub fn sizes_fit(p: Problem, columns: usize, rows: usize) -> bool
+pub(crate) fn sizes_fit(p: Problem, columns: usize, rows: usize) -> bool
     ensures { λ r. ⌜ r ≡ sizesFit columns rows p ⌝ }
 {
     if p.columns < 1 {
@@ -25,7 +26,7 @@ pub fn sizes_fit(p: Problem, columns: usize, rows: usize) -> bool
 }
 
 // Cause 2 of the rows' lists. The sizes come first, so that the product fits.
-pub fn row_lengths_fit(p: Problem, coefficients: &[i64], rights: &[i64]) -> bool
+pub(crate) fn row_lengths_fit(p: Problem, coefficients: &[i64], rights: &[i64]) -> bool
     requires { ⌜ sizesFit maxColumns maxRows p ≡ true ⌝ }
     ensures { λ r. ⌜ r ≡ rowLengthsFit p (now (coefficients .entry)) (now (rights .entry)) ⌝ }
 {
@@ -36,7 +37,7 @@ pub fn row_lengths_fit(p: Problem, coefficients: &[i64], rights: &[i64]) -> bool
 }
 
 // Cause 2 of the columns' lists.
-pub fn column_lengths_fit(p: Problem, lower: &[i64], upper: &[i64], goals: &[i64]) -> bool
+pub(crate) fn column_lengths_fit(p: Problem, lower: &[i64], upper: &[i64], goals: &[i64]) -> bool
     ensures { λ r. ⌜ r ≡ columnLengthsFit p (now (lower .entry)) (now (upper .entry)) (now (goals .entry)) ⌝ }
 {
     if lower.len() != p.columns {
@@ -49,7 +50,7 @@ pub fn column_lengths_fit(p: Problem, lower: &[i64], upper: &[i64], goals: &[i64
 }
 
 // Cause 2 of the buffers that the call fills.
-pub fn lent_fit(p: Problem, lent: Lent) -> bool
+pub(crate) fn lent_fit(p: Problem, lent: Lent) -> bool
     requires { ⌜ sizesFit maxColumns maxRows p ≡ true ⌝ }
     ensures { λ r. ⌜ r ≡ lentFit p lent ⌝ }
 {
@@ -84,7 +85,7 @@ pub fn all_span(s: &[i64], most: u64) -> bool
 }
 
 // Cause 3.
-pub fn rows_fit(coefficients: &[i64], rights: &[i64]) -> bool
+pub(crate) fn rows_fit(coefficients: &[i64], rights: &[i64]) -> bool
     ensures { λ r. ⌜ r ≡ rowsFit (now (coefficients .entry)) (now (rights .entry)) ⌝ }
 {
     if !all_span(coefficients, Problem::MAX_COEFFICIENT) {
@@ -94,7 +95,7 @@ pub fn rows_fit(coefficients: &[i64], rights: &[i64]) -> bool
 }
 
 // Cause 4 at one column.
-pub fn bound_fits(lower: i64, upper: i64) -> bool
+pub(crate) fn bound_fits(lower: i64, upper: i64) -> bool
     ensures { λ r. ⌜ r ≡ boundFits lower upper ⌝ }
 {
     if !spans(lower, Problem::MAX_BOUND) {
@@ -107,7 +108,7 @@ pub fn bound_fits(lower: i64, upper: i64) -> bool
 }
 
 // Cause 4. The lengths come first, so that each column has both bounds.
-pub fn bounds_fit(lower: &[i64], upper: &[i64]) -> bool
+pub(crate) fn bounds_fit(lower: &[i64], upper: &[i64]) -> bool
     requires { ⌜ length (now upper) ≡ length (now lower) ⌝ }
     ensures { λ r. ⌜ r ≡ boundsFit (now (lower .entry)) (now (upper .entry)) ⌝ }
 {
@@ -122,7 +123,7 @@ pub fn bounds_fit(lower: &[i64], upper: &[i64]) -> bool
 }
 
 // Cause 5 at one column. A goal of 0 is no goal, and asks nothing of the lower bound.
-pub fn goal_fits(lower: i64, goal: i64) -> bool
+pub(crate) fn goal_fits(lower: i64, goal: i64) -> bool
     ensures { λ r. ⌜ r ≡ goalFits lower goal ⌝ }
 {
     if less(goal, 0) {
@@ -139,7 +140,7 @@ pub fn goal_fits(lower: i64, goal: i64) -> bool
 }
 
 // Cause 5. The lengths come first here too.
-pub fn goals_fit(lower: &[i64], goals: &[i64]) -> bool
+pub(crate) fn goals_fit(lower: &[i64], goals: &[i64]) -> bool
     requires { ⌜ length (now goals) ≡ length (now lower) ⌝ }
     ensures { λ r. ⌜ r ≡ goalsFit (now (lower .entry)) (now (goals .entry)) ⌝ }
 {
@@ -163,7 +164,14 @@ pub fn first_cause(
     goals: &[i64],
     lent: Lent,
 ) -> Check
-    ensures { λ r. ⌜ r ≡ firstCause (record { problem = p; coefficients = now (coefficients .entry); rights = now (rights .entry); lower = now (lower .entry); upper = now (upper .entry); goals = now (goals .entry) }) lent ⌝ }
+    ensures { λ r. ⌜ r ≡ firstCause (record {
+      problem = p;
+      coefficients = now (coefficients .entry);
+      rights = now (rights .entry);
+      lower = now (lower .entry);
+      upper = now (upper .entry);
+      goals = now (goals .entry);
+    }) lent ⌝ }
 {
     if !sizes_fit(p, Problem::MAX_COLUMNS, Problem::MAX_ROWS) {
         return Check::Failed(Refusal::Size);

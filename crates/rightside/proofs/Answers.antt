@@ -7,12 +7,12 @@
 use mathlib.Core.Path.{_≡_, refl, sym, _∙_, ap, ap₂, subst}
 use mathlib.Core.Bool.{Bool, true, false, cond, _||_}
 use mathlib.Core.List.{List, _++_}
-use Prim.Native.Nat.{ℕ, _+_}
+use Prim.Native.Nat.{ℕ, _+_, _-_}
 use native.Mathlib.Omega.{arith}
 use lib.IntN.{ℤ, pos}
-use lib.ListN.{length, take, drop, length-append, length-replicate, replicate-append-replicate}
-use lib.Seq.{drop-at}
+use lib.ListN.{length, take, drop, length-append, length-replicate}
 use Rattle.whole.specs.Lists.{zeros}
+use Rattle.whole.proofs.Lists.{drop-zeros}
 use Rattle.lattice.specs.Rows.{neg, allZero, chop}
 use Rattle.lattice.proofs.RowLaws.{length-neg}
 use Rattle.problem.specs.declared.Problem.{Problem}
@@ -134,16 +134,19 @@ pub start-found : (x : Solved) (s v : List ℤ) (N : List (List ℤ)) → Found 
 start-found x s v N e f = ap₂ (λ (o : Bool) (g : RightSide.Found). cond o s (startOf g s)) (solution-found x e) f
 
 -- ---- the list (−b, then zeros)
-zeros-rest : (m n : ℕ) → drop m (zeros (m + n)) ≡ zeros n
-zeros-rest m n = ap (drop m) (sym (replicate-append-replicate m n (pos 0))) ∙ drop-at (zeros m) (zeros n) m (length-replicate m (pos 0))
-
 module _ {p : Problem} {v t b s : List ℤ} (h : Findable p v t b s) where
   pub work-wide : length v ≡ p .rows + p .columns
   work-wide = ap length (h .zero) ∙ length-replicate (p .rows + p .columns) (pos 0)
 
   module _ {u : List ℤ} (e : u ≡ neg b ++ drop (length b) v) where
     list-is : u ≡ neg b ++ zeros (p .columns)
-    list-is = e ∙ ap₂ (λ (i : ℕ) (l : List ℤ). neg b ++ drop i l) (h .right) (h .zero) ∙ ap (λ (l : List ℤ). neg b ++ l) (zeros-rest (p .rows) (p .columns))
+    list-is =
+        e
+        ∙ ap₂ (λ (i : ℕ) (l : List ℤ). neg b ++ drop i l) (h .right) (h .zero)
+        ∙ ap (λ (l : List ℤ). neg b ++ l) (drop-zeros (p .rows) (p .rows + p .columns) ∙ ap zeros less)
+      where
+        less : p .rows + p .columns - p .rows ≡ p .columns
+        less = omega arith
 
     pub list-wide : length u ≡ p .rows + p .columns
     list-wide =

@@ -6,13 +6,13 @@
 -- Assumes nothing.
 use mathlib.Core.Path.{_≡_, refl, sym, _∙_, ap, ap₂, subst}
 use mathlib.Core.Bool.{Bool, true, false, cond}
-use mathlib.Core.List.{List, _∷_, _++_}
-use Prim.Native.Nat.{ℕ, zero, suc, _+_, _≤_}
-use native.Mathlib.Omega.{arith}
+use mathlib.Core.List.{List, _++_}
+use Prim.Native.Nat.{ℕ, zero, _+_, _≤_}
 use lib.Dec.{lit≤}
-use lib.IntN.{ℤ, pos}
+use lib.IntN.{ℤ}
 use lib.ListN.{length, take}
 use Rattle.whole.specs.Lists.{zeros}
+use Rattle.whole.proofs.Lists.{take-zeros}
 use Rattle.lattice.specs.Rows.{neg, allZero, flat}
 use Rattle.lattice.specs.Hermite.{Rising}
 use Rattle.problem.specs.Limits.{maxRight}
@@ -67,15 +67,11 @@ answer-over x e = ap (λ (o : Bool). cond o Over (answerOf (x .found))) e
 pub start-kept : (x : Solved) (s : List ℤ) → x .over ≡ true → startAfter x s ≡ s
 start-kept x s e = ap (λ (o : Bool). cond o s (startOf (x .found) s)) e
 
-zeros-take : (k n : ℕ) → k ≤ n → take k (zeros n) ≡ zeros k
-zeros-take zero n h = refl
-zeros-take (suc k) zero h = absurd (omega arith)
-zeros-take (suc k) (suc n) h = ap (λ (l : List ℤ). pos 0 ∷ l) (zeros-take k n (omega arith))
-
-pub findable : {p : Problem} {t a b s u : List ℤ} (n : ℕ) → Solvable p t a b s → p .rows + p .columns ≤ n → length u ≡ length t → Formed p (formOf p a) u
+pub findable : {p : Problem} {t a b s u : List ℤ} (n : ℕ) → Solvable p t a b s → p .rows + p .columns ≤ n → length u ≡ length t
+    → Formed p (formOf p a) u
     → Findable p (take (p .rows + p .columns) (zeros n)) u b s
 findable {p} {t} {a} {b} {s} {u} n h l e f = record {
-  zero = zeros-take (p .rows + p .columns) n l;
+  zero = take-zeros (p .rows + p .columns) n l;
   form = record {
     long = e ∙ h .form .table;
     leads = f .leads;

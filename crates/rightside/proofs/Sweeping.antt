@@ -3,7 +3,7 @@
 --   Sweeps         the loop: the rows that are still ahead are to be taken from v
 --   next, next-..  the row that comes next, its lead, and that it is a pivot there
 --   sweep-starts, -on, -stops, -ends   at first, after a row, at a number beyond ±M, past the last row
---   sweep-wide, -within    a whole sweep keeps the length, and numbers within ±M where it marks none beyond
+--   sweep-within   a whole sweep keeps numbers within ±M where it marks none beyond
 -- Assumes nothing.
 use mathlib.Core.Path.{_≡_, refl, sym, _∙_, ap, subst}
 use mathlib.Core.Bool.{Bool, true, false, _||_}
@@ -17,15 +17,17 @@ use Rattle.whole.specs.Tests.{Positive}
 use Rattle.whole.proofs.Integers.{positive-nonzero}
 use Rattle.lattice.specs.Rows.{ZeroTo, lead, chop}
 use Rattle.lattice.specs.Span.{All}
+use Rattle.lattice.proofs.RowsAhead.{row, rows, apart, row-wide}
 use Rattle.tableau.specs.Elimination.{Left, kept, reduced}
 use Rattle.tableau.specs.RightSide.{further, sweep}
 use Rattle.tableau.specs.Within.{Within}
-use Rattle.tableau.proofs.Within.{neither, within-take, within-drop}
+use Rattle.whole.proofs.Tests.{neither}
+use Rattle.tableau.proofs.Within.{within-take, within-drop}
 use Rattle.tableau.specs.RowSteps.{Pivot, Leads, leftAfter}
 use Rattle.tableau.proofs.Stepping.{left-by}
 use Rattle.tableau.proofs.Walking.{reduced-step}
 use Rattle.rightside.specs.Sweeps.{Sweepable, Swept}
-use Rattle.rightside.proofs.Staircase.{Walks, starts, row, rows, apart, row-wide, goes-on}
+use Rattle.rightside.proofs.Staircase.{Walks, starts, goes-on}
 
 -- ---- a row
 lead-front : (r : List ℤ) → ZeroTo (lead r) r
@@ -62,31 +64,31 @@ sweep-starts k t v a h = record { walk = starts (length v) k t (a .long) (a .ris
 
 module _ {w k : ℕ} {t v₀ v : List ℤ} {at left c : ℕ} (h : Sweeps w k t v₀ v at left c) (some : 0 < left) where
   abbrev pub next : List ℤ
-  next = row (h .walk) some
+  next = row (h .walk .room) some
 
-  both-lead : All Leads (next ∷ rows (h .walk) some)
-  both-lead = subst (All Leads) (apart (h .walk) some) (h .leads)
+  both-lead : All Leads (next ∷ rows (h .walk .room) some)
+  both-lead = subst (All Leads) (apart (h .walk .room) some) (h .leads)
 
   pub next-inside : lead next < w
-  next-inside = omega (arith, row-wide (h .walk) some, lead-inside next (both-lead .0))
+  next-inside = omega (arith, row-wide (h .walk .room) some, lead-inside next (both-lead .0))
 
   pub next-pivot : {l : ℕ} → l ≡ lead next → Within t → Pivot (length v) l next
   next-pivot e s = record {
-    wide = row-wide (h .walk) some ∙ sym (h .wide);
+    wide = row-wide (h .walk .room) some ∙ sym (h .wide);
     small = within-take w (drop at t) (within-drop at t s);
     front = subst (λ (i : ℕ). ZeroTo i next) (sym e) (lead-front next);
     lead = subst (λ (i : ℕ). Positive (entry i next)) (sym e) (both-lead .0);
   }
 
-  one : sweep (chop k w t) v₀ ≡ further (reduced (lead next) next v .over) (sweep (rows (h .walk) some) (reduced (lead next) next v .row))
+  one : sweep (chop k w t) v₀ ≡ further (reduced (lead next) next v .over) (sweep (rows (h .walk .room) some) (reduced (lead next) next v .row))
   unfolding sweep
-  one = sym (h .rest) ∙ ap (λ (T : List (List ℤ)). sweep T v) (apart (h .walk) some)
+  one = sym (h .rest) ∙ ap (λ (T : List (List ℤ)). sweep T v) (apart (h .walk .room) some)
 
   pub sweep-stops : {l : ℕ} {u : List ℤ} → l ≡ lead next → length v₀ ≡ w → Swept (reduced l next v) v true u → Swept (sweep (chop k w t) v₀) v₀ true u
   sweep-stops {l} {u} d n s =
       let o : reduced (lead next) next v .over ≡ true = ap (λ (i : ℕ). reduced i next v .over) (sym d) ∙ sym (s .answer) in
       let e : sweep (chop k w t) v₀ .over ≡ true =
-      ap (λ (x : Left). x .over) one ∙ ap (λ (b : Bool). b || sweep (rows (h .walk) some) (reduced (lead next) next v .row) .over) o in
+      ap (λ (x : Left). x .over) one ∙ ap (λ (b : Bool). b || sweep (rows (h .walk .room) some) (reduced (lead next) next v .row) .over) o in
       record { answer = sym e; left = over-left s ∙ ap zeros (h .wide ∙ sym n) ∙ sym (left-by (sweep (chop k w t) v₀) v₀ e) }
 
   pub sweep-on : {l : ℕ} {u : List ℤ} → l ≡ lead next → Swept (reduced l next v) v false u → Sweeps w k t v₀ u (at + w) (left - 1) (l + 1)
@@ -99,8 +101,8 @@ module _ {w k : ℕ} {t v₀ v : List ℤ} {at left c : ℕ} (h : Sweeps w k t v
         small = subst Within (sym e) (reduced-step (lead next) next .holds v (h .small) o);
         leads = both-lead .1;
         rest =
-            ap (sweep (rows (h .walk) some)) e
-            ∙ ap (λ (b : Bool). further b (sweep (rows (h .walk) some) (reduced (lead next) next v .row))) (sym o)
+            ap (sweep (rows (h .walk .room) some)) e
+            ∙ ap (λ (b : Bool). further b (sweep (rows (h .walk .room) some) (reduced (lead next) next v .row))) (sym o)
             ∙ sym one;
       }
 
@@ -111,11 +113,6 @@ sweep-ends {w} {k} {t} {v₀} {v} {at} {left} h e =
     record { answer = ap (λ (x : Left). x .over) (sym all); left = ap (λ (x : Left). leftAfter x v₀) (sym all) }
 
 -- ---- a whole sweep
-pub sweep-wide : (T : List (List ℤ)) (v : List ℤ) → length (sweep T v .row) ≡ length v
-unfolding sweep
-sweep-wide [] v = refl
-sweep-wide (r ∷ T) v = sweep-wide T (reduced (lead r) r v .row) ∙ reduced-step (lead r) r .wide v
-
 pub sweep-within : (T : List (List ℤ)) (v : List ℤ) → Within v → sweep T v .over ≡ false → Within (sweep T v .row)
 unfolding sweep
 sweep-within [] v h e = h

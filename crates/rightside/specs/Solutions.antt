@@ -3,8 +3,8 @@
 --   Solvable p t a b s   what the causes 1 to 3 leave of a problem p, the tableau's buffer t, the coefficients a, the right sides b and the buffer
 --                        s of the starting list
 --   solvedOf p a b       the form and the right side
---   solutionOf x         what is answered
---   tableauAfter x t, startAfter x s   what the two buffers hold then
+--   answerOf f, solutionOf x   what is answered, where no number lies beyond ±M, and in any case
+--   tableauAfter x t, startAfter x s   what the two buffers hold then; by `startOf`, where no number lies beyond ±M
 --   Righted              what the right side of a form answers, and what the list that it works on holds then
 --   righted m T v        that of the form T, the right side v and m rows: all 0 where a number lies beyond ±M, else the list that is left
 --   rightedOf m k t v    that of the form's k rows in t

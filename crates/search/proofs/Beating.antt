@@ -20,7 +20,7 @@ use Rattle.whole.proofs.Counted.{every-at}
 use Rattle.whole.proofs.Integers.{add-none, isZero-true}
 use Rattle.whole.specs.Lists.{entry}
 use Rattle.whole.specs.Tests.{isZero, every}
-use Rattle.problem.proofs.CheckLaws.{both-true}
+use Rattle.whole.proofs.Tests.{both-true}
 use Rattle.settling.specs.declared.Move.{Move}
 use Rattle.settling.specs.Moves.{vector, changes}
 use Rattle.settling.proofs.Fronts.{lt-or-ge}

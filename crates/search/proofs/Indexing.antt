@@ -11,7 +11,7 @@ use borrow.Author.Tests.{ltb-true, lt-ltb}
 use lib.Dec.{ltb}
 use lib.IntN.{ℤ}
 use lib.ListN.{getD}
-use Rattle.problem.proofs.CheckLaws.{both-true}
+use Rattle.whole.proofs.Tests.{both-true}
 use Rattle.settling.specs.declared.Basis.{Basis}
 use Rattle.search.specs.Probes.{Supported}
 use Rattle.search.specs.Sets.{has, touches, Indexed}

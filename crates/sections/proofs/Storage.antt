@@ -2,12 +2,13 @@
 -- ---- lists
 use mathlib.Core.Path.{_≡_, refl, sym, ap, _∙_}
 use mathlib.Core.List.{List, [], _∷_, _++_, map, append-nil, append-assoc}
-use Prim.Native.Nat.{ℕ, zero, suc, _+_, _-_, _*_, _≤_, _<_}
+use Prim.Native.Nat.{ℕ, _+_, _-_, _*_, _≤_, _<_}
 use native.Mathlib.Omega.{arith}
 use lib.IntN.{ℤ, pos}
 use lib.ListN.{length, take, drop, set, replicate, length-append, length-map, length-replicate, length-set}
 use lib.Seq.{take-at, drop-at, drop-drop}
 use Rattle.whole.specs.Lists.{zeros}
+use Rattle.whole.proofs.Lists.{drop-zeros}
 use Rattle.text.specs.Overwriting.{overwritten}
 use Rattle.problem.specs.Kinds.{Slack, none, slack, slackOf, slackCount}
 use Rattle.problem.specs.Kinds as kinds
@@ -37,11 +38,6 @@ length-blank n = length-replicate n (pos 0)
 pub padded-none : (size : ℕ) → blank size ≡ padded size []
 unfolding blank
 padded-none size = let e : size - 0 ≡ size = omega arith in rw e
-
-pub drop-zeros : (k n : ℕ) → drop k (replicate n (pos 0)) ≡ replicate (n - k) (pos 0)
-drop-zeros zero n = let e : n - 0 ≡ n = omega arith in rw e
-drop-zeros (suc k) zero = let e : 0 - suc k ≡ 0 = omega arith in rw e
-drop-zeros (suc k) (suc n) = drop-zeros k n ∙ ap (λ (j : ℕ). replicate j (pos 0)) (let e : n - k ≡ suc n - suc k = omega arith in e)
 
 pub padded-written : (size c : ℕ) (u w : List ℤ) → length u ≡ c → c + length w ≤ size → overwritten (padded size u) c w ≡ padded size (u ++ w)
 padded-written size c u w e h =

@@ -18,7 +18,7 @@ use lib.IntN.{ℤ, pos, natAbs}
 use lib.Signed.{leZ}
 use Rattle.whole.proofs.Counted.{every-at, every-all}
 use Rattle.whole.specs.Tests.{isZero, every}
-use Rattle.problem.proofs.CheckLaws.{both-true}
+use Rattle.whole.proofs.Tests.{both-true}
 use Rattle.settling.specs.declared.Cell.{Cell}
 use Rattle.settling.specs.declared.Move.{Move}
 use Rattle.settling.specs.declared.Measure.{Measure}

@@ -17,7 +17,7 @@ use Rattle.whole.specs.Lists.{entry}
 use Rattle.whole.specs.Tests.{isZero, every}
 use Rattle.whole.proofs.Counted.{every-at}
 use Rattle.whole.proofs.Integers.{isZero-true}
-use Rattle.problem.proofs.CheckLaws.{both-true}
+use Rattle.whole.proofs.Tests.{both-true}
 use Rattle.settling.specs.declared.Move.{Move}
 use Rattle.settling.specs.declared.Part.{Part}
 use Rattle.settling.specs.declared.Step.{Step}

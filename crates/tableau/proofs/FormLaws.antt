@@ -1,9 +1,10 @@
--- The laws of specs/FormLaws.
+-- Laws of passing the columns of a table: it is made of elementary row steps, and leaves a Hermite form.
+--   passColumns-steps    the steps of d columns
 --   skips c H            c columns of zeros before H
 --   reduced-residue      to reduce a row above by the pivot's row as it is found, and then by the later rows, is to reduce it by the form
 --   Formed d c A B       the last d of c + d columns leave a Hermite form of d columns: the rows A above reduced by it, its rows, and rows of zeros
 --   passColumns-formed   they do, where the rows B from row k on have only zeros in the first c columns
---   eliminated           so it does, where T's rows are independent
+--   eliminated           so elimination leaves the table T in its Hermite form, where T's rows are independent
 -- Assumes nothing.
 use mathlib.Core.Path.{_≡_, refl, sym, _∙_, ap, ap₂, subst}
 use mathlib.Core.List.{List, [], _∷_, _++_, map, append-assoc}
@@ -18,10 +19,12 @@ use Rattle.whole.proofs.Integers.{add-none}
 use Rattle.lattice.specs.Rows.{plus, Zero, ZeroTo}
 use Rattle.lattice.proofs.RowLaws.{length-plus, ZeroTo-next, ZeroTo-all, ZeroTo-plus, ZeroTo-neg}
 use Rattle.lattice.specs.Span.{All, Len, Independent, _~_, same, _then_, add}
-use Rattle.lattice.proofs.Span.{all-map, all-both, all-append, front, back, unders, steps-all, steps-length, steps-span, steps-independent, independent-nonzero}
+use Rattle.lattice.proofs.Span.{all-map, all-both, all-append, front, back, unders}
+use Rattle.lattice.proofs.Span.{steps-all, steps-length, steps-span, steps-independent, independent-nonzero}
 use Rattle.lattice.specs.Hermite.{Echelon, done, skip, step, width, indent, rows, Hermite}
 use Rattle.lattice.proofs.Coset.{residue, residue-length, residue-reduced, residue-coset, residue-equal, coset-turn, coset-sums}
-use Rattle.tableau.specs.Elimination.{Left, reduced, each, Choice, none, at, choose, Gathered, gather, Passed, passColumn, passColumns, eliminate}
+use Rattle.tableau.specs.Elimination.{Left, reduced, each, Choice, none, at, choose, Gathered, gather}
+use Rattle.tableau.specs.Elimination.{Passed, passColumn, passColumns, eliminate}
 use Rattle.tableau.specs.Gathering.{Alone}
 use Rattle.tableau.proofs.GatherLaws.{each-steps, gather-steps, choose-stands, Stands, gather-alone}
 use Rattle.tableau.specs.Theorems.{Eliminated}
@@ -31,7 +34,7 @@ reduced-steps : (c : ℕ) (r s : List ℤ) (B : List (List ℤ)) → (r ∷ s �
 unfolding reduced
 reduced-steps c r s B = add (negℤ (floorQuotient (entry c s) (entry c r))) r s
 
-pub passColumn-steps : (c : ℕ) (A B : List (List ℤ)) (z : Choice) → (A ++ B) ~ (passColumn c A B z .above ++ passColumn c A B z .below)
+passColumn-steps : (c : ℕ) (A B : List (List ℤ)) (z : Choice) → (A ++ B) ~ (passColumn c A B z .above ++ passColumn c A B z .below)
 unfolding passColumn
 passColumn-steps c A B none = same
 passColumn-steps c A [] (at j p) = same

@@ -1,5 +1,6 @@
--- The laws of specs/GatherLaws.
+-- Laws of gathering: it is made of elementary row steps, it ends, and what it leaves.
 --   each-steps           where f only takes multiples of r away, `each f` is row steps
+--   round-steps, gather-steps   so are a round and gathering
 --   Stands c B z         z tells of the rows B: they have nothing but 0 at c, or row j has the magnitude p there, above 0
 --   choose-stands        what `choose` chooses does
 --   round-lead, -below   after a round the pivot's entry is p, and the magnitudes below it are smaller. Of the gathering quotient this uses the
@@ -22,11 +23,12 @@ use lib.ListN.{length, getD, set}
 use Rattle.whole.specs.Lists.{entry}
 use Rattle.whole.specs.Tests.{isZero}
 use Rattle.whole.specs.Quotient.{gatheringQuotient}
-use Rattle.whole.proofs.Integers.{isZero-true, positive-of, gatheringQuotient-left}
+use Rattle.whole.proofs.Integers.{isZero-true, positive-of, gatheringQuotient-left, natAbs-zero}
 use Rattle.lattice.proofs.RowLaws.{entry-plus, entry-neg}
 use Rattle.lattice.specs.Span.{All, Len, _~_, same, _then_, under, swap, sign, add}
 use Rattle.lattice.proofs.Span.{all-at, steps-length}
-use Rattle.tableau.specs.Elimination.{Left, subtract, kept, lowered, each, Choice, none, at, prefer, choose, Gathered, exchange, signed, clear, round, onward, gather}
+use Rattle.tableau.specs.Elimination.{Left, subtract, kept, lowered, each, Choice, none, at, prefer, choose}
+use Rattle.tableau.specs.Elimination.{Gathered, exchange, signed, clear, round, onward, gather}
 use Rattle.tableau.specs.Gathering.{Alone, Chosen, gathering, magnitude}
 
 -- ---- row steps
@@ -85,10 +87,6 @@ gather-steps (suc f) c (at j p) b B =
 abbrev pub Stands : ℕ → List (List ℤ) → Choice → Type 0
 Stands c B none = All (λ (s : List ℤ). entry c s ≡ pos 0) B
 Stands c B (at j p) = (0 < p) × (j < length B) × ((d : List ℤ) → natAbs (entry c (getD B j d)) ≡ p)
-
-natAbs-zero : (x : ℤ) → natAbs x ≡ 0 → x ≡ pos 0
-natAbs-zero (pos n) a = ap pos a
-natAbs-zero (negsuc n) a = absurd (omega arith)
 
 prefer-stands : (c k : ℕ) (r : List ℤ) (B : List (List ℤ)) (z : Choice) → natAbs (entry c r) ≡ k → Stands c B z → Stands c (r ∷ B) (prefer k z)
 prefer-stands c zero r B none a s = (natAbs-zero (entry c r) a, s)

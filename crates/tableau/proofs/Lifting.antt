@@ -1,6 +1,5 @@
 -- Laws of a row that is brought to the top.
 --   taken, left     a row's sign, by the test that the code makes
---   one-less        the rows below the first
 --   lowered-first, -next   what lies behind the first row, once that has taken the place of row j
 --   stays           the first row is at the top
 --   Apart w j t     row j is another than the first, and lies in t
@@ -13,15 +12,17 @@ use mathlib.Core.Path.{_≡_, refl, sym, _∙_, ap, ap₂}
 use mathlib.Core.Bool.{true, false, true≢false}
 use mathlib.Core.List.{List, [], _∷_, _++_, append-assoc}
 use Prim.Native.Nat.{ℕ, zero, suc, _+_, _*_, _-_, _<_, _≤_}
-use native.Mathlib.Nat.{zero-mul, zero-add, suc-mul}
+use native.Mathlib.Nat.{zero-mul, zero-add}
 use native.Mathlib.Omega.{arith}
 use lib.IntN.{ℤ, pos, negsuc}
 use lib.ListN.{length, take, drop, set, length-append, length-drop, length-set, take-append-drop, List·getD-append}
 use lib.Seq.{length-take-le, take-at, drop-at, drop-drop, take-add, getD-append-add, set-append-left}
 use lib.Signed.{ltZ}
 use Rattle.whole.specs.Lists.{entry}
+use Rattle.whole.proofs.Lists.{set-behind}
 use Rattle.whole.proofs.Signed.{lt-zero}
 use Rattle.lattice.specs.Rows.{neg, ZeroTo}
+use Rattle.lattice.proofs.FlatLaws.{one-less}
 use Rattle.lattice.proofs.Writing as Writing
 use Rattle.lattice.proofs.Writing.{WrittenTo}
 use Rattle.tableau.specs.Elimination.{signed}
@@ -36,10 +37,6 @@ left (pos n) r e = refl
 left (negsuc n) r e = absurd (true≢false e)
 
 -- ---- the rows behind the first
-pub one-less : (k w : ℕ) → 0 < k → k * w ≡ w + (k - 1) * w
-one-less zero w p = absurd (omega arith)
-one-less (suc k) w p = let e : suc k - 1 ≡ k = omega arith in rw e (omega (arith, suc-mul k w))
-
 pub lowered-first : (w : ℕ) (t : List ℤ) → w ≤ length t → drop w (lowerFirst w 0 t) ≡ drop w t
 lowered-first w t l =
     ap₂ (λ (a b : ℕ). drop w (take a t ++ (take w t ++ drop b t))) (zero-mul w) (ap (λ (n : ℕ). n + w) (zero-mul w) ∙ zero-add w)
@@ -63,11 +60,6 @@ stays w j t l e =
     (sym (ap₂ (λ (n : ℕ) (v : List ℤ). take w (drop n t) ++ v) (zero-mul w) (lowered-first w t l) ∙ take-append-drop w t))
 
 -- ---- two lists end to end
-set-behind : (a b : List ℤ) (n i : ℕ) (x : ℤ) → n ≡ length a + i → set (a ++ b) n x ≡ a ++ set b i x
-set-behind [] b n i x e = ap (λ (k : ℕ). set b k x) (e ∙ zero-add i)
-set-behind (y ∷ a) b zero i x e = absurd (omega arith)
-set-behind (y ∷ a) b (suc n) i x e = ap (λ (l : List ℤ). y ∷ l) (set-behind a b n i x (omega arith))
-
 entry-behind : (a b : List ℤ) (n i : ℕ) → n ≡ length a + i → entry n (a ++ b) ≡ entry i b
 entry-behind a b n i e = ap (λ (k : ℕ). entry k (a ++ b)) e ∙ getD-append-add a b i (pos 0)
 

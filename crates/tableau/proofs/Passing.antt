@@ -23,19 +23,20 @@ use Rattle.whole.specs.Lists.{entry}
 use Rattle.lattice.specs.Rows.{ZeroTo, flat, chop}
 use Rattle.lattice.proofs.RowLaws.{ZeroTo-next, ZeroTo-plus, ZeroTo-neg}
 use Rattle.lattice.specs.Span.{All, Len}
-use Rattle.lattice.proofs.Span.{all-both, all-append, steps-length, steps-all}
+use Rattle.lattice.proofs.Span.{all-both, all-append, steps-count, steps-length, steps-all}
 use Rattle.lattice.proofs.FlatLaws.{flat-append, flat-chop, chop-next, chop-rows, chop-take, chop-split, length-chop, front-rows, front-rest}
 use Rattle.tableau.specs.Elimination.{Run, each, reduced, Choice, none, at, choose, Gathered, Passed, passColumn, passColumns, eliminate}
 use Rattle.tableau.specs.Gathering.{Alone}
 use Rattle.tableau.proofs.GatherLaws.{Stands, choose-stands, gather-steps, gather-alone, gathering-first}
 use Rattle.tableau.specs.Within.{Within}
-use Rattle.tableau.proofs.Within.{neither, within-append, within-take, within-drop}
+use Rattle.whole.proofs.Tests.{neither}
+use Rattle.tableau.proofs.Within.{within-append, within-take, within-drop}
 use Rattle.tableau.specs.RowSteps.{StopsRun, eachOf, Pivot}
 use Rattle.tableau.specs.Tails.{Tail, Picked, gatheringOf}
 use Rattle.tableau.specs.ColumnPass.{Standing, aboveOf, belowOf, passedOf, rejoined}
 use Rattle.tableau.specs.declared.rows.Way.the-variants.{Above}
 use Rattle.tableau.proofs.Walking.{stepping, each-wide, each-count}
-use Rattle.tableau.proofs.Staying.{flat-all, all-flat, each-all, gather-all, gather-count}
+use Rattle.tableau.proofs.Staying.{flat-all, all-flat, each-all, gather-all}
 
 -- ---- the columns of the definition
 after : ℕ → ℕ → Passed → Run
@@ -108,7 +109,7 @@ gathered {k} {w} {c} {j} {t} h g =
       wide = steps-length w (gather-steps p c (at j p) b B) (g .is .wide);
       front = steps-all (ZeroTo c) (ZeroTo-neg c) (ZeroTo-plus c) (gather-steps p c (at j p) b B) (subst (All (ZeroTo c)) e (h .front));
       alone = gather-alone (g .is) p j p (omega arith);
-      count = gather-count p c (at j p) b B ∙ length-chop (k - 1) w (drop w t);
+      count = omega (arith, steps-count (gather-steps p c (at j p) b B), length-chop (k - 1) w (drop w t));
       small = gather-all p c (at j p) b B (subst (All Within) e (all-flat (chop k w t) (rw (flat-chop k w t (h .wide)) (h .small))));
     })
 
@@ -133,7 +134,9 @@ module _ {n w c k j : ℕ} {t : List ℤ} (h : Standing n w c k t) (l : c < w) (
       let B : List (List ℤ) = chop (n - k - 1) w (drop w (drop (k * w) t)) in
       ap (λ (T : List (List ℤ)). passColumn c (aboveOf w k t) T (choose c T)) (chop-next (n - k) w (drop (k * w) t) (g .some))
       ∙ ap (passColumn c (aboveOf w k t) (b ∷ B)) (g .is .choice)
-      ∙ ap (λ (y : Gathered). (let a : Run = each (reduced c (y .pivot)) (aboveOf w k t) in record { above = a .table ++ (y .pivot ∷ []); below = y .below; over = y .over || a .over }))
+      ∙ ap (λ (y : Gathered).
+      let a : Run = each (reduced c (y .pivot)) (aboveOf w k t) in
+      record { above = a .table ++ (y .pivot ∷ []); below = y .below; over = y .over || a .over })
       (sym (gathering-first (g .is)))
 
   pub passed-over : G .over ≡ true → passedOf n w c k t .over ≡ true
@@ -177,7 +180,9 @@ module _ {n w c k j : ℕ} {t : List ℤ} (h : Standing n w c k t) (l : c < w) (
     x-wide : All (Len w) X
     x-wide =
         all-append (Len w) (A .table) (G .pivot ∷ []) .1 (
-          each-wide w (aboveOf w k t) (stepping Above c (G .pivot)) (subst (All (Len w)) (chop-take k w (k * w) t (le-refl (k * w))) (chop-rows k w (take (k * w) t) (length-take-le (k * w) t (room-of h)))),
+          each-wide w (aboveOf w k t) (stepping Above c (G .pivot))
+              (subst (All (Len w)) (chop-take k w (k * w) t (le-refl (k * w)))
+              (chop-rows k w (take (k * w) t) (length-take-le (k * w) t (room-of h)))),
           (rows-of .wide .0, tt),
         )
 
@@ -196,7 +201,8 @@ module _ {n w c k j : ℕ} {t : List ℤ} (h : Standing n w c k t) (l : c < w) (
     x-small : All Within X
     x-small =
         all-append Within (A .table) (G .pivot ∷ []) .1 (
-          each-all (aboveOf w k t) (stepping Above c (G .pivot)) (all-flat (aboveOf w k t) (rw (above-list) (within-take (k * w) t (h .small)))) (both .1),
+          each-all (aboveOf w k t) (stepping Above c (G .pivot))
+              (all-flat (aboveOf w k t) (rw (above-list) (within-take (k * w) t (h .small)))) (both .1),
           (rows-of .small (both .0) .0, tt),
         )
 
@@ -223,7 +229,8 @@ module _ {n w c k j : ℕ} {t : List ℤ} (h : Standing n w c k t) (l : c < w) (
       front =
           subst (All (ZeroTo (c + 1))) (sym below-here)
           (rw (add-one)
-          (all-both (ZeroTo c) (λ (r : List ℤ). entry c r ≡ pos 0) (ZeroTo (suc c)) (ZeroTo-next c) (G .below) (rows-of .front .1) (rows-of .alone .lower)));
+          (all-both (ZeroTo c) (λ (r : List ℤ). entry c r ≡ pos 0) (ZeroTo (suc c)) (ZeroTo-next c) (G .below)
+          (rows-of .front .1) (rows-of .alone .lower)));
     }
 
 -- ---- a column with no choice
@@ -236,7 +243,8 @@ skipped-on {n} {w} {c} {k} {t} h e =
       small = h .small;
       front =
           rw (add-one)
-          (all-both (ZeroTo c) (λ (r : List ℤ). entry c r ≡ pos 0) (ZeroTo (suc c)) (ZeroTo-next c) B (h .front) (subst (Stands c B) e (choose-stands c B)));
+          (all-both (ZeroTo c) (λ (r : List ℤ). entry c r ≡ pos 0) (ZeroTo (suc c)) (ZeroTo-next c) B (h .front)
+          (subst (Stands c B) e (choose-stands c B)));
     }
 
 -- ---- all columns

@@ -35,7 +35,7 @@ use Rattle.tableau.specs.RightSide.{sweep, leading, remaining, basis, Fo
 use Rattle.tableau.specs.Generators.{Tells}
 
 -- ---- sweeping
-sweep-length : (T : List (List ℤ)) (v : List ℤ) → length (sweep T v .row) ≡ length v
+pub sweep-length : (T : List (List ℤ)) (v : List ℤ) → length (sweep T v .row) ≡ length v
 unfolding sweep reduced
 sweep-length [] v = refl
 sweep-length (r ∷ T) v = sweep-length T _ ∙ length-plus _ r v

@@ -23,7 +23,7 @@ use Rattle.lattice.specs.Rows.{ZeroTo, flat, chop}
 use Rattle.lattice.proofs.RowLaws.{length-neg, ZeroTo-neg}
 use Rattle.lattice.specs.Span.{All}
 use Rattle.lattice.proofs.Span.{all-at}
-use Rattle.lattice.proofs.FlatLaws.{chop-next, chop-row, chop-set, length-chop, row-in-table, first-wide}
+use Rattle.lattice.proofs.FlatLaws.{one-less, chop-next, chop-row, chop-set, length-chop, row-in-table, first-wide}
 use Rattle.tableau.specs.Elimination.{Gathered, Choice, at, exchange, signed, clear, round}
 use Rattle.tableau.proofs.GatherLaws.{chosen-stands, round-lead}
 use Rattle.tableau.specs.Within.{Within}
@@ -31,7 +31,7 @@ use Rattle.tableau.proofs.Within.{within-take, within-drop, within-appe
 use Rattle.tableau.specs.RowSteps.{StopsRun, eachOf, Pivot}
 use Rattle.tableau.specs.Tails.{Tail, Picked, lowerFirst, liftedRow, Lifted, Gathers, roundOf}
 use Rattle.tableau.specs.declared.rows.Way.the-variants.{Below}
-use Rattle.tableau.proofs.Lifting.{one-less, lowered-first, lowered-next}
+use Rattle.tableau.proofs.Lifting.{lowered-first, lowered-next}
 use Rattle.tableau.proofs.Staying.{signed-all}
 
 -- ---- the exchange

@@ -1,27 +1,26 @@
--- What the steps keep: rows within ±M, where they mark no number beyond ±M; and the count of rows.
+-- What the steps keep: rows within ±M, where they mark no number beyond ±M.
 --   flat-all, all-flat   rows within ±M, and the list of them
---   each-all, round-all, gather-all   each row's step, a round and gathering keep rows within ±M
+--   each-all, signed-all, round-all, gather-all   each row's step, a sign, a round and gathering keep rows within ±M
 --   eliminate-all        so does the whole elimination
---   gather-count, eliminate-count   gathering and elimination keep the count of rows
 -- Assumes nothing.
-use mathlib.Core.Path.{_≡_, refl, _∙_}
+use mathlib.Core.Path.{_≡_, refl}
 use mathlib.Core.Bool.{false}
 use mathlib.Core.List.{List, [], _∷_}
-use Prim.Native.Nat.{ℕ, zero, suc, _+_}
-use native.Mathlib.Nat.{zero-add}
-use native.Mathlib.Omega.{arith}
+use Prim.Native.Nat.{ℕ, zero, suc}
 use lib.IntN.{ℤ, pos, negsuc}
-use lib.ListN.{length, getD, set, length-set, length-append}
+use lib.ListN.{getD, set}
 use Rattle.whole.specs.Lists.{entry}
+use Rattle.whole.proofs.Tests.{neither}
 use Rattle.lattice.specs.Rows.{flat}
 use Rattle.lattice.specs.Span.{All}
 use Rattle.lattice.proofs.Span.{all-append}
 use Rattle.problem.specs.Limits.{anyBeyond}
 use Rattle.tableau.specs.Within.{Within}
-use Rattle.tableau.specs.Elimination.{Left, each, reduced, Choice, none, at, choose, Gathered, exchange, signed, clear, round, gather, Passed, passColumn, passColumns, eliminate}
-use Rattle.tableau.proofs.Within.{within-append, within-left, within-right, within-neg, neither}
+use Rattle.tableau.specs.Elimination.{Left, each, reduced, Choice, none, at, choose, Gathered, exchange, signed, clear, round, gather}
+use Rattle.tableau.specs.Elimination.{Passed, passColumn, passColumns, eliminate}
+use Rattle.tableau.proofs.Within.{within-append, within-left, within-right, within-neg}
 use Rattle.tableau.specs.declared.rows.Way.the-variants.{Below, Above}
-use Rattle.tableau.proofs.Walking.{Step, stepping, each-count}
+use Rattle.tableau.proofs.Walking.{Step, stepping}
 
 pub flat-all : (T : List (List ℤ)) → All Within T → Within (flat T)
 unfolding anyBeyond
@@ -59,7 +58,8 @@ pub signed-all : (z : ℤ) (r : List ℤ) → Within r → Within (signed z r)
 signed-all (pos n) r h = h
 signed-all (negsuc n) r h = within-neg r h
 
-pub round-all : (c : ℕ) (b : List ℤ) (B : List (List ℤ)) → All Within (b ∷ B) → round c b B .over ≡ false → All Within (round c b B .pivot ∷ round c b B .below)
+pub round-all : (c : ℕ) (b : List ℤ) (B : List (List ℤ)) → All Within (b ∷ B) → round c b B .over ≡ false
+    → All Within (round c b B .pivot ∷ round c b B .below)
 unfolding round clear
 round-all c b B a e =
     let z : Choice = choose c (b ∷ B) in
@@ -74,25 +74,9 @@ gather-all zero c z b B a e = a
 gather-all (suc f) c none b B a e = a
 gather-all (suc f) c (at j p) b B a e =
     let x : Gathered = round c b B in
-    let d : (x .over ≡ false) × (gather f c (choose c (x .below)) (x .pivot) (x .below) .over ≡ false) = neither (x .over) (gather f c (choose c (x .below)) (x .pivot) (x .below) .over) e in
+    let y : Gathered = gather f c (choose c (x .below)) (x .pivot) (x .below) in
+    let d : (x .over ≡ false) × (y .over ≡ false) = neither (x .over) (y .over) e in
     gather-all f c (choose c (x .below)) (x .pivot) (x .below) (round-all c b B a (d .0)) (d .1)
-
-exchange-count : (z : Choice) (b : List ℤ) (B : List (List ℤ)) → length (exchange z b B .1) ≡ length B
-unfolding exchange
-exchange-count none b B = refl
-exchange-count (at zero p) b B = refl
-exchange-count (at (suc j) p) b B = length-set B j b
-
-round-count : (c : ℕ) (b : List ℤ) (B : List (List ℤ)) → length (round c b B .below) ≡ length B
-unfolding round clear
-round-count c b B = each-count _ (exchange (choose c (b ∷ B)) b B .1) ∙ exchange-count (choose c (b ∷ B)) b B
-
-pub gather-count : (f c : ℕ) (z : Choice) (b : List ℤ) (B : List (List ℤ)) → length (gather f c z b B .below) ≡ length B
-unfolding gather
-gather-count zero c z b B = refl
-gather-count (suc f) c none b B = refl
-gather-count (suc f) c (at j p) b B =
-    gather-count f c (choose c (round c b B .below)) (round c b B .pivot) (round c b B .below) ∙ round-count c b B
 
 -- ---- columns
 column-all : (c : ℕ) (A B : List (List ℤ)) (z : Choice) → All Within A → All Within B → passColumn c A B z .over ≡ false
@@ -104,9 +88,11 @@ column-all c A (r ∷ B) (at j p) a b e =
     let g : Gathered = gather p c (at j p) r B in
     let d : (g .over ≡ false) × (each (reduced c (g .pivot)) A .over ≡ false) = neither (g .over) (each (reduced c (g .pivot)) A .over) e in
     let h : All Within (g .pivot ∷ g .below) = gather-all p c (at j p) r B b (d .0) in
-    (all-append Within (each (reduced c (g .pivot)) A .table) (g .pivot ∷ []) .1 (each-all A (stepping Above c (g .pivot)) a (d .1), (h .0, tt)), h .1)
+    let k : All Within (each (reduced c (g .pivot)) A .table) = each-all A (stepping Above c (g .pivot)) a (d .1) in
+    (all-append Within (each (reduced c (g .pivot)) A .table) (g .pivot ∷ []) .1 (k, (h .0, tt)), h .1)
 
-columns-all : (d c : ℕ) (A B : List (List ℤ)) → All Within A → All Within B → passColumns d c A B .over ≡ false → All Within (passColumns d c A B .table)
+columns-all : (d c : ℕ) (A B : List (List ℤ)) → All Within A → All Within B → passColumns d c A B .over ≡ false
+    → All Within (passColumns d c A B .table)
 unfolding passColumns
 columns-all zero c A B a b e = all-append Within A B .1 (a, b)
 columns-all (suc d) c A B a b e =
@@ -119,23 +105,3 @@ columns-all (suc d) c A B a b e =
 pub eliminate-all : (w : ℕ) (T : List (List ℤ)) → All Within T → eliminate w T .over ≡ false → All Within (eliminate w T .table)
 unfolding eliminate
 eliminate-all w T a e = columns-all w 0 [] T tt a e
-
-column-count : (c : ℕ) (A B : List (List ℤ)) (z : Choice) → length (passColumn c A B z .above) + length (passColumn c A B z .below) ≡ length A + length B
-unfolding passColumn
-column-count c A B none = refl
-column-count c A [] (at j p) = refl
-column-count c A (r ∷ B) (at j p) =
-    let g : Gathered = gather p c (at j p) r B in
-    let a : List (List ℤ) = each (reduced c (g .pivot)) A .table in
-    omega (arith, length-append a (g .pivot ∷ []), each-count (reduced c (g .pivot)) A, gather-count p c (at j p) r B)
-
-columns-count : (d c : ℕ) (A B : List (List ℤ)) → length (passColumns d c A B .table) ≡ length A + length B
-unfolding passColumns
-columns-count zero c A B = length-append A B
-columns-count (suc d) c A B =
-    let x : Passed = passColumn c A B (choose c B) in
-    columns-count d (suc c) (x .above) (x .below) ∙ column-count c A B (choose c B)
-
-pub eliminate-count : (w : ℕ) (T : List (List ℤ)) → length (eliminate w T .table) ≡ length T
-unfolding eliminate
-eliminate-count w T = columns-count w 0 [] T ∙ zero-add (length T)

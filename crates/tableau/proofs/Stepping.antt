@@ -16,12 +16,11 @@ use native.Mathlib.Omega.{arith}
 use borrow.Author.Tests.{ltb-true, ltb-false, eq-eqb, ne-eqb}
 use lib.Dec.{ltb}
 use lib.IntN.{ℤ, pos, negsuc, negℤ, natAbs, _+ℤ_, _*ℤ_}
-use lib.Signed.{_<ℤ_, _≤ℤ_}
 use lib.ListN.{length, take, drop, take-append-drop, List·getD-eq-default}
 use Rattle.whole.specs.Lists.{entry, zeros}
 use Rattle.whole.specs.Quotient.{floorQuotient, gatheringQuotient}
 use Rattle.whole.specs.Tests.{positive, Positive}
-use Rattle.whole.proofs.Integers.{rep, diff-rel, positive-nonzero, gatheringQuotient-left, floorQuotient-low, floorQuotient-high, add-none}
+use Rattle.whole.proofs.Integers.{rep, diff-rel, positive-nonzero, natAbs-zero, floorQuotient-left, gatheringQuotient-left, add-none}
 use Rattle.whole.proofs.Signed.{abs-add, abs-mul, abs-neg}
 use Rattle.lattice.specs.Rows.{plus, ZeroTo}
 use Rattle.lattice.proofs.RowLaws.{plus-none}
@@ -57,16 +56,9 @@ by-rest x q (positive k) h =
     small (natAbs q) (natAbs x) k
     (omega (arith, abs-mul q (pos (suc k)), ap natAbs (part x q (pos (suc k))), abs-add x (negℤ y), abs-neg y))
 
-below : (x : ℤ) (m : ℕ) → pos 0 ≤ℤ x → x <ℤ pos m → natAbs x < m
-below (pos n) m = simp diff-rel (omega arith)
-below (negsuc n) m = λ h _. absurd (h .le)
-
-floor-rest : {p : ℤ} (x : ℤ) → Positive p → natAbs (x +ℤ negℤ (floorQuotient x p) *ℤ p) < natAbs p
-floor-rest x (positive k) = below _ (suc k) (floorQuotient-low x (positive k)) (floorQuotient-high x (positive k))
-
 pub quotient-small : {p : ℤ} (way : Way) (x : ℤ) → Positive p → natAbs (quotientOf way x p) ≤ natAbs x
 quotient-small {p} Below x h = by-rest x (gatheringQuotient x p) h (gatheringQuotient-left x h)
-quotient-small {p} Above x h = by-rest x (floorQuotient x p) h (floor-rest x h)
+quotient-small {p} Above x h = by-rest x (floorQuotient x p) h (floorQuotient-left x h)
 
 by-one : (x : ℤ) → floorQuotient x (pos 1) ≡ x
 by-one (pos n) = ap pos (div-one n)
@@ -80,10 +72,6 @@ quotient-one Above x e = ap (floorQuotient x) e ∙ by-one x
 nothing : (r s : List ℤ) → Within s → subtract (pos 0) r s ≡ kept s
 nothing r s h = ap (λ (l : List ℤ). record { row = l; over = anyBeyond l }) (plus-none r s) ∙ ap (λ (b : Bool). record { row = s; over = b }) h
 
-zero-of : (x : ℤ) → natAbs x ≡ 0 → x ≡ pos 0
-zero-of (pos n) e = ap pos e
-zero-of (negsuc n) e = absurd (omega arith)
-
 zero-quotient : {p : ℤ} → Positive p → floorQuotient (pos 0) p ≡ pos 0
 zero-quotient (positive k) = ap pos (zero-div (suc k))
 
@@ -91,17 +79,21 @@ pub step-none : (way : Way) (c : ℕ) (r s : List ℤ) → Positive (entry c r) 
 unfolding lowered reduced
 step-none Below c r s p h e = rw (eq-eqb (natAbs (entry c s)) 0 e)
 step-none Above c r s p h e =
-    ap (λ (q : ℤ). subtract q r s) (ap (λ (x : ℤ). floorQuotient x (entry c r)) (zero-of (entry c s) e) ∙ zero-quotient p) ∙ nothing r s h
+    ap (λ (q : ℤ). subtract q r s) (ap (λ (x : ℤ). floorQuotient x (entry c r)) (natAbs-zero (entry c s) e) ∙ zero-quotient p) ∙ nothing r s h
 
 -- a row with another number there
-step-is : (way : Way) (c : ℕ) (r s : List ℤ) → (natAbs (entry c s) ≡ 0 → ⊥) → rowStep way c r s ≡ subtract (quotientOf way (entry c s) (entry c r)) r s
+step-is : (way : Way) (c : ℕ) (r s : List ℤ) → (natAbs (entry c s) ≡ 0 → ⊥)
+    → rowStep way c r s ≡ subtract (quotientOf way (entry c s) (entry c r)) r s
 unfolding lowered reduced
 step-is Below c r s e = rw (ne-eqb (natAbs (entry c s)) 0 e)
 step-is Above c r s e = refl
 
 pub step-idle : (way : Way) (c : ℕ) (r s : List ℤ) → (natAbs (entry c s) ≡ 0 → ⊥) → Within s → natAbs (quotientOf way (entry c s) (entry c r)) ≡ 0
     → rowStep way c r s ≡ kept s
-step-idle way c r s e h q = step-is way c r s e ∙ ap (λ (x : ℤ). subtract x r s) (zero-of (quotientOf way (entry c s) (entry c r)) q) ∙ nothing r s h
+step-idle way c r s e h q =
+    step-is way c r s e
+    ∙ ap (λ (x : ℤ). subtract x r s) (natAbs-zero (quotientOf way (entry c s) (entry c r)) q)
+    ∙ nothing r s h
 
 -- ---- the numbers from c on
 front : (c : ℕ) (q : ℤ) (r s : List ℤ) → ZeroTo c r → plus q r s ≡ take c s ++ plus q (drop c r) (drop c s)

@@ -15,9 +15,12 @@ use lib.Seq.{getD-append-add}
 use lib.IntN.{ℤ, pos, negsuc, negℤ, _+ℤ_, _*ℤ_}
 use Rattle.whole.specs.Lists.{entry, zeros}
 use Rattle.whole.specs.Tests.{positive}
+use Rattle.whole.proofs.Lists.{entry-zeros}
 use Rattle.whole.proofs.Integers.{rep, diff-rel, multiple-zero}
 use Rattle.lattice.specs.Rows.{plus, minus, neg, unit, Zero, ZeroTo}
-use Rattle.lattice.proofs.RowLaws.{length-plus, length-neg, length-unit, plus-cancel, plus-neg, plus-zeros, plus-one, plus-append, Zero-zeros, zeros-Zero, Zero-append, ZeroTo-unit, ZeroTo-next, ZeroTo-all, ZeroTo-plus, entry-plus, entry-zeros, entry-unit-at, entry-unit-before}
+use Rattle.lattice.proofs.RowLaws.{length-plus, length-neg, length-unit, plus-cancel, plus-neg, plus-zeros, plus-one, plus-append}
+use Rattle.lattice.proofs.RowLaws.{Zero-zeros, zeros-Zero, Zero-append, ZeroTo-unit, ZeroTo-next, ZeroTo-all, ZeroTo-plus}
+use Rattle.lattice.proofs.RowLaws.{entry-plus, entry-unit-at, entry-unit-before}
 use Rattle.lattice.specs.Span.{All, Len, Span, Independent}
 use Rattle.lattice.proofs.Span.{span-entry}
 use Rattle.lattice.specs.Sums.{sums, Satisfies}

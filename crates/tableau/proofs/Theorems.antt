@@ -26,8 +26,9 @@ use Rattle.tableau.proofs.FormLaws.{eliminated, passColumns-steps}
 use Rattle.tableau.proofs.TableLaws.{tableau-count, tableau-length, tableau-independent, tableau-generators, tableau-reaches}
 use Rattle.tableau.proofs.FoundLaws.{tells-same, tells-none, tells-unique}
 use Rattle.tableau.proofs.RightLaws.{basis-past, right-tells}
-use Rattle.tableau.specs.Theorems.{GatheringEnds, EliminationForm, FormUnique, ReducedUnique, EliminationUnique, ReachedTells, ReachedSame, ProblemForm}
-use Rattle.tableau.specs.Theorems.{ProblemCount, ProblemWide, ProblemRising, ProblemBasis, BasisRising, SolveTells, SolveSome, SolveNone, SolveSame, Eliminated}
+use Rattle.tableau.specs.Theorems.{Eliminated, GatheringEnds, EliminationForm, FormUnique, ReducedUnique, EliminationUnique}
+use Rattle.tableau.specs.Theorems.{ReachedTells, ReachedSame, ProblemForm, ProblemCount, ProblemWide, ProblemRising, ProblemBasis, BasisRising}
+use Rattle.tableau.specs.Theorems.{SolveTells, SolveSome, SolveNone, SolveSame}
 
 -- ---- elimination
 pub gathering-ends : GatheringEnds

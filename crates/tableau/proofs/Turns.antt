@@ -30,11 +30,6 @@ use Rattle.tableau.proofs.Walking.{each-count}
 use Rattle.tableau.proofs.Staying.{flat-all, all-flat, round-all}
 use Rattle.tableau.proofs.Rounds.{round-is}
 
--- the size of the choice, which falls with each round
-abbrev pub sizeOf : Choice → ℕ
-sizeOf none = 0
-sizeOf (at j p) = p
-
 module _ {k w c j : ℕ} {t : List ℤ} (h : Tail k w c t) (g : Picked k w c t j) where
   abbrev x : Gathered
   x = roundOf k w c t
@@ -98,7 +93,10 @@ module _ {k w c j : ℕ} {t : List ℤ} (h : Tail k w c t) (g : Picked k w c t j
     same : gatheringOf k w c u ≡ gathering c (x .pivot) (x .below)
     same = ap₂ (gathering c) next-top next-below
 
-    pub going-on : (i p : ℕ) → choose c (x .below) ≡ at i p → (gatheringOf k w c u ≡ gatheringOf k w c t) × (p < g .size) × Chosen w c (take w u) (chop (k - 1) w (drop w u)) (i + 1) p
+    pub going-on : (i p : ℕ) → choose c (x .below) ≡ at i p
+        → (gatheringOf k w c u ≡ gatheringOf k w c t)
+        × (p < g .size)
+        × Chosen w c (take w u) (chop (k - 1) w (drop w u)) (i + 1) p
     going-on i p e =
         let n : (p < g .size) × Chosen w c (x .pivot) (x .below) (suc i) p =
         round-next (g .is) (λ (z : Choice). z ≡ at i p → (p < g .size) × Chosen w c (x .pivot) (x .below) (suc i) p)
@@ -109,7 +107,11 @@ module _ {k w c j : ℕ} {t : List ℤ} (h : Tail k w c t) (g : Picked k w c t j
         subst (λ (m : ℕ). (p < g .size) × Chosen w c (x .pivot) (x .below) (suc m) p) a
         (subst (λ (m : ℕ). (m < g .size) × Chosen w c (x .pivot) (x .below) (suc i′) m) b (l′, h′)))
         e in (
-          same ∙ sym (gathering-round (g .is) ∙ ap (λ (z : Choice). following c z x) e ∙ ap (λ (b : Bool). onward b (gathering c (x .pivot) (x .below))) o),
+          same
+              ∙ sym
+              (gathering-round (g .is)
+              ∙ ap (λ (z : Choice). following c z x) e
+              ∙ ap (λ (b : Bool). onward b (gathering c (x .pivot) (x .below))) o),
           n .0,
           subst (λ (m : ℕ). Chosen w c (take w u) (chop (k - 1) w (drop w u)) m p) (sym (add-one i)) (rw (next-top, next-below) (n .1)),
         )

@@ -1,34 +1,28 @@
--- The laws of specs/Within.
---   neither            two marks of which none is set
---   beyond-append      a number of two lists end to end lies beyond ±M
+-- Laws of lists within ±M.
+--   beyond-append        a number of two lists end to end lies beyond ±M where one of either does
+--   within-..            two lists end to end, and each of them; the first numbers, and the others; each number; a negated list; zeros
 --   beyond-none, -next   the first i numbers and the next one, for a loop that collects whether one lies beyond ±M
 -- Assumes nothing.
 use mathlib.Core.Path.{_≡_, refl, sym, _∙_, ap, ap₂}
-use mathlib.Core.Bool.{Bool, true, false, _||_, or-false, false≢true}
+use mathlib.Core.Bool.{Bool, false, _||_, or-false, or-assoc}
 use mathlib.Core.List.{List, [], _∷_, _++_}
 use Prim.Native.Nat.{ℕ, zero, suc, _+_, _<_, _≤_}
 use native.Mathlib.Numerals.{add-one}
 use native.Mathlib.Omega.{arith}
 use borrow.Author.Tests.{ltb-false}
-use lib.IntN.{ℤ, pos, negsuc, negℤ, natAbs}
+use lib.IntN.{ℤ, natAbs}
 use lib.ListN.{length, take, drop, take-append-drop}
 use Rattle.whole.specs.Lists.{entry, zeros}
+use Rattle.whole.proofs.Tests.{neither}
+use Rattle.whole.proofs.Signed.{abs-neg}
 use Rattle.lattice.specs.Rows.{neg}
 use Rattle.problem.specs.Limits.{M, beyond, anyBeyond}
 use Rattle.tableau.specs.Within.{Within}
 
-pub neither : (a b : Bool) → a || b ≡ false → (a ≡ false) × (b ≡ false)
-neither true b e = absurd (false≢true (sym e))
-neither false b e = (refl, e)
-
-or-assoc : (p q r : Bool) → p || (q || r) ≡ (p || q) || r
-or-assoc true q r = refl
-or-assoc false q r = refl
-
 pub beyond-append : (a b : List ℤ) → anyBeyond (a ++ b) ≡ anyBeyond a || anyBeyond b
 unfolding anyBeyond
 beyond-append [] b = refl
-beyond-append (x ∷ a) b = ap (λ (t : Bool). beyond x || t) (beyond-append a b) ∙ or-assoc (beyond x) (anyBeyond a) (anyBeyond b)
+beyond-append (x ∷ a) b = ap (λ (t : Bool). beyond x || t) (beyond-append a b) ∙ sym (or-assoc (beyond x) (anyBeyond a) (anyBeyond b))
 
 pub within-append : (a b : List ℤ) → Within a → Within b → Within (a ++ b)
 within-append a b p q = beyond-append a b ∙ ap₂ _||_ p q
@@ -51,11 +45,6 @@ within-entry [] i p = omega arith
 within-entry (x ∷ l) zero p = ltb-false M (natAbs x) (neither (beyond x) (anyBeyond l) p .0)
 within-entry (x ∷ l) (suc i) p = within-entry l i (neither (beyond x) (anyBeyond l) p .1)
 
-abs-neg : (x : ℤ) → natAbs (negℤ x) ≡ natAbs x
-abs-neg (pos zero) = refl
-abs-neg (pos (suc n)) = refl
-abs-neg (negsuc n) = refl
-
 pub within-neg : (l : List ℤ) → Within l → Within (neg l)
 unfolding anyBeyond neg
 within-neg [] p = refl
@@ -74,7 +63,7 @@ unfolding anyBeyond
 next [] i h = absurd (omega arith)
 next (x ∷ l) zero h = or-false (beyond x)
 next (x ∷ l) (suc i) h =
-    ap (λ (t : Bool). beyond x || t) (next l i (omega arith)) ∙ or-assoc (beyond x) (anyBeyond (take i l)) (beyond (entry i l))
+    ap (λ (t : Bool). beyond x || t) (next l i (omega arith)) ∙ sym (or-assoc (beyond x) (anyBeyond (take i l)) (beyond (entry i l)))
 
 pub beyond-next : (l : List ℤ) (i : ℕ) → i < length l → anyBeyond (take (i + 1) l) ≡ anyBeyond (take i l) || beyond (entry i l)
 beyond-next l i h = rw (add-one) (next l i h)

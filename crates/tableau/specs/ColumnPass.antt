@@ -2,7 +2,7 @@
 --   Standing n w c k t    t is a table of n rows of w numbers within ±M, of which k are done, and the others are 0 before column c
 --   aboveOf, belowOf      the rows that are done, and the others
 --   passedOf n w c k t    column c of such a table
---   rejoined x             the rows above row k and those from it on, as one table
+--   rejoined x            the rows above row k and those from it on, as one table
 -- Assumes nothing.
 use mathlib.Core.Path.{_≡_}
 use mathlib.Core.List.{List, _++_}

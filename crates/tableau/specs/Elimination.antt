@@ -1,10 +1,18 @@
 -- Document 01, "The tableau": the steps that bring a table into its Hermite form, over unbounded whole numbers.
 --   Left             a row after a subtraction, and whether that left a number beyond ±M in it
---   Choice           the row that gathering chooses, counted from row k, with its magnitude; `none` where all entries are 0
---   Gathered         row k and the rows below it after gathering, and whether a subtraction left a number beyond ±M
+--   subtract q r s, kept s       q times r taken from s; no subtraction
+--   lowered c r s, reduced c r s   the row r taken from a row s by their entries at c: from a lower row, and from a row above
 --   Run              a table after the steps, and whether a subtraction of theirs left a number beyond ±M
---   gather           the rounds of one column
+--   each f B         the step f of each row in turn, top first
+--   Choice           the row that gathering chooses, counted from row k, with its magnitude; `none` where all entries are 0
+--   choose c B       that of the rows B at column c; by `shifted` and `prefer`, from the last row up
+--   Gathered         row k and the rows below it after gathering, and whether a subtraction left a number beyond ±M
+--   exchange, signed, clear   what a round does: the chosen row to row k, its sign, the lower rows by it
+--   round c b B      one round on row k, which is b, and the rows B below it
+--   gather f c z b B   the rounds of one column, f at most; by `onward`, which adds a round's mark to what follows
+--   Passed           the rows above row k and those from it on after a column, and whether a subtraction left a number beyond ±M
 --   passColumn       one column c: gathering, then the rows above
+--   passColumns      d columns from c on
 --   eliminate w T    all w columns of the table T, from left to right
 -- A subtraction goes on with the number that it left, beyond ±M or not: `over` only remembers it. So the table is that of the rules over
 -- unbounded numbers, and refusal 7 reads the mark.

@@ -1,8 +1,8 @@
--- Laws of gathering: it is made of elementary row steps, it ends, and what it leaves.
---   ..-steps             so are an exchange, a sign, clearing, a round and gathering
+-- What gathering starts from, and what it leaves.
 --   Chosen n c b B j p   column c is one of n, the rows b and B have n numbers, and the choice among them is row j with the magnitude p
 --   Alone c b B          b's entry at c is above 0, and those of B are 0
---   gathering c b B      the whole of it, with no count of rounds in sight
+--   magnitude z          the magnitude that a choice has; 0 where there is none
+--   gathering c b B      the rounds of column c, with no count of rounds in sight
 -- Assumes nothing.
 use mathlib.Core.Path.{_≡_}
 use mathlib.Core.List.{List, _∷_}
@@ -13,7 +13,6 @@ use Rattle.whole.specs.Tests.{Positive}
 use Rattle.lattice.specs.Span.{All, Len}
 use Rattle.tableau.specs.Elimination.{Choice, none, at, choose, Gathered, gather}
 
--- what the laws ask for
 pub record Chosen (n c : ℕ) (b : List ℤ) (B : List (List ℤ)) (j p : ℕ) : Type 0 where
   pub within : c < n
   pub wide : All (Len n) (b ∷ B)

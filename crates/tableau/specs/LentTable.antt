@@ -1,11 +1,11 @@
 -- What elimination answers and leaves in a lent table. Document 01, "Turned back", 7: "tableau all 0".
---   Outcome          what is answered, whether a number beyond ±M was left, and what the lent table holds then
---   outcome x t      that of the steps x on the table that lay in t
---   eliminatedOf k w t   the elimination of the k rows of w numbers in t
 --   Formable p t a   what the causes 1 to 3 leave of a problem p, the tableau's buffer t and the coefficients a
 --   matrixOf p a     the matrix, its rows one after the other in the coefficients
 --   formOf p a       the form of the tableau
 --   formAfter x t    what the buffer t of a table holds after the steps x
+--   Outcome          what is answered, whether a number beyond ±M was left, and what the lent table holds then
+--   outcome x t      that of the steps x on the table that lay in t
+--   eliminatedOf k w t   the elimination of the k rows of w numbers in t
 -- Assumes nothing.
 use mathlib.Core.Path.{_≡_}
 use mathlib.Core.Bool.{Bool, true, cond}

@@ -1,4 +1,4 @@
--- The root of the definitions and of the tableau's laws.
+-- The root of the definitions.
 pub mod Table
 pub mod Elimination
 pub mod RightSide

@@ -1,12 +1,15 @@
 -- Document 01, "The tableau", **Right side**: the starting list and the basis, or "none".
+--   further over x  a subtraction marked `over`, and what follows on it
 --   sweep T v       with each row of T, top first, the rounded-down quotient times that row subtracted from v
 --   leading m T     the rows whose lead lies in the first m columns
 --   remaining m T   the others
 --   basis m T       "The remaining table rows, without their m zeros, are the basis"
 --   Found           "no whole numbers satisfy the rows", or the starting list and the basis
 --   Solved          what is found, the form, and whether the problem is past the elimination limit (refusal 7)
---   rightSide m T o v   the right side v of a form T, with what is found
---   listLeft m T v  the list that v has become then: after the leading rows where no whole numbers satisfy the rows, else after the others too
+--   rightSide m T o v   the right side v of a form T, with what is found; by `afterLeading`, from the list after the leading rows
+--   listLeft m T v  the list that v has become then: after the leading rows where no whole numbers satisfy the rows, else after the others
+--                   too; by `leftOf`
+--   form n A        the form of the tableau of n columns and the matrix A
 --   solve n A b     the tableau and the right side of n columns, the matrix A and the right sides b
 -- "starting list" is document 01's term: the reduced representative of the coset of solutions. The basis is the kernel basis in Hermite form.
 -- Assumes nothing.
@@ -21,7 +24,6 @@ use Rattle.lattice.specs.Rows.{neg, allZero, lead}
 use Rattle.tableau.specs.Table.{tableau}
 use Rattle.tableau.specs.Elimination.{Left, kept, reduced, Run, eliminate}
 
--- a subtraction marked `over`, and what follows on it
 abbrev pub further : Bool → Left → Left
 further over x = record { row = x .row; over = over || x .over }
 
@@ -72,7 +74,6 @@ listLeft m T v =
     let u : List ℤ = sweep (leading m T) v .row in
     leftOf (rightSide m T false v .found) u (sweep (remaining m T) u .row)
 
--- the form of the tableau of n columns and the matrix A
 unfoldable pub form : ℕ → List (List ℤ) → Run
 form n A = eliminate (length A + n) (tableau n A)
 

@@ -1,5 +1,6 @@
 -- Document 01, "The tableau": the table of a problem before the first step.
 --   column j A      column j of the matrix A, the list of its rows
+--   tableauFrom k j n A   the table rows j to j + k − 1
 --   tableau n A     "One table row per column of the problem: table row j is column j of the matrix (m numbers), then the j-th unit list (n
 --                   numbers)."
 --   maxWidth        the most numbers that a row of a table can have: those of a group's table
@@ -15,7 +16,6 @@ use Rattle.problem.specs.Limits.{groupColumns, groupRows}
 abbrev pub column : ℕ → List (List ℤ) → List ℤ
 column j A = map (entry j) A
 
--- the table rows j to j + k − 1
 unfoldable pub tableauFrom : ℕ → ℕ → ℕ → List (List ℤ) → List (List ℤ)
 tableauFrom zero j n A = []
 tableauFrom (suc k) j n A = (column j A ++ unit n j) ∷ tableauFrom k (suc j) n A

@@ -1,22 +1,24 @@
 -- The theorems on the tableau and the right side, over unbounded whole numbers.
---   gathering-ends       the rounds of a column end
---   elimination-form     elimination keeps the row span and leaves a Hermite form
---   form-unique          a span has one Hermite form
---   reduced-unique       a coset has one reduced list
---   elimination-unique   elimination of two tables leaves the same exactly when they span the same lists
---   reached-tells        what generator rows and a right side find tells the set of lists that they reach
---   reached-same         two of them find the same exactly when they reach the same lists
---   problem-form         a problem's tableau comes into its Hermite form
---   problem-count, -wide it has a row of m + n numbers for each column
---   problem-rising       the form's leads rise
---   problem-basis        each vector of the basis has n numbers and a lead above 0
---   basis-rising         and their leads rise
---   solve-tells          what a problem finds tells the set of lists that satisfy its rows
---   solve-some           these lists are the starting list and the whole combinations of the basis added to it
---   solve-none           there is no such list exactly when "none" is found
---   solve-same           two problems find the same exactly when the same lists satisfy their rows
--- The terms: Span, Same, Independent (lattice, Span); Echelon, Hermite, Reduced (lattice, Hermite); Describes (lattice, Coset); Satisfies (lattice,
--- Sums); Generators, Reaches, Tells, Sized (Generators); Chosen, Alone (GatherLaws); Eliminated (FormLaws).
+--   Eliminated n T      what elimination leaves of a table of n columns: a Hermite form with the table's span
+--   GatheringEnds       the rounds of a column end
+--   EliminationForm     elimination keeps the row span and leaves a Hermite form
+--   FormUnique          a span has one Hermite form
+--   ReducedUnique       a coset has one reduced list
+--   EliminationUnique   elimination of two tables leaves the same exactly when they span the same lists
+--   ReachedTells        what generator rows and a right side find tells the set of lists that they reach
+--   ReachedSame         two of them find the same exactly when they reach the same lists
+--   ProblemForm         a problem's tableau comes into its Hermite form
+--   ProblemCount, -Wide it has a row of m + n numbers for each column
+--   ProblemRising       the form's leads rise
+--   ProblemBasis        each vector of the basis has n numbers and a lead above 0
+--   BasisRising         and their leads rise
+--   SolveTells          what a problem finds tells the set of lists that satisfy its rows
+--   SolveSome           these lists are the starting list and the whole combinations of the basis added to it
+--   SolveNone           there is no such list exactly when "none" is found
+--   SolveSame           two problems find the same exactly when the same lists satisfy their rows
+-- The terms: Span, Same, Independent (lattice, Span); Echelon, Led, Rising, Hermite, Reduced (lattice, Hermite); Describes (lattice, Coset);
+-- Satisfies (lattice, Sums); Generators, Reaches, Tells, Sized (Generators); Chosen, Alone (Gathering). Each is proved in proofs/Theorems, under its
+-- name in small letters, as `gathering-ends`.
 -- Assumes nothing.
 use mathlib.Core.Path.{_≡_}
 use mathlib.Core.Logic.{_↔_}
@@ -35,7 +37,6 @@ use Rattle.tableau.specs.RightSide.{basis, none, some, rightSide, form, 
 use Rattle.tableau.specs.Generators.{Generators, Reaches, Tells, Sized}
 use Rattle.tableau.specs.Gathering.{Chosen, Alone}
 
--- what elimination leaves of a table: a Hermite form with the table's span
 pub record Eliminated (n : ℕ) (T : List (List ℤ)) : Type 0 where
   pub form : Echelon
   pub wide : width form ≡ n
@@ -52,7 +53,7 @@ GatheringEnds =
     → Alone c (gather p c (at j p) b B .pivot) (gather p c (at j p) b B .below) × (gather f c (at j p) b B ≡ gather p c (at j p) b B)
 
 -- Of independent rows of n numbers, elimination leaves the rows of a Hermite form of n columns (`form`, `wide`, `hermite`, `is`), and these span the
--- same lists of n numbers as the table did (`keeps`). That it ends is `gathering-ends`: every other step is once for each row or column.
+-- same lists of n numbers as the table did (`keeps`). That it ends is `GatheringEnds`: every other step is once for each row or column.
 abbrev pub EliminationForm : Type 0
 EliminationForm =
     (n : ℕ) (T : List (List ℤ)) → All (Len n) T → Independent n T → Eliminated n T
@@ -84,7 +85,7 @@ ReachedTells =
     → Tells n (Reaches n m T v) (rightSide m (eliminate (m + n) T .table) over v .found)
 
 -- Two generator tables with right sides, with heads of m and of m′ columns, find the same exactly when they reach the same lists of n numbers. What
--- is found in any other way is the same too, if it tells the same set (FoundLaws, `tells-unique`).
+-- is found in any other way is the same too, if it tells the same set (proofs/FoundLaws, `tells-unique`).
 abbrev pub ReachedSame : Type 0
 ReachedSame =
     (n m m′ : ℕ) (T T′ : List (List ℤ)) (over over′ : Bool) (v v′ : List ℤ) → Generators n m T v → Generators n m′ T′ v′

@@ -18,14 +18,8 @@ use Rattle.whole.proofs.Signed.{sub-ge, sub-lt, abs-mul}
 -- more calls than the second number change nothing
 enough : (n m a b : ℕ) → b < n → b < m → divisorBy n a b ≡ divisorBy m a b
 unfolding divisorBy
-enough zero m a b h k = absurd (none b h)
-  where
-    none : (b : ℕ) → b < 0 → ⊥
-    none b h = omega arith
-enough (suc n) zero a b h k = absurd (none b k)
-  where
-    none : (b : ℕ) → b < 0 → ⊥
-    none b h = omega arith
+enough zero m a b h k = absurd (omega arith)
+enough (suc n) zero a b h k = absurd (omega arith)
 enough (suc n) (suc m) a zero h k = refl
 enough (suc n) (suc m) a (suc b) h k =
     let r : a % suc b < suc b = mod-lt a (zero-lt-suc b) in
@@ -37,10 +31,7 @@ divisor-zero a = refl
 
 pub divisor-step : (a b : ℕ) → 0 < b → divisor a b ≡ divisor b (a % b)
 unfolding divisor divisorBy
-divisor-step a zero h = absurd (none h)
-  where
-    none : 0 < 0 → ⊥
-    none h = omega arith
+divisor-step a zero h = absurd (omega arith)
 divisor-step a (suc b) h =
     enough (suc b) (suc (a % suc b)) (suc b) (a % suc b) (mod-lt a (zero-lt-suc b)) (omega arith)
 

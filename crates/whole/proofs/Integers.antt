@@ -1,12 +1,16 @@
--- The laws of specs/Integers.
---   rep x                    x as such a difference
+-- Laws of whole numbers: their arithmetic, by way of natural numbers, and quotients by a number above 0.
+--   rep x                    x as a difference of two natural numbers
 --   diff, diff-rel           the rules that turn sums, products, equations and orders of differences into statements on naturals, which
 --                            `omega` proves. So an identity, or a linear fact with its hypotheses as arrows, is one line:
 --                            law x y = rw (rep x, rep y) (simp diff-rel (omega arith))
---   add-none, isZero-true    a multiple of 0 adds nothing; the test's meaning
+--   add-none                 a multiple of 0 adds nothing
+--   natAbs-zero, isZero-true a number of magnitude 0, and the test for it
+--   positive-.., above-..    what "above 0" says
+--   multiple-..              multiples of a number above 0: which is 0, which two are the same
 --   floorQuotient-low, -high what the floor quotient leaves lies in 0 to p − 1
+--   floorQuotient-left       and has a magnitude below p
+--   gatheringQuotient-left   so has what the gathering quotient leaves. Callers use no other law of it
 --   floor-by-machine         the floor quotient is the machine's, which cuts towards 0, less 1 where the remainder is below 0
---   gatheringQuotient-left   what the gathering quotient leaves has a magnitude below p. Callers use no other law of it
 -- Assumes nothing.
 use mathlib.Core.Path.{_≡_, refl, _∙_, ap}
 use mathlib.Core.Logic.{_↔_}
@@ -157,9 +161,12 @@ pub add-none : (c x y : ℤ) → y ≡ pos 0 → x +ℤ c *ℤ y ≡ x
 add-none c x y e = ap (λ (t : ℤ). x +ℤ c *ℤ t) e ∙ rw (rep c, rep x) (simp diff-rel (omega arith))
 
 -- ---- tests
+pub natAbs-zero : (x : ℤ) → natAbs x ≡ 0 → x ≡ pos 0
+natAbs-zero (pos n) e = ap pos e
+natAbs-zero (negsuc n) e = absurd (omega arith)
+
 pub isZero-true : (x : ℤ) → isZero x ≡ true → x ≡ pos 0
-isZero-true (pos n) t = ap pos (eqb-true n 0 t)
-isZero-true (negsuc n) t = absurd (omega (arith, eqb-true (suc n) 0 t))
+isZero-true x t = natAbs-zero x (eqb-true (natAbs x) 0 t)
 
 pub positive-of : (n : ℕ) → 0 < n → Positive (pos n)
 positive-of zero h = absurd (omega arith)
@@ -216,6 +223,16 @@ floorQuotient-low x h = floor-both x h .0
 pub floorQuotient-high : {p : ℤ} (x : ℤ) → Positive p → (x +ℤ negℤ (floorQuotient x p) *ℤ p) <ℤ p
 floorQuotient-high x h = floor-both x h .1
 
+natAbs-below : (x : ℤ) (m : ℕ) → pos 0 ≤ℤ x → x <ℤ pos m → natAbs x < m
+natAbs-below (pos n) m = simp diff-rel (omega arith)
+natAbs-below (negsuc n) m = λ h _. absurd (h .le)
+
+pub floorQuotient-left : {p : ℤ} (x : ℤ) → Positive p → natAbs (x +ℤ negℤ (floorQuotient x p) *ℤ p) < natAbs p
+floorQuotient-left x (positive k) = natAbs-below _ (suc k) (floorQuotient-low x (positive k)) (floorQuotient-high x (positive k))
+
+pub gatheringQuotient-left : {p : ℤ} (x : ℤ) → Positive p → natAbs (x +ℤ negℤ (gatheringQuotient x p) *ℤ p) < natAbs p
+gatheringQuotient-left x h = floorQuotient-left x h
+
 -- −(a + 1) = −(t (k + 1) + r): with no remainder a / (k + 1) is t − 1, and else it is t
 machine-below : (a k t r : ℕ) → t * suc k + r ≡ suc a → r < suc k
     → negsuc (a / suc k) ≡ cond (ltZ (negℤ (pos r)) (pos 0)) (negℤ (pos t) -ℤ pos 1) (negℤ (pos t))
@@ -229,10 +246,3 @@ pub floor-by-machine : {p : ℤ} (e : ℤ) → Positive p
 floor-by-machine (pos a) (positive k) = rw (le-ltb (a % suc k) 0 (omega arith))
 floor-by-machine (negsuc a) (positive k) =
     machine-below a k (suc a / suc k) (suc a % suc k) (div-add-mod' (suc a) (suc k)) (mod-lt (suc a) {m = suc k} (omega arith))
-
-natAbs-below : (x : ℤ) (m : ℕ) → pos 0 ≤ℤ x → x <ℤ pos m → natAbs x < m
-natAbs-below (pos n) m = simp diff-rel (omega arith)
-natAbs-below (negsuc n) m = λ h _. absurd (h .le)
-
-pub gatheringQuotient-left : {p : ℤ} (x : ℤ) → Positive p → natAbs (x +ℤ negℤ (gatheringQuotient x p) *ℤ p) < natAbs p
-gatheringQuotient-left x (positive k) = natAbs-below _ (suc k) (floorQuotient-low x (positive k)) (floorQuotient-high x (positive k))

@@ -1,4 +1,6 @@
 -- The root of the laws that the proofs cite.
+pub mod Tests
+pub mod Lists
 pub mod Signed
 pub mod Euclid
 pub mod Counted

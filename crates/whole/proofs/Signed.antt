@@ -1,4 +1,13 @@
--- Laws of signed numbers that the proofs cite. A bound on a signed number is a bound on its `natAbs`. Assumes nothing.
+-- Laws of signed numbers. A bound on a signed number is a bound on its `natAbs`.
+--   sub-ge, sub-lt       a difference of two naturals, where the test is known
+--   abs-neg, -add, -mul  magnitudes of the operations
+--   sfits-abs            a number of magnitude below 2 to the 63rd is an i64
+--   back                 what the machine reads back is what was stored
+--   flip, flip-..        −1 − z, which is an i64 where z is
+--   over                 what the machine's division by a number above 0 asks for
+--   rem-fits, floor-fits the remainder and the floor quotient are i64s where the number divided is
+--   lt-zero              what a test against 0 says of the sign
+-- Assumes nothing.
 use mathlib.Core.Path.{_≡_, refl, ap, _∙_}
 use mathlib.Core.Bool.{Bool, true, false, not}
 use Prim.Native.Nat.{ℕ, zero, suc, _+_, _-_, _*_, _/_, _^_, _≤_, _<_, zero-le}
@@ -47,11 +56,9 @@ mag-le : (z : ℤ) → mag z ≤ natAbs z
 mag-le (pos n) = le-refl n
 mag-le (negsuc n) = omega arith
 
--- a number of magnitude below 2 ^ 63 is an i64
 pub sfits-abs : (z : ℤ) → natAbs z < 2 ^ 63 → SFits w64 z
 sfits-abs z h = record { sfits = lt-of-le-of-lt (mag-le z) h }
 
--- what the machine reads back
 pub back : (z : ℤ) → mag z < 2 ^ 63 → toZ w64 (ofZ w64 z) ≡ z
 back z h = toZ-ofZ (record { sfits = h })
 
@@ -65,7 +72,7 @@ flip-is (pos zero) = refl
 flip-is (pos (suc n)) = ap (λ (m : ℕ). negsuc (suc m)) (zero-add n)
 flip-is (negsuc n) = sub-ge (suc n) 1 (omega arith) ∙ ap pos (omega arith)
 
-pub mag-flip : (z : ℤ) → mag (flip z) ≡ mag z
+mag-flip : (z : ℤ) → mag (flip z) ≡ mag z
 mag-flip (pos n) = refl
 mag-flip (negsuc n) = refl
 
@@ -81,7 +88,6 @@ mag-quot : {p : ℤ} (a : ℤ) → Positive p → mag (quotZ a p) ≤ mag a
 mag-quot (pos a) (positive k) = div-le-self a (suc k)
 mag-quot (negsuc a) (positive k) = mag-neg (suc a / suc k) a (div-le-self (suc a) (suc k))
 
--- what the machine's division asks for: a divisor above 0 and a quotient that fits
 pub over : {p : ℤ} (a : ℤ) → SFits w64 a → Positive p → (0 < ofZ w64 p) × SFits w64 (quotZ a p)
 over a f (positive k) = (zero-lt-suc k, record { sfits = lt-of-le-of-lt (mag-quot a (positive k)) (f .sfits) })
 
@@ -95,7 +101,6 @@ mag-floor (negsuc a) (positive k) = div-le-self a (suc k)
 pub floor-fits : {p : ℤ} (a : ℤ) → SFits w64 a → Positive p → SFits w64 (floorQuotient a p)
 floor-fits a f h = record { sfits = lt-of-le-of-lt (mag-floor a h) (f .sfits) }
 
--- what a test against 0 says of the sign
 pub lt-zero : (z : ℤ) → ltZ z (pos 0) ≡ not (nonNeg z)
 lt-zero (pos n) = le-ltb n 0 zero-le
 lt-zero (negsuc n) = refl

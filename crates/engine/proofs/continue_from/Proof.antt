@@ -12,7 +12,8 @@ use Rattle.whole.specs.Lists.{zeros}
 use Rattle.lattice.specs.Rows.{flat}
 use Rattle.problem.specs.Limits.{anyBeyond}
 use Rattle.problem.specs.Checks.{Posed, firstCause}
-use Rattle.problem.proofs.CheckLaws.{Passes, passes, Fits, fits, both-true}
+use Rattle.whole.proofs.Tests.{both-true}
+use Rattle.problem.proofs.CheckLaws.{Passes, passes, Fits, fits}
 use Rattle.problem.specs.declared.Check.the-variants.{Passed}
 use Rattle.problem.specs.declared.Refusal.the-variants.{Elimination}
 use Rattle.tableau.proofs.Within.{within-entry}

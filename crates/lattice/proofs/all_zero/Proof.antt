@@ -19,7 +19,10 @@ abbrev μ-loop : tie.MeasureT-loop
 μ-loop row i₀ i = length row - i
 
 -- what the call answers at the place that the loop has come to
-tested : (c : tie.After-magnitude Inv-loop μ-loop) → c .magnitude .result ≡ natAbs (entry (c .before .before .before .loop .i) (c .before .before .before .before .args .row .now))
+tested :
+    (c : tie.After-magnitude Inv-loop μ-loop) →
+    let l = c .before .before .before in
+    c .magnitude .result ≡ natAbs (entry (l .loop .i) (l .before .args .row .now))
 tested c = rw (back _ (c .before .magnitude-arg .given)) at (c .magnitude .ensures)
 
 loop-holds : tie.Need-loop-holds Inv-loop μ-loop
@@ -35,7 +38,9 @@ magnitude-requires : tie.Need-magnitude-requires Inv-loop μ-loop
 magnitude-requires c κs = search needs
 
 returns : tie.Need-returns Inv-loop μ-loop
-returns c = sym (zero-at _ _ (c .before .before .before .loop-test .taken) (rw (tested (c .before)) at (c .if1 .taken))) ∙ c .before .before .before .before .loop .inv .1
+returns c =
+    let d = c .before .before .before in
+    sym (zero-at _ _ (d .loop-test .taken) (rw (tested (c .before)) at (c .if1 .taken))) ∙ d .before .loop .inv .1
 
 add-i : tie.Need-add-i Inv-loop μ-loop
 add-i c = omega arith
@@ -44,7 +49,9 @@ loop-less : tie.Need-loop-less Inv-loop μ-loop
 loop-less c = omega arith
 
 loop-again : tie.Need-loop-again Inv-loop μ-loop
-loop-again c = (omega arith, sym (zero-on _ _ (c .before .before .before .loop-test .taken) (rw (tested (c .before)) at (c .if1 .left))) ∙ c .before .before .before .before .loop .inv .1)
+loop-again c =
+    let d = c .before .before .before in
+    (omega arith, sym (zero-on _ _ (d .loop-test .taken) (rw (tested (c .before)) at (c .if1 .left))) ∙ d .before .loop .inv .1)
 
 returns-2 : tie.Need-returns-2 Inv-loop μ-loop
 returns-2 c = sym (zero-end _ _ (c .loop-test .left)) ∙ c .before .loop .inv .1

@@ -1,11 +1,12 @@
 -- `lattice::wipe` meets its contract: from the left, a 0 is stored at each place. Assumes nothing.
 use mathlib.Core.Path.{sym}
-use Prim.Native.Nat.{_-_}
+use Prim.Native.Nat.{ℕ, _-_}
 use native.Mathlib.Omega.{arith}
 use lib.IntN.{pos}
-use lib.ListN.{length, length-replicate, getD-replicate}
+use lib.ListN.{length, length-replicate}
 use borrow.Author.Needs.{needs}
 use Rattle.whole.specs.Lists.{zeros}
+use Rattle.whole.proofs.Lists.{entry-zeros}
 use Rattle.lattice.proofs.Writing.{WrittenTo, starts, goes-on, ends}
 use Rattle.lattice.proofs.wipe.Statement.{statement}
 use Rattle.lattice.proofs.wipe.Tie as tie
@@ -32,13 +33,18 @@ loop-less : tie.Need-loop-less Inv-loop μ-loop
 loop-less c = omega (arith, c .before .loop .inv .same)
 
 loop-again : tie.Need-loop-again Inv-loop μ-loop
-loop-again c = goes-on (c .before .loop .inv) (omega (arith, c .before .loop .inv .same, length-replicate (length (c .before .before .args .row .now)) (pos 0))) (sym (getD-replicate (length (c .before .before .args .row .now)) (c .before .loop .i) (pos 0) (pos 0) (omega (arith, c .before .loop .inv .same))))
+loop-again c =
+    let l = c .before .loop in
+    let n : ℕ = length (c .before .before .args .row .now) in
+    goes-on (l .inv) (omega (arith, l .inv .same, length-replicate n (pos 0))) (sym (entry-zeros (l .i) n))
 
 same-length : tie.Need-same-length Inv-loop μ-loop
 same-length c = c .before .loop .inv .same
 
 returns : tie.Need-returns Inv-loop μ-loop
-returns c = ends (c .before .loop .inv) (omega (arith, c .before .loop .inv .same, length-replicate (length (c .before .before .args .row .now)) (pos 0)))
+returns c =
+    let l = c .before .loop in
+    ends (l .inv) (omega (arith, l .inv .same, length-replicate (length (c .before .before .args .row .now)) (pos 0)))
 
 pub wipe-spec : {M : Type 1} → statement M
 wipe-spec =

@@ -55,35 +55,54 @@ mul-copy : tie.Need-mul-copy
 mul-copy c = search needs
 
 sub-copy : tie.Need-sub-copy
-sub-copy c = omega (arith, c .before .before .before .before .right-side .kept .0, c .before .before .before .before .before .before .before .turn-over .kept .0, work-wide (c .before .before .before .before .before .before .before .before .before .pre))
+sub-copy c =
+    let after-right-side = c .before .before .before .before in
+    let after-turn-over = after-right-side .before .before .before in
+    let start = after-turn-over .before .before in
+    omega (arith, after-right-side .right-side .kept .0, after-turn-over .turn-over .kept .0, work-wide (start .pre))
 
 part-copy-start : tie.Need-part-copy-start
-part-copy-start c = omega (arith, c .before .before .before .before .before .right-side .kept .0, c .before .before .before .before .before .before .before .before .turn-over .kept .0, work-wide (c .before .before .before .before .before .before .before .before .before .before .pre))
+part-copy-start c =
+    let after-right-side = c .before .before .before .before .before in
+    let after-turn-over = after-right-side .before .before .before in
+    let start = after-turn-over .before .before in
+    omega (arith, after-right-side .right-side .kept .0, after-turn-over .turn-over .kept .0, work-wide (start .pre))
 
 part-copy-end : tie.Need-part-copy-end
 part-copy-end c = search needs
 
 copy-requires : tie.Need-copy-requires
 copy-requires c κs =
-    let m : ℕ = c .before .before .before .before .before .before .before .before .before .before .before .args .p .rows in
-    let u : List ℤ = c .before .before .before .before .before .before .right-side .last .0 in
-    c .before .before .before .before .before .before .before .before .before .before .before .pre .start ∙ sym (ap length (tail-is m u) ∙ omega (arith, length-drop m u, c .before .before .before .before .before .before .right-side .kept .0, c .before .before .before .before .before .before .before .before .before .turn-over .kept .0, work-wide (c .before .before .before .before .before .before .before .before .before .before .before .pre)))
+    let answered = c .before .before .before .before .before in
+    let after-right-side = answered .before in
+    let after-turn-over = after-right-side .before .before .before in
+    let s = after-turn-over .before .before in
+    let m : ℕ = s .args .p .rows in
+    let u : List ℤ = after-right-side .right-side .last .0 in
+    s .pre .start
+    ∙ sym
+    (ap length (tail-is m u)
+    ∙ omega (arith, length-drop m u, after-right-side .right-side .kept .0, after-turn-over .turn-over .kept .0, work-wide (s .pre)))
 
 same-length : tie.Need-same-length
 same-length c = search needs
 
 returns : tie.Need-returns
 returns c =
-    let e = sym (c .enum-told .given .1) ∙ told (c .before .before .before) in
-    (e, sym (start-over (foundOf (c .before .before .before .before .before .before .before .before .args .p) (c .before .before .before .before .before .before .before .before .args .t .now) (c .before .before .before .before .before .before .before .before .args .rights .now)) (c .before .before .before .before .before .before .before .before .args .start .now) e))
+    let after-right-side = c .before .before .before in
+    let s = after-right-side .before .before .before .before .before in
+    let e = sym (c .enum-told .given .1) ∙ told after-right-side in
+    (e, sym (start-over (foundOf (s .args .p) (s .args .t .now) (s .args .rights .now)) (s .args .start .now) e))
 
 same-length-2 : tie.Need-same-length-2
 same-length-2 c = search needs
 
 returns-2 : tie.Need-returns-2
 returns-2 c =
-    let e = sym (c .enum-told2 .given .1) ∙ told (c .before .before .before) in
-    (e, sym (start-none (foundOf (c .before .before .before .before .before .before .before .before .args .p) (c .before .before .before .before .before .before .before .before .args .t .now) (c .before .before .before .before .before .before .before .before .args .rights .now)) (c .before .before .before .before .before .before .before .before .args .start .now) e))
+    let after-right-side = c .before .before .before in
+    let s = after-right-side .before .before .before .before .before in
+    let e = sym (c .enum-told2 .given .1) ∙ told after-right-side in
+    (e, sym (start-none (foundOf (s .args .p) (s .args .t .now) (s .args .rights .now)) (s .args .start .now) e))
 
 same-length-3 : tie.Need-same-length-3
 same-length-3 c = search needs
@@ -93,12 +112,19 @@ same-length-4 c = search needs
 
 returns-3 : tie.Need-returns-3
 returns-3 c =
-    let n = c .before .before .before .before .before .before .before .before in
-    let e = sym (c .before .before .before .before .before .enum-told3 .given .1) ∙ told n in
-    let m : ℕ = c .before .before .before .before .before .before .before .before .before .before .before .before .before .args .p .rows in
-    let u : List ℤ = c .before .before .before .before .before .before .before .before .right-side .last .0 in (
+    let on-found = c .before .before .before .before .before in
+    let n = on-found .before .before .before in
+    let s = n .before .before .before .before .before in
+    let e = sym (on-found .enum-told3 .given .1) ∙ told n in
+    let m : ℕ = s .args .p .rows in
+    let u : List ℤ = n .right-side .last .0 in (
       e,
-      c .before .copy .ensures ∙ tail-is m u ∙ sym (start-found (foundOf (c .before .before .before .before .before .before .before .before .before .before .before .before .before .args .p) (c .before .before .before .before .before .before .before .before .before .before .before .before .before .args .t .now) (c .before .before .before .before .before .before .before .before .before .before .before .before .before .args .rights .now)) (c .before .before .before .before .before .before .before .before .before .before .before .before .before .args .start .now) (drop m u) _ e (ap (λ (x : Solved). x .found) (sym (same n)) ∙ righted-starts _ _ _ (rw (c .before .before .before .before .before .enum-told3 .given .1) at (c .before .before .before .before .before .before .before .before .right-side .ensures)))),
+      c .before .copy .ensures
+          ∙ tail-is m u
+          ∙ sym
+          (start-found (foundOf (s .args .p) (s .args .t .now) (s .args .rights .now)) (s .args .start .now) (drop m u) _ e
+          (ap (λ (x : Solved). x .found) (sym (same n))
+          ∙ righted-starts _ _ _ (rw (on-found .enum-told3 .given .1) at (n .right-side .ensures)))),
     )
 
 pub find-spec : {M : Type 1} → statement M

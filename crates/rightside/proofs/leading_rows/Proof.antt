@@ -4,7 +4,8 @@ use mathlib.Core.Path.{_≡_}
 use native.Mathlib.Omega.{arith}
 use Rattle.lattice.specs.Rows.{lead}
 use Rattle.lattice.proofs.LentParts.{part-is}
-use Rattle.rightside.proofs.Staircase.{ahead, row, lead-is, Counts, count-starts, count-on, count-stops, count-ends}
+use Rattle.lattice.proofs.RowsAhead.{ahead, row}
+use Rattle.rightside.proofs.Staircase.{lead-is, Counts, count-starts, count-on, count-stops, count-ends}
 use borrow.Author.Needs.{needs}
 use Rattle.rightside.proofs.leading_rows.Statement.{statement}
 use Rattle.rightside.proofs.leading_rows.Tie as tie
@@ -19,7 +20,7 @@ abbrev μ-loop : tie.MeasureT-loop
 told :
     (c : tie.After-lead-from Inv-loop μ-loop) →
     let l = c .before .before .before .loop in
-    c .lead-from .result ≡ lead (row (l .inv .walk) (c .before .before .loop-test .taken))
+    c .lead-from .result ≡ lead (row (l .inv .walk .room) (c .before .before .loop-test .taken))
 told c =
     let a = c .before .before .before .before .args in
     let l = c .before .before .before .loop in
@@ -29,19 +30,19 @@ loop-holds : tie.Need-loop-holds Inv-loop μ-loop
 loop-holds c = count-starts _ _ _ _ (c .pre .0) (c .pre .1)
 
 add-next : tie.Need-add-next Inv-loop μ-loop
-add-next c = omega (arith, ahead (c .before .loop .inv .walk) (c .loop-test .taken))
+add-next c = omega (arith, ahead (c .before .loop .inv .walk .room) (c .loop-test .taken))
 
 mul-lead-from : tie.Need-mul-lead-from Inv-loop μ-loop
-mul-lead-from c = omega (arith, ahead (c .before .loop .inv .walk) (c .loop-test .taken))
+mul-lead-from c = omega (arith, ahead (c .before .loop .inv .walk .room) (c .loop-test .taken))
 
 sub-lead-from : tie.Need-sub-lead-from Inv-loop μ-loop
 sub-lead-from c = omega arith
 
 part-lead-from-start : tie.Need-part-lead-from-start Inv-loop μ-loop
-part-lead-from-start c = omega (arith, ahead (c .before .loop .inv .walk) (c .loop-test .taken))
+part-lead-from-start c = omega (arith, ahead (c .before .loop .inv .walk .room) (c .loop-test .taken))
 
 part-lead-from-end : tie.Need-part-lead-from-end Inv-loop μ-loop
-part-lead-from-end c = omega (arith, ahead (c .before .loop .inv .walk) (c .loop-test .taken))
+part-lead-from-end c = omega (arith, ahead (c .before .loop .inv .walk .room) (c .loop-test .taken))
 
 lead-from-requires : tie.Need-lead-from-requires Inv-loop μ-loop
 lead-from-requires c κs = search needs

@@ -14,8 +14,9 @@ use Rattle.lattice.specs.Rows.{allZero, chop}
 use Rattle.lattice.proofs.LentParts.{tail-is}
 use Rattle.tableau.specs.Within.{Within}
 use Rattle.tableau.specs.RightSide.{sweep, leading, remaining}
+use Rattle.tableau.proofs.RightLaws.{sweep-length}
 use Rattle.rightside.specs.Sweeps.{Swept, Sweepable}
-use Rattle.rightside.proofs.Sweeping.{over-left, kept-left, sweep-wide, sweep-within}
+use Rattle.rightside.proofs.Sweeping.{over-left, kept-left, sweep-within}
 use Rattle.rightside.proofs.Parting.{few, inside, first, second, first-sweepable, second-sweepable}
 use Rattle.rightside.proofs.Answers.{righted-over, righted-none, righted-late, righted-found}
 use borrow.Author.Needs.{needs}
@@ -44,7 +45,7 @@ module _ (c : tie.Else1) where
   counted = c .before .before .before .before .before
 
   abbrev s-of : tie.Start
-  s-of = c .before .before .before .before .before .before
+  s-of = counted .before
 
   unmarked : sweep (leading (s-of .args .m) (T-of s-of)) (s-of .args .v .now) .over ≡ false
   unmarked = sym (early (c .before .before) .answer) ∙ c .if1 .left
@@ -64,12 +65,14 @@ zero c =
 -- what the remaining rows answer and leave
 late :
     (c : tie.After-sweep2) →
-    let n = c .before .before .before .before .before .before in
+    let after-all-zero = c .before .before .before .before in
+    let n = after-all-zero .before .before in
     let s = s-of n in
     let l : List ℤ = sweep (leading (s .args .m) (T-of s)) (s .args .v .now) .row in
     Swept (sweep (remaining (s .args .m) (T-of s)) l) l (c .sweep2 .result) (c .sweep2 .last .0)
 late c =
-    let n = c .before .before .before .before .before .before in
+    let after-all-zero = c .before .before .before .before in
+    let n = after-all-zero .before .before in
     let s = s-of n in
     let h = counted n in
     let l : List ℤ = n .before .before .sweep .last .0 in
@@ -98,7 +101,8 @@ same-length c = search needs
 
 returns : tie.Need-returns
 returns c =
-    let s = c .before .before .before .before .before .before in
+    let after-leading-rows = c .before .before .before .before .before in
+    let s = after-leading-rows .before in
     let o = early (c .before .before) in
     righted-over (s .args .m) (T-of s) (s .args .v .now) (sym (o .answer) ∙ c .if1 .taken) (over-left (rw (c .if1 .taken) at o))
 
@@ -159,22 +163,24 @@ same-length-3 c = search needs
 
 returns-3 : tie.Need-returns-3
 returns-3 c =
-    let n = c .before .before .before .before .before .before .before .before in
+    let past-all-zero = c .before .before .before .before .before in
+    let n = past-all-zero .before .before .before in
     let s = s-of n in
     let o = late (c .before .before) in
-    let z = zero (c .before .before .before .before .before) in
+    let z = zero past-all-zero in
     righted-late (s .args .m) (T-of s) (s .args .v .now) (unmarked n) z (sym (o .answer) ∙ c .if3 .taken)
-    (over-left (rw (c .if3 .taken) at o) ∙ ap zeros (sweep-wide (leading (s .args .m) (T-of s)) (s .args .v .now)))
+    (over-left (rw (c .if3 .taken) at o) ∙ ap zeros (sweep-length (leading (s .args .m) (T-of s)) (s .args .v .now)))
 
 same-length-4 : tie.Need-same-length-4
 same-length-4 c = search needs
 
 returns-4 : tie.Need-returns-4
 returns-4 c =
-    let n = c .before .before .before .before .before .before .before .before in
+    let past-all-zero = c .before .before .before .before .before in
+    let n = past-all-zero .before .before .before in
     let s = s-of n in
     let o = late (c .before .before) in
-    let z = zero (c .before .before .before .before .before) in
+    let z = zero past-all-zero in
     righted-found (s .args .m) (T-of s) (s .args .v .now) (unmarked n) z (sym (o .answer) ∙ c .if3 .left) (kept-left (rw (c .if3 .left) at o))
 
 pub right-side-spec : {M : Type 1} → statement M

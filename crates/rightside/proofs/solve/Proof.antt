@@ -59,11 +59,16 @@ same-length c = search needs
 
 returns : tie.Need-returns
 returns c =
-    let s = c .before .before .before .before in
-    let o : X s .over ≡ true = solved-over (s .args .p) (s .args .coefficients .now) (s .args .rights .now) (sym (c .before .before .form .ensures .0) ∙ c .if1 .taken) in (
+    let after-form = c .before .before in
+    let s = after-form .before .before in
+    let a = s .args in
+    let f : formOf (a .p) (a .coefficients .now) .over ≡ true = sym (after-form .form .ensures .0) ∙ c .if1 .taken in
+    let o : X s .over ≡ true = solved-over (a .p) (a .coefficients .now) (a .rights .now) f in (
       sym (answer-over (X s) o),
       (
-        c .before .before .form .ensures .1 ∙ form-over (s .args .p) (s .args .coefficients .now) (s .args .t .now) (sym (c .before .before .form .ensures .0) ∙ c .if1 .taken) ∙ sym (table-over (s .args .p) (s .args .coefficients .now) (s .args .rights .now) (s .args .t .now) o),
+        after-form .form .ensures .1
+            ∙ form-over (a .p) (a .coefficients .now) (a .t .now) f
+            ∙ sym (table-over (a .p) (a .coefficients .now) (a .rights .now) (a .t .now) o),
         sym (start-kept (X s) (s .args .start .now) o),
       ),
     )
@@ -75,10 +80,17 @@ array-borrow-prefix-v : tie.Need-array-borrow-prefix-v
 array-borrow-prefix-v c = search needs
 
 slice-aggregate-find : tie.Need-slice-aggregate-find
-slice-aggregate-find c = sym (length-take-le (c .before .before .before .before .before .before .args .p .rows + c .before .before .before .before .before .before .args .p .columns) _ (omega (arith, c .before .before .before .before .before .before .pre .form .columns, c .before .before .before .before .before .before .pre .form .rows)))
+slice-aggregate-find c =
+    let after-form = c .before .before .before .before in
+    let start = after-form .before .before in
+    sym (length-take-le (start .args .p .rows + start .args .p .columns) _ (omega (arith, start .pre .form .columns, start .pre .form .rows)))
 
 find-requires : tie.Need-find-requires
-find-requires c κs = findable maxWidth (c .before .before .before .before .before .before .before .before .pre) (omega (arith, c .before .before .before .before .before .before .before .before .pre .form .columns, c .before .before .before .before .before .before .before .before .pre .form .rows)) (c .before .before .before .before .before .before .form .kept .0) (stands (c .before .before .before .before))
+find-requires c κs =
+    let kept = c .before .before .before .before in
+    let after-form = kept .before .before in
+    let start = after-form .before .before in
+    findable maxWidth (start .pre) (omega (arith, start .pre .form .columns, start .pre .form .rows)) (after-form .form .kept .0) (stands kept)
 
 enum-told : tie.Need-enum-told
 enum-told c = search needs
@@ -100,13 +112,17 @@ same-length-3 c = search needs
 
 returns-2 : tie.Need-returns-2
 returns-2 c =
-    let m = c .before .before .before .before .before .before .before in
+    let on-over = c .before .before .before in
+    let m = on-over .before .before .before .before in
     let n = m .before .before .before .before .before in
+    let after-form = n .before .before in
     let s = s-of n in
-    let e = sym (c .before .before .before .enum-told .given .1) ∙ told m in (
+    let e = sym (on-over .enum-told .given .1) ∙ told m in (
       e,
       (
-        c .before .wipe .ensures ∙ ap zeros (c .before .before .before .before .before .before .before .before .before .before .before .before .before .before .form .kept .0) ∙ sym (table-over (s .args .p) (s .args .coefficients .now) (s .args .rights .now) (s .args .t .now) (solution-over (X s) e)),
+        c .before .wipe .ensures
+            ∙ ap zeros (after-form .form .kept .0)
+            ∙ sym (table-over (s .args .p) (s .args .coefficients .now) (s .args .rights .now) (s .args .t .now) (solution-over (X s) e)),
         started m,
       ),
     )
@@ -123,7 +139,8 @@ returns-3 c =
     let n = m .before .before .before .before .before in
     let s = s-of n in
     let e = sym (c .enum-told2 .given .1) ∙ told m in
-    (e, (form-is n ∙ sym (table-kept (s .args .p) (s .args .coefficients .now) (s .args .rights .now) (s .args .t .now) (solution-none (X s) e)), started m))
+    let a = s .args in
+    (e, (form-is n ∙ sym (table-kept (a .p) (a .coefficients .now) (a .rights .now) (a .t .now) (solution-none (X s) e)), started m))
 
 same-length-6 : tie.Need-same-length-6
 same-length-6 c = search needs
@@ -137,7 +154,8 @@ returns-4 c =
     let n = m .before .before .before .before .before in
     let s = s-of n in
     let e = sym (c .enum-told3 .given .1) ∙ told m in
-    (e, (form-is n ∙ sym (table-kept (s .args .p) (s .args .coefficients .now) (s .args .rights .now) (s .args .t .now) (solution-found (X s) e)), started m))
+    let a = s .args in
+    (e, (form-is n ∙ sym (table-kept (a .p) (a .coefficients .now) (a .rights .now) (a .t .now) (solution-found (X s) e)), started m))
 
 pub solve-spec : {M : Type 1} → statement M
 solve-spec =

@@ -44,7 +44,9 @@ shared-slice-copy-out-negated : tie.Need-shared-slice-copy-out-negated Inv-loop 
 shared-slice-copy-out-negated c = omega arith
 
 negated-requires : tie.Need-negated-requires Inv-loop μ-loop
-negated-requires c κs = rw (back _ (c .negated-arg .given)) (omega (arith, within-entry (c .before .before .before .args .rights .now) (c .before .before .loop .i) (c .before .before .before .pre .1)))
+negated-requires c κs =
+    let start = c .before .before .before in
+    rw (back _ (c .negated-arg .given)) (omega (arith, within-entry (start .args .rights .now) (c .before .before .loop .i) (start .pre .1)))
 
 mul-x : tie.Need-mul-x Inv-loop μ-loop
 mul-x c = omega (arith, c .before .before .before .loop .inv .written .same, c .before .before .before .before .pre .0)
@@ -61,15 +63,21 @@ loop-less c = omega arith
 loop-again : tie.Need-loop-again Inv-loop μ-loop
 unfolding goal
 loop-again c =
-    let b : List ℤ = c .before .before .before .before .args .rights .now in
-    let i : ℕ = c .before .before .before .loop .i in
+    let entered = c .before .before in
+    let turn = entered .before in
+    let start = turn .before in
+    let b : List ℤ = start .args .rights .now in
+    let i : ℕ = turn .loop .i in
     record {
-      most = omega (arith, c .before .before .loop-test .taken);
-      written = goes-on (c .before .before .before .loop .inv .written) (omega (arith, goal-wide b (c .before .before .before .before .args .v .now) (c .before .before .before .before .pre .0), c .before .before .before .before .pre .0, c .before .before .loop-test .taken))
+      most = omega (arith, entered .loop-test .taken);
+      written = goes-on (turn .loop .inv .written)
+          (omega (arith, goal-wide b (start .args .v .now) (start .pre .0), start .pre .0, entered .loop-test .taken))
           (back (c .negated .result) (c .negated .ok)
           ∙ c .negated .ensures
           ∙ ap negℤ (back (entry i b) (c .before .negated-arg .given))
-          ∙ sym (List·getD-append (neg b) (drop (length b) (c .before .before .before .before .args .v .now)) (pos 0) i (omega (arith, length-neg b, c .before .before .loop-test .taken)) ∙ entry-neg i b));
+          ∙ sym
+          (List·getD-append (neg b) (drop (length b) (start .args .v .now)) (pos 0) i (omega (arith, length-neg b, entered .loop-test .taken))
+          ∙ entry-neg i b));
     }
 
 same-length : tie.Need-same-length Inv-loop μ-loop
@@ -78,11 +86,14 @@ same-length c = c .before .loop .inv .written .same
 returns : tie.Need-returns Inv-loop μ-loop
 unfolding goal
 returns c =
-    let b : List ℤ = c .before .before .args .rights .now in
-    let v : List ℤ = c .before .before .args .v .now in
+    let start = c .before .before in
+    let b : List ℤ = start .args .rights .now in
+    let v : List ℤ = start .args .v .now in
     let l = c .before .loop in
     let e : l .i ≡ length b = omega (arith, l .inv .most) in
-    l .inv .written .is ∙ ap₂ (λ (i k : ℕ). take i (goal b v) ++ drop k v) e e ∙ ap (λ (x : List ℤ). x ++ drop (length b) v) (take-at (neg b) (drop (length b) v) (length b) (length-neg b))
+    l .inv .written .is
+    ∙ ap₂ (λ (i k : ℕ). take i (goal b v) ++ drop k v) e e
+    ∙ ap (λ (x : List ℤ). x ++ drop (length b) v) (take-at (neg b) (drop (length b) v) (length b) (length-neg b))
 
 pub turn-over-spec : {M : Type 1} → statement M
 turn-over-spec =

@@ -41,8 +41,11 @@ same-length c = search needs
 
 returns : tie.Need-returns
 returns c =
-    let n = c .before .before .before .before .before .before in
-    outcome-by (goal (n .before .before .before)) (c .before .before .before .before .before .before .before .before .before .args .t .now) (sym (c .before .before .before .if1 .taken) ∙ ran n .answer) (c .before .wipe .ensures ∙ ap zeros (c .before .before .before .before .before .before .pass-all .kept .0))
+    let stopped = c .before .before .before in
+    let n = stopped .before .before .before in
+    let start = n .before .before .before in
+    outcome-by (goal (n .before .before .before)) (start .args .t .now) (sym (stopped .if1 .taken) ∙ ran n .answer)
+    (c .before .wipe .ensures ∙ ap zeros (n .pass-all .kept .0))
 
 same-length-2 : tie.Need-same-length-2
 same-length-2 c = search needs
@@ -50,7 +53,8 @@ same-length-2 c = search needs
 returns-2 : tie.Need-returns-2
 returns-2 c =
     let n = c .before .before .before in
-    outcome-by (goal (n .before .before .before)) (c .before .before .before .before .before .before .args .t .now) (sym (c .if1 .left) ∙ ran n .answer) (ran n .left (c .if1 .left))
+    let start = n .before .before .before in
+    outcome-by (goal (n .before .before .before)) (start .args .t .now) (sym (c .if1 .left) ∙ ran n .answer) (ran n .left (c .if1 .left))
 
 pub eliminate-spec : {M : Type 1} → statement M
 eliminate-spec =

@@ -15,14 +15,21 @@ add-w : tie.Need-add-w
 add-w c = search needs
 
 eliminate-requires : tie.Need-eliminate-requires
-eliminate-requires c κs = ((c .before .before .before .fill .kept .0 ∙ c .before .before .before .before .before .pre .table, omega (arith, c .before .before .before .before .before .pre .columns, c .before .before .before .before .before .pre .rows)), subst Within (sym (c .before .before .before .fill .ensures)) (table-within (c .before .before .before .before .before .pre)))
+eliminate-requires c κs =
+    let after-fill = c .before .before .before in
+    let start = after-fill .before .before in (
+      (after-fill .fill .kept .0 ∙ start .pre .table, omega (arith, start .pre .columns, start .pre .rows)),
+      subst Within (sym (after-fill .fill .ensures)) (table-within (start .pre)),
+    )
 
 same-length : tie.Need-same-length
 same-length c = search needs
 
 returns : tie.Need-returns
 returns c =
-    let e = c .before .eliminate .ensures ∙ form-outcome (c .before .before .before .before .before .before .before .pre) (c .before .before .before .before .before .fill .ensures) (c .before .before .before .before .before .fill .kept .0) in
+    let after-fill = c .before .before .before .before .before in
+    let start = after-fill .before .before in
+    let e = c .before .eliminate .ensures ∙ form-outcome (start .pre) (after-fill .fill .ensures) (after-fill .fill .kept .0) in
     (ap (λ (x : Outcome). x .over) e, ap (λ (x : Outcome). x .left) e)
 
 pub form-spec : {M : Type 1} → statement M

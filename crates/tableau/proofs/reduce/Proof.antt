@@ -19,18 +19,23 @@ same-length c = search needs
 
 returns : tie.Need-returns
 returns c =
-    let x : Left = reduced (c .before .before .before .before .before .before .before .args .c) (c .before .before .before .before .before .before .before .args .pivot .now) (c .before .before .before .before .before .before .before .args .row .now) in
-    let e : x .over ≡ true = sym (c .before .before .before .before .before .step .ensures .answer) ∙ c .before .before .before .if1 .taken in
-    (sym e, c .before .wipe .ensures ∙ ap zeros (c .before .before .before .before .before .step .kept .0) ∙ sym (left-by x (c .before .before .before .before .before .before .before .args .row .now) e))
+    let stopped = c .before .before .before in
+    let after-step = stopped .before .before in
+    let start = after-step .before .before in
+    let x : Left = reduced (start .args .c) (start .args .pivot .now) (start .args .row .now) in
+    let e : x .over ≡ true = sym (after-step .step .ensures .answer) ∙ stopped .if1 .taken in
+    (sym e, c .before .wipe .ensures ∙ ap zeros (after-step .step .kept .0) ∙ sym (left-by x (start .args .row .now) e))
 
 same-length-2 : tie.Need-same-length-2
 same-length-2 c = search needs
 
 returns-2 : tie.Need-returns-2
 returns-2 c =
-    let x : Left = reduced (c .before .before .before .before .args .c) (c .before .before .before .before .args .pivot .now) (c .before .before .before .before .args .row .now) in
-    let e : x .over ≡ false = sym (c .before .before .step .ensures .answer) ∙ c .if1 .left in
-    (sym e, c .before .before .step .ensures .left (c .if1 .left) ∙ sym (left-by x (c .before .before .before .before .args .row .now) e))
+    let after-step = c .before .before in
+    let start = after-step .before .before in
+    let x : Left = reduced (start .args .c) (start .args .pivot .now) (start .args .row .now) in
+    let e : x .over ≡ false = sym (after-step .step .ensures .answer) ∙ c .if1 .left in
+    (sym e, after-step .step .ensures .left (c .if1 .left) ∙ sym (left-by x (start .args .row .now) e))
 
 pub reduce-spec : {M : Type 1} → statement M
 reduce-spec =

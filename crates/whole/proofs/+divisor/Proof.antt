@@ -24,21 +24,22 @@ divisor-at t = and 0 divisor-kinds.ps (is 0 divisor-kinds.ps μ-divisor t) divis
 abbrev divisor-below : ℕ → In 0 divisor-kinds.ps
 divisor-below t = and 0 divisor-kinds.ps (falls 0 divisor-kinds.ps _<_ μ-divisor t) divisor.Pre
 
--- src/lib.rt:26:16
 divisor-rem-divisor : (t : ℕ) → divisor-lts.Need-rem-divisor (divisor-below t, divisor.Post) (divisor-at t) divisor.Post
 divisor-rem-divisor t c = omega (arith, pos-of-ne (c .before .args .b) (c .if1 .left))
 
--- src/lib.rt:26:9
 divisor-divisor-requires : (t : ℕ) → divisor-lts.Need-divisor-requires (divisor-below t, divisor.Post) (divisor-at t) divisor.Post
-divisor-divisor-requires t c κs = (subst (λ (n : ℕ). c .before .args .a % c .before .args .b < n) (c .before .pre .0) (mod-lt (c .before .args .a) (pos-of-ne (c .before .args .b) (c .if1 .left))), tt)
+divisor-divisor-requires t c κs =
+    let a : ℕ = c .before .args .a in
+    let b : ℕ = c .before .args .b in
+    (subst (λ (n : ℕ). a % b < n) (c .before .pre .0) (mod-lt a (pos-of-ne b (c .if1 .left))), tt)
 
--- src/lib.rt:20:1
 divisor-returns : (t : ℕ) → divisor-lts.Need-returns (divisor-below t, divisor.Post) (divisor-at t) divisor.Post
 divisor-returns t c = rw (c .if1 .taken) (sym (divisor-zero (c .before .args .a)))
 
--- src/lib.rt:20:1
 divisor-returns-2 : (t : ℕ) → divisor-lts.Need-returns-2 (divisor-below t, divisor.Post) (divisor-at t) divisor.Post
-divisor-returns-2 t c = c .divisor .ensures ∙ sym (divisor-step (c .before .before .args .a) (c .before .before .args .b) (pos-of-ne (c .before .before .args .b) (c .before .if1 .left)))
+divisor-returns-2 t c =
+    let b : ℕ = c .before .before .args .b in
+    c .divisor .ensures ∙ sym (divisor-step (c .before .before .args .a) b (pos-of-ne b (c .before .if1 .left)))
 
 pub +divisor-spec : {M : Type 1} → statement M
 +divisor-spec =

@@ -1,5 +1,5 @@
--- `whole::floor_quotient` meets its contract, by `floor-by-machine`. One less than the machine's quotient fits where it is the rounded-down one.
--- Assumes nothing.
+-- `whole::floor_quotient` meets its contract, by `floor-by-machine`. One less than the machine's quotient fits where it is the rounded-down
+-- one. Assumes nothing.
 use mathlib.Core.Path.{_≡_, sym, ap, _∙_, subst}
 use mathlib.Core.Bool.{Bool, cond}
 use Prim.Native.Nat.{_<_}
@@ -45,7 +45,10 @@ module _ (c : tie.Start) where
   fits : SFits w64 (floorQuotient e p)
   fits = floor-fits e (c .fits .e) pivot
 
-one-less : (c : tie.Then1) → read (quotZ (read (e (c .before))) (read (p (c .before)))) -ℤ pos 1 ≡ floorQuotient (e (c .before)) (p (c .before))
+one-less :
+    (c : tie.Then1) →
+    let s = c .before in
+    read (quotZ (read (e s)) (read (p s))) -ℤ pos 1 ≡ floorQuotient (e s) (p s)
 one-less c = ap (λ (q : ℤ). q -ℤ pos 1) (quotient (c .before)) ∙ tested (c .before) (c .if1 .taken)
 
 div-q : tie.Need-div-q

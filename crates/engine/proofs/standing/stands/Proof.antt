@@ -14,7 +14,7 @@ use Rattle.whole.specs.Tests.{every}
 use Rattle.whole.proofs.Counted.{SoFar, starts, goes-on, ends, fails}
 use Rattle.problem.specs.Limits.{M}
 use Rattle.problem.specs.Checks.{allSpan}
-use Rattle.problem.proofs.Laws.{passed, failed}
+use Rattle.whole.proofs.Tests.{passed, failed}
 use Rattle.engine.proofs.Dots.{all-within}
 use Rattle.engine.proofs.standing.stands.Statement.{statement}
 use Rattle.engine.proofs.standing.stands.Tie as tie

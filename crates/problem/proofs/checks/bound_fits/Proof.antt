@@ -4,7 +4,7 @@ use borrow.Author.Needs.{needs}
 use mir.Facts.{toZ-ofZ}
 use Rattle.whole.specs.Tests.{spans}
 use Rattle.problem.specs.Limits.{maxBound}
-use Rattle.problem.proofs.Laws.{passed, failed, not-less}
+use Rattle.whole.proofs.Tests.{passed, failed, not-less}
 use Rattle.problem.proofs.checks.bound_fits.Statement.{statement}
 use Rattle.problem.proofs.checks.bound_fits.Tie as tie
 
@@ -35,11 +35,9 @@ less-requires c κs = search needs
 
 returns-3 : tie.Need-returns-3
 returns-3 c =
-    let s = c .before .before .before .before .before in
-    rw (
-      passed (lower-tested (c .before .before .before .before)) (c .before .before .before .if1 .left),
-      passed (upper-tested (c .before .before)) (c .before .if2 .left),
-    )
+    let lower-passed = c .before .before .before in
+    let s = lower-passed .before .before in
+    rw (passed (lower-tested (lower-passed .before)) (lower-passed .if1 .left), passed (upper-tested (c .before .before)) (c .before .if2 .left))
     (cc (c .less .ensures, toZ-ofZ (s .fits .lower), toZ-ofZ (s .fits .upper), not-less (s .args .lower) (s .args .upper)))
 
 pub bound-fits-spec : {M : Type 1} → statement M

@@ -3,12 +3,15 @@ use mathlib.Core.Path.{_≡_, sym, _∙_}
 use mathlib.Core.Bool.{true}
 use borrow.Author.Needs.{needs}
 use borrow.Author.Tests.{le-leb, lt-leb}
+use lib.ListN.{length}
 use Rattle.problem.specs.Limits.{maxColumns, maxRows}
-use Rattle.problem.specs.Checks.{sizesFit, rowLengthsFit, columnLengthsFit, lentFit, rowsFit, boundsFit, goalsFit, limitFits, orNext, firstCause}
+use Rattle.problem.specs.Checks.{sizesFit, rowLengthsFit, columnLengthsFit, lentFit, rowsFit, boundsFit, goalsFit}
+use Rattle.problem.specs.Checks.{limitFits, orNext, firstCause}
 use Rattle.problem.specs.declared.Refusal.the-variants.{Length, Coefficient, Bound, Goal, Limit}
 use Rattle.problem.specs.declared.Check.{Check}
 use Rattle.problem.specs.declared.Check.the-variants.{Passed}
-use Rattle.problem.proofs.Laws.{passed, failed, same-lengths}
+use Rattle.whole.proofs.Tests.{passed, failed}
+use Rattle.problem.proofs.CheckLaws.{same-lengths}
 use Rattle.problem.proofs.checks.first_cause.Statement.{statement}
 use Rattle.problem.proofs.checks.first_cause.Tie as tie
 
@@ -49,35 +52,63 @@ Leaves s rest =
     (s .args .lent)
     ≡ rest s
 
-sizes-hold : (c : tie.Else1) → sizesFit maxColumns maxRows (c .before .before .args .p) ≡ true
+-- the call's start, from where each check has passed
+abbrev from-sizes : tie.Else1 → tie.Start
+from-sizes c = c .before .before
+
+abbrev from-rows : tie.Else2 → tie.Start
+from-rows c = from-sizes (c .before .before)
+
+abbrev from-columns : tie.Else3 → tie.Start
+from-columns c = from-rows (c .before .before)
+
+abbrev from-lent : tie.Else4 → tie.Start
+from-lent c = from-columns (c .before .before)
+
+abbrev from-numbers : tie.Else5 → tie.Start
+from-numbers c = from-lent (c .before .before)
+
+abbrev from-bounds : tie.Else6 → tie.Start
+from-bounds c = from-numbers (c .before .before)
+
+abbrev from-goals : tie.Else7 → tie.Start
+from-goals c = from-bounds (c .before .before)
+
+sizes-hold : (c : tie.Else1) → sizesFit maxColumns maxRows (from-sizes c .args .p) ≡ true
 sizes-hold c = passed (c .before .sizes-fit .ensures) (c .if1 .left)
 
 lengths-hold :
     (c : tie.Else3) →
-    let a = c .before .before .before .before .before .before .args in
+    let a = from-columns c .args in
     columnLengthsFit (a .p) (a .lower .now) (a .upper .now) (a .goals .now) ≡ true
 lengths-hold c = passed (c .before .column-lengths-fit .ensures) (c .if3 .left)
 
-sizes : (c : tie.Else1) → Leaves (c .before .before) after-sizes
+alike :
+    (c : tie.Else3) →
+    let a = from-columns c .args in
+    (length (a .upper .now) ≡ length (a .lower .now)) × (length (a .goals .now) ≡ length (a .lower .now))
+alike c = let a = from-columns c .args in same-lengths (a .p) (a .lower .now) (a .upper .now) (a .goals .now) (lengths-hold c)
+
+sizes : (c : tie.Else1) → Leaves (from-sizes c) after-sizes
 unfolding firstCause
 sizes c = rw (sizes-hold c)
 
-rows : (c : tie.Else2) → Leaves (c .before .before .before .before) after-rows
+rows : (c : tie.Else2) → Leaves (from-rows c) after-rows
 rows c = sizes (c .before .before) ∙ rw (passed (c .before .row-lengths-fit .ensures) (c .if2 .left))
 
-columns : (c : tie.Else3) → Leaves (c .before .before .before .before .before .before) after-columns
+columns : (c : tie.Else3) → Leaves (from-columns c) after-columns
 columns c = rows (c .before .before) ∙ rw (lengths-hold c)
 
-lent : (c : tie.Else4) → Leaves (c .before .before .before .before .before .before .before .before) after-lent
+lent : (c : tie.Else4) → Leaves (from-lent c) after-lent
 lent c = columns (c .before .before) ∙ rw (passed (c .before .lent-fit .ensures) (c .if4 .left))
 
-numbers : (c : tie.Else5) → Leaves (c .before .before .before .before .before .before .before .before .before .before) after-numbers
+numbers : (c : tie.Else5) → Leaves (from-numbers c) after-numbers
 numbers c = lent (c .before .before) ∙ rw (passed (c .before .rows-fit .ensures) (c .if5 .left))
 
-bounds : (c : tie.Else6) → Leaves (c .before .before .before .before .before .before .before .before .before .before .before .before) after-bounds
+bounds : (c : tie.Else6) → Leaves (from-bounds c) after-bounds
 bounds c = numbers (c .before .before) ∙ rw (passed (c .before .bounds-fit .ensures) (c .if6 .left))
 
-goals : (c : tie.Else7) → Leaves (c .before .before .before .before .before .before .before .before .before .before .before .before .before .before) after-goals
+goals : (c : tie.Else7) → Leaves (from-goals c) after-goals
 goals c = bounds (c .before .before) ∙ rw (passed (c .before .goals-fit .ensures) (c .if7 .left))
 
 sizes-fit-requires : tie.Need-sizes-fit-requires
@@ -112,17 +143,13 @@ returns-5 : tie.Need-returns-5
 returns-5 c = sym (lent (c .before .before) ∙ rw (failed (c .before .rows-fit .ensures) (c .if5 .taken)))
 
 bounds-fit-requires : tie.Need-bounds-fit-requires
-bounds-fit-requires c κs =
-    let a = c .before .before .before .before .before .before .before .before .before .before .args in
-    same-lengths (a .p) (a .lower .now) (a .upper .now) (a .goals .now) (lengths-hold (c .before .before .before .before)) .0
+bounds-fit-requires c κs = alike (c .before .before .before .before) .0
 
 returns-6 : tie.Need-returns-6
 returns-6 c = sym (numbers (c .before .before) ∙ rw (failed (c .before .bounds-fit .ensures) (c .if6 .taken)))
 
 goals-fit-requires : tie.Need-goals-fit-requires
-goals-fit-requires c κs =
-    let a = c .before .before .before .before .before .before .before .before .before .before .before .before .args in
-    same-lengths (a .p) (a .lower .now) (a .upper .now) (a .goals .now) (lengths-hold (c .before .before .before .before .before .before)) .1
+goals-fit-requires c κs = let numbers-fit = c .before .before in alike (numbers-fit .before .before .before .before) .1
 
 returns-7 : tie.Need-returns-7
 returns-7 c = sym (bounds (c .before .before) ∙ rw (failed (c .before .goals-fit .ensures) (c .if7 .taken)))

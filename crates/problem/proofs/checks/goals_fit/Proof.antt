@@ -1,21 +1,22 @@
 -- `problem::checks::goals_fit` meets its contract: the loop leaves at the first column whose goal does not fit. Assumes nothing.
-use mathlib.Core.Path.{_≡_, sym, ap₂, _∙_}
+use mathlib.Core.Path.{_≡_, sym}
 use mathlib.Core.Bool.{Bool}
 use mathlib.Core.List.{List}
 use Prim.Native.Nat.{ℕ, _-_}
 use native.Mathlib.Omega.{arith}
 use borrow.Author.Needs.{needs}
-use lib.IntN.{ℤ, pos}
-use lib.ListN.{length, getD}
-use Rattle.whole.proofs.Signed.{back}
+use lib.IntN.{ℤ}
+use lib.ListN.{length}
+use Rattle.whole.specs.Lists.{entry}
 use Rattle.whole.proofs.Counted.{SoFar, starts, goes-on, ends, fails}
 use Rattle.problem.specs.Checks.{goalFits}
-use Rattle.problem.proofs.Laws.{passed, failed}
+use Rattle.whole.proofs.Tests.{passed, failed}
+use Rattle.problem.proofs.CheckLaws.{tested-at}
 use Rattle.problem.proofs.checks.goals_fit.Statement.{statement}
 use Rattle.problem.proofs.checks.goals_fit.Tie as tie
 
 abbrev test : List ℤ → List ℤ → ℕ → Bool
-test lower goals j = goalFits (getD lower j (pos 0)) (getD goals j (pos 0))
+test lower goals j = goalFits (entry j lower) (entry j goals)
 
 abbrev Inv-loop : tie.InvT-loop
 Inv-loop lower goals j₀ j = SoFar (length lower) (test lower goals) j
@@ -23,20 +24,18 @@ Inv-loop lower goals j₀ j = SoFar (length lower) (test lower goals) j
 abbrev μ-loop : tie.MeasureT-loop
 μ-loop lower goals j₀ j = length lower - j
 
-abbrev column : tie.After-goal-fits Inv-loop μ-loop → ℕ
-column c = c .before .before .before .before .loop .j
-
 -- what the call answers at the column that the loop has come to
-tested :
-    (c : tie.After-goal-fits Inv-loop μ-loop) →
-    let s = c .before .before .before .before .before in
-    c .goal-fits .result ≡ test (s .args .lower .now) (s .args .goals .now) (column c)
-tested c =
-    let s = c .before .before .before .before .before in
-    c .goal-fits .ensures
-    ∙ ap₂ goalFits
-    (back (getD (s .args .lower .now) (column c) (pos 0)) (c .before .before .goal-fits-arg .given))
-    (back (getD (s .args .goals .now) (column c) (pos 0)) (c .before .goal-fits-arg2 .given))
+module _ (c : tie.After-goal-fits Inv-loop μ-loop) where
+  abbrev entered : tie.In-loop Inv-loop μ-loop
+  entered = c .before .before .before
+
+  abbrev loop : tie.At-loop Inv-loop μ-loop
+  loop = entered .before
+
+  tested : c .goal-fits .result ≡ test (loop .before .args .lower .now) (loop .before .args .goals .now) (loop .loop .j)
+  tested =
+      tested-at goalFits (loop .before .args .lower .now) (loop .before .args .goals .now) (loop .loop .j)
+      (c .before .before .goal-fits-arg .given) (c .before .goal-fits-arg2 .given) (c .goal-fits .ensures)
 
 loop-holds : tie.Need-loop-holds Inv-loop μ-loop
 loop-holds c = starts _ _
@@ -57,7 +56,8 @@ goal-fits-requires : tie.Need-goal-fits-requires Inv-loop μ-loop
 goal-fits-requires c κs = search needs
 
 returns : tie.Need-returns Inv-loop μ-loop
-returns c = sym (fails (c .before .before .before .before .before .loop .inv) (c .before .before .before .before .loop-test .taken) (failed (tested (c .before)) (c .if1 .taken)))
+returns c =
+    sym (fails (loop (c .before) .loop .inv) (entered (c .before) .loop-test .taken) (failed (tested (c .before)) (c .if1 .taken)))
 
 add-j : tie.Need-add-j Inv-loop μ-loop
 add-j c = omega arith
@@ -66,7 +66,8 @@ loop-less : tie.Need-loop-less Inv-loop μ-loop
 loop-less c = omega arith
 
 loop-again : tie.Need-loop-again Inv-loop μ-loop
-loop-again c = goes-on (c .before .before .before .before .before .loop .inv) (c .before .before .before .before .loop-test .taken) (passed (tested (c .before)) (c .if1 .left))
+loop-again c =
+    goes-on (loop (c .before) .loop .inv) (entered (c .before) .loop-test .taken) (passed (tested (c .before)) (c .if1 .left))
 
 returns-2 : tie.Need-returns-2 Inv-loop μ-loop
 returns-2 c = sym (ends (c .before .loop .inv) (c .loop-test .left))

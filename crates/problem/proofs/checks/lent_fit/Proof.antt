@@ -1,6 +1,7 @@
--- `problem::checks::lent_fit` meets its contract: it is false at the first length that differs, and the sizes keep the products small. Assumes nothing.
+-- `problem::checks::lent_fit` meets its contract: it is false at the first length that differs, and the sizes keep the products small.
+-- Assumes nothing.
 use borrow.Author.Tests.{eq-eqb, ne-eqb}
-use Rattle.problem.proofs.Laws.{room}
+use Rattle.problem.proofs.CheckLaws.{room}
 use Rattle.problem.proofs.checks.lent_fit.Statement.{statement}
 use Rattle.problem.proofs.checks.lent_fit.Tie as tie
 
@@ -17,7 +18,9 @@ returns-2 : tie.Need-returns-2
 returns-2 c = rw (eq-eqb _ _ (c .before .before .before .if1 .left), ne-eqb _ _ (c .if2 .taken))
 
 returns-3 : tie.Need-returns-3
-returns-3 c = rw (eq-eqb _ _ (c .before .before .before .before .before .if1 .left), eq-eqb _ _ (c .before .before .if2 .left))
+returns-3 c =
+    let values-fit = c .before .before in
+    rw (eq-eqb _ _ (values-fit .before .before .before .if1 .left), eq-eqb _ _ (values-fit .if2 .left))
 
 pub lent-fit-spec : {M : Type 1} → statement M
 lent-fit-spec = tie.close (tie.spec add-if1 mul-if1 returns returns-2 returns-3)

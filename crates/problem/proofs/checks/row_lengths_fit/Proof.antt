@@ -1,6 +1,7 @@
--- `problem::checks::row_lengths_fit` meets its contract: it is false at the first length that differs, and the sizes keep the product small. Assumes nothing.
+-- `problem::checks::row_lengths_fit` meets its contract: it is false at the first length that differs, and the sizes keep the product small.
+-- Assumes nothing.
 use borrow.Author.Tests.{eq-eqb, ne-eqb}
-use Rattle.problem.proofs.Laws.{room}
+use Rattle.problem.proofs.CheckLaws.{room}
 use Rattle.problem.proofs.checks.row_lengths_fit.Statement.{statement}
 use Rattle.problem.proofs.checks.row_lengths_fit.Tie as tie
 

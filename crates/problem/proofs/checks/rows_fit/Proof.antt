@@ -1,6 +1,6 @@
 -- `problem::checks::rows_fit` meets its contract: it is false where a coefficient lies outside, and the right sides decide the rest. Assumes nothing.
 use borrow.Author.Needs.{needs}
-use Rattle.problem.proofs.Laws.{passed, failed}
+use Rattle.whole.proofs.Tests.{passed, failed}
 use Rattle.problem.proofs.checks.rows_fit.Statement.{statement}
 use Rattle.problem.proofs.checks.rows_fit.Tie as tie
 

@@ -8,7 +8,7 @@ use native.Mathlib.Omega.{arith}
 use lib.Dec.{ltb}
 use lib.IntN.{ℤ}
 use borrow.Author.Tests.{ltb-true}
-use Rattle.problem.proofs.CheckLaws.{both-true}
+use Rattle.whole.proofs.Tests.{both-true}
 use Rattle.problem.specs.Limits.{maxColumns}
 use Rattle.search.specs.declared.places.Place.{Place}
 use Rattle.search.specs.Notes.{topAt}

@@ -1,6 +1,6 @@
 -- `search::probes::find_failing` meets its contract: a column that is not in the set is not changed, and so passes. Assumes nothing.
 use native.Mathlib.Omega.{arith}
-use Rattle.problem.proofs.Laws.{failed}
+use Rattle.whole.proofs.Tests.{failed}
 use Rattle.search.proofs.Testing.{covered-pass}
 use Rattle.search.proofs.probes.find_failing.Statement.{statement}
 use Rattle.search.proofs.probes.find_failing.Tie as tie

@@ -4,7 +4,7 @@ use mathlib.Core.Bool.{Bool}
 use Prim.Native.Nat.{ℕ, _^_, _<_}
 use native.Mathlib.Omega.{arith}
 use lib.ListN.{length}
-use Rattle.problem.proofs.Laws.{passed, failed}
+use Rattle.whole.proofs.Tests.{passed, failed}
 use Rattle.search.specs.Probes.{passesBy}
 use Rattle.search.proofs.Setting.{rest-less}
 use Rattle.search.proofs.Testing.{Left, left-starts, left-first, left-on, left-ends}

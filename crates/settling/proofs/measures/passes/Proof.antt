@@ -4,7 +4,7 @@ use mathlib.Core.Bool.{true}
 use borrow.Author.Needs.{needs}
 use mir.Facts.{toZ-ofZ}
 use Rattle.whole.specs.Tests.{isZero}
-use Rattle.problem.proofs.Laws.{passed, failed}
+use Rattle.whole.proofs.Tests.{passed, failed}
 use Rattle.settling.specs.declared.Measure.{Measure}
 use Rattle.settling.specs.Measures as Measures
 use Rattle.settling.specs.Steps.{isAllowed, isCompared}

@@ -24,8 +24,10 @@ use Rattle.tableau.proofs.elimination.pass.Tie as tie
 -- what gathering answers and leaves
 told :
     (c : tie.After-gather) →
-    let a = c .before .before .before .args in
-    Gathers (gatheringOf (a .rows - a .k) (length (a .pivot .now)) (a .c) (drop (a .k * length (a .pivot .now)) (a .t .now))) (c .gather .result) (c .gather .last .0) (c .gather .last .1 .1 .0)
+    let start = c .before .before .before in
+    let a = start .args in
+    let w : ℕ = length (a .pivot .now) in
+    Gathers (gatheringOf (a .rows - a .k) w (a .c) (drop (a .k * w) (a .t .now))) (c .gather .result) (c .gather .last .0) (c .gather .last .1 .1 .0)
 told c =
     let a = c .before .before .before .args in
     rw (tail-is (a .k * length (a .pivot .now)) (a .t .now)) at (c .gather .ensures)
@@ -33,7 +35,7 @@ told c =
 -- once that has met no number beyond M
 module _ (c : tie.Else1) where
   abbrev s : tie.Start
-  s = c .before .before .before .before .before .before
+  s = let after-gather = c .before .before in after-gather .before .before .before .before
 
   abbrev t-of : List ℤ
   t-of = s .args .t .now
@@ -75,7 +77,10 @@ sub-gather-2 : tie.Need-sub-gather-2
 sub-gather-2 c = omega (arith, c .before .pre .0 .most)
 
 gather-requires : tie.Need-gather-requires
-gather-requires c κs = rw (tail-is (c .before .before .args .k * length (c .before .before .args .pivot .now)) (c .before .before .args .t .now)) (tail-of (c .before .before .pre .0) (c .before .before .pre .1 .0), c .before .before .pre .1 .1)
+gather-requires c κs =
+    let start = c .before .before in
+    rw (tail-is (start .args .k * length (start .args .pivot .now)) (start .args .t .now))
+    (tail-of (start .pre .0) (start .pre .1 .0), start .pre .1 .1)
 
 same-length : tie.Need-same-length
 same-length c = search needs

@@ -16,7 +16,8 @@ use Rattle.tableau.specs.Tails.{Picked}
 use Rattle.tableau.specs.ColumnPass.{Standing, aboveOf, belowOf, passedOf, rejoined}
 use Rattle.tableau.specs.RowSteps.{StopsRun}
 use Rattle.tableau.proofs.Choosing.{sighted-none, sighted-some}
-use Rattle.tableau.proofs.Passing.{columns-over, columns-on, columns-skip, tail-of, room-of, passed-above, passed-below, passed-on, skipped-on, starts, starts-all, picked-of, ends-columns, ends-rows}
+use Rattle.tableau.proofs.Passing.{columns-over, columns-on, columns-skip, tail-of, room-of, passed-above, passed-below, passed-on}
+use Rattle.tableau.proofs.Passing.{skipped-on, starts, starts-all, picked-of, ends-columns, ends-rows}
 use Rattle.tableau.proofs.elimination.pass_all.Statement.{statement}
 use Rattle.tableau.proofs.elimination.pass_all.Tie as tie
 
@@ -36,19 +37,26 @@ abbrev μ-loop : tie.MeasureT-loop
 -- the choice in the column
 chosen :
     (c : tie.After-choose Inv-loop μ-loop) →
-    let l = c .before .before .before .before .before .loop in
-    let a = c .before .before .before .before .before .before .args in
+    let turn = c .before .before .before .before .before in
+    let start = turn .before in
+    let l = turn .loop in
+    let a = start .args in
     Chooses (l .c) (belowOf (a .rows) (length (a .pivot .now)) (l .k) (l .t)) (c .choose .result)
 chosen c =
-    let l = c .before .before .before .before .before .loop in
-    let a = c .before .before .before .before .before .before .args in
+    let turn = c .before .before .before .before .before in
+    let start = turn .before in
+    let l = turn .loop in
+    let a = start .args in
     let w : ℕ = length (a .pivot .now) in
     subst (λ (v : List ℤ). Chooses (l .c) (chop (a .rows - l .k) w v) (c .choose .result)) (tail-is (l .k * w) (l .t)) (c .choose .ensures)
 
 picked :
     (c : tie.Else2 Inv-loop μ-loop) →
-    let l = c .before .before .before .before .before .before .before .loop in
-    let a = c .before .before .before .before .before .before .before .before .args in
+    let lent-tail = c .before .before .before .before in
+    let turn = lent-tail .before .before .before in
+    let start = turn .before in
+    let l = turn .loop in
+    let a = start .args in
     let w : ℕ = length (a .pivot .now) in
     Picked (a .rows - l .k) w (l .c) (drop (l .k * w) (l .t)) (c .before .before .choose .result .row)
 picked c =
@@ -59,8 +67,11 @@ picked c =
     (sym (chosen (c .before .before) .is) ∙ sighted-some (z .count) (z .row) (z .size) (c .if2 .left))
 
 -- the turn of a pass
+abbrev choice : tie.After-pass Inv-loop μ-loop → tie.After-choose Inv-loop μ-loop
+choice c = c .before .before .before .before .before
+
 abbrev tested : tie.After-pass Inv-loop μ-loop → tie.In-loop Inv-loop μ-loop
-tested c = c .before .before .before .before .before .before .before .before .before
+tested c = choice c .before .before .before .before
 
 abbrev turn : tie.After-pass Inv-loop μ-loop → tie.At-loop Inv-loop μ-loop
 turn c = tested c .before
@@ -89,7 +100,10 @@ same-length-2 : tie.Need-same-length-2 Inv-loop μ-loop
 same-length-2 c = c .before .before .loop .inv .wide
 
 returns : tie.Need-returns Inv-loop μ-loop
-returns c = ends-rows (length (c .before .before .before .args .pivot .now) - c .before .before .loop .c) (c .before .before .loop .inv .stands) (c .before .before .loop .inv .rest) (c .if1 .taken)
+returns c =
+    let turn = c .before .before in
+    let start = turn .before in
+    ends-rows (length (start .args .pivot .now) - turn .loop .c) (turn .loop .inv .stands) (turn .loop .inv .rest) (c .if1 .taken)
 
 mul-at : tie.Need-mul-at Inv-loop μ-loop
 mul-at c = omega (arith, room-of (c .before .before .loop .inv .stands))
@@ -111,25 +125,39 @@ sub-choose-2 c = omega (arith, c .before .before .before .before .loop .inv .sta
 
 choose-requires : tie.Need-choose-requires Inv-loop μ-loop
 choose-requires c κs =
-    let l = c .before .before .before .before .loop in
-    let w : ℕ = length (c .before .before .before .before .before .args .pivot .now) in
-    (ap length (tail-is (l .k * w) (l .t)) ∙ tail-of (l .inv .stands) (c .before .before .before .loop-test .taken) .wide, c .before .before .before .loop-test .taken)
+    let entered = c .before .before .before in
+    let turn = entered .before in
+    let start = turn .before in
+    let l = turn .loop in
+    let w : ℕ = length (start .args .pivot .now) in
+    (ap length (tail-is (l .k * w) (l .t)) ∙ tail-of (l .inv .stands) (entered .loop-test .taken) .wide, entered .loop-test .taken)
 
 add-c : tie.Need-add-c Inv-loop μ-loop
-add-c c = omega (arith, c .before .before .before .before .before .before .loop-test .taken)
+add-c c =
+    let lent-tail = c .before .before .before .before in
+    let entered = lent-tail .before .before in
+    omega (arith, entered .loop-test .taken)
 
 loop-less : tie.Need-loop-less Inv-loop μ-loop
-loop-less c = omega (arith, c .before .before .before .before .before .before .loop-test .taken)
+loop-less c =
+    let lent-tail = c .before .before .before .before in
+    let entered = lent-tail .before .before in
+    omega (arith, entered .loop-test .taken)
 
 loop-again : tie.Need-loop-again Inv-loop μ-loop
 loop-again c =
-    let a = c .before .before .before .before .before .before .before .before .args in
-    let l = c .before .before .before .before .before .before .before .loop in
-    let f = c .before .before .before .before .before .before .loop-test .taken in
-    let z = c .before .before .choose .result in
+    let after-choose = c .before .before in
+    let lent-tail = after-choose .before .before in
+    let entered = lent-tail .before .before in
+    let turn = entered .before in
+    let start = turn .before in
+    let a = start .args in
+    let l = turn .loop in
+    let f = entered .loop-test .taken in
+    let z = after-choose .choose .result in
     let w : ℕ = length (a .pivot .now) in
     let e : choose (l .c) (belowOf (a .rows) w (l .k) (l .t)) ≡ none =
-    sym (chosen (c .before .before) .is) ∙ sighted-none (z .row) (z .size) (c .if2 .taken) in
+    sym (chosen after-choose .is) ∙ sighted-none (z .row) (z .size) (c .if2 .taken) in
     let d : w - (l .c + 1) ≡ w - l .c - 1 = omega arith in
     record {
       same = l .inv .same;
@@ -143,9 +171,10 @@ loop-again c =
 
 pass-requires : tie.Need-pass-requires Inv-loop μ-loop
 pass-requires c κs =
-    let d = c .before .before .before .before .before .before .before .before in
+    let after-choose = c .before .before .before .before in
+    let d = after-choose .before .before .before .before in
     let i = d .before .loop .inv in
-    rw (i .wide) (i .stands, (d .loop-test .taken, (picked (c .before .before), chosen (c .before .before .before .before) .count)))
+    rw (i .wide) (i .stands, (d .loop-test .taken, (picked (c .before .before), chosen after-choose .count)))
 
 same-length-3 : tie.Need-same-length-3 Inv-loop μ-loop
 same-length-3 c = let n = c .before .before .before in n .pass .kept .0 ∙ turn n .loop .inv .same
@@ -170,7 +199,9 @@ returns-2 c =
 
 add-k : tie.Need-add-k Inv-loop μ-loop
 add-k c =
-    let d = c .before .before .before .before .before .before .before .before .before .before .before in
+    let after-pass = c .before .before .before in
+    let after-choose = after-pass .before .before .before .before .before in
+    let d = after-choose .before .before .before in
     omega (arith, d .before .before .loop .inv .stands .most, d .if1 .left)
 
 add-c-2 : tie.Need-add-c-2 Inv-loop μ-loop
@@ -182,10 +213,11 @@ loop-less-2 c = omega (arith, tested (c .before .before .before) .loop-test .tak
 loop-again-2 : tie.Need-loop-again-2 Inv-loop μ-loop
 loop-again-2 c =
     let n = c .before .before .before in
+    let some-chosen = n .before .before .before in
     let a = turn n .before .args in
     let l = turn n .loop in
     let f = tested n .loop-test .taken in
-    let g = picked (c .before .before .before .before .before .before) in
+    let g = picked some-chosen in
     let w : ℕ = length (a .pivot .now) in
     let d : w - (l .c + 1) ≡ w - l .c - 1 = omega arith in
     let o = sym (told n .answer) ∙ c .if3 .left in
@@ -210,7 +242,9 @@ same-length-6 : tie.Need-same-length-6 Inv-loop μ-loop
 same-length-6 c = c .before .loop .inv .wide
 
 returns-3 : tie.Need-returns-3 Inv-loop μ-loop
-returns-3 c = ends-columns (length (c .before .before .args .pivot .now) - c .before .loop .c) (c .before .loop .inv .stands) (c .before .loop .inv .rest) (omega (arith, c .loop-test .left))
+returns-3 c =
+    let l = c .before .loop in
+    ends-columns (length (c .before .before .args .pivot .now) - l .c) (l .inv .stands) (l .inv .rest) (omega (arith, c .loop-test .left))
 
 pub pass-all-spec : {M : Type 1} → statement M
 pass-all-spec =

@@ -40,8 +40,11 @@ part-fill-row-end c = omega (arith, ahead (c .before .loop .inv) (c .before .bef
 
 fill-row-requires : tie.Need-fill-row-requires Inv-loop μ-loop
 fill-row-requires c κs =
-    let w : ℕ = c .before .before .before .before .args .p .rows + c .before .before .before .before .args .p .columns in
-    ((ap length (part-is (c .before .before .loop .at) w (c .before .before .loop .t)) ∙ row-wide (c .before .before .loop .inv) (c .before .before .before .before .pre .table) (c .before .loop-test .taken), c .before .loop-test .taken), c .before .before .before .before .pre .matrix)
+    let turn = c .before .before in
+    let start = turn .before .before in
+    let w : ℕ = start .args .p .rows + start .args .p .columns in
+    let some = c .before .loop-test .taken in
+    ((ap length (part-is (turn .loop .at) w (turn .loop .t)) ∙ row-wide (turn .loop .inv) (start .pre .table) some, some), start .pre .matrix)
 
 add-j : tie.Need-add-j Inv-loop μ-loop
 add-j c = omega (arith, c .before .before .before .loop-test .taken)
@@ -51,12 +54,15 @@ loop-less c = omega (arith, c .before .before .before .loop-test .taken)
 
 loop-again : tie.Need-loop-again Inv-loop μ-loop
 loop-again c =
-    let w : ℕ = c .before .before .before .before .before .before .args .p .rows + c .before .before .before .before .before .before .args .p .columns in
-    let l = c .before .before .before .before .loop in
+    let entered = c .before .before .before in
+    let turn = entered .before in
+    let start = turn .before .before in
+    let w : ℕ = start .args .p .rows + start .args .p .columns in
+    let l = turn .loop in
     let u : List ℤ = c .before .fill-row .last .0 in
     rw (part-back (l .at) w (l .t) u)
-    (goes-on (l .inv) (c .before .before .before .before .before .before .pre .table) (c .before .before .before .loop-test .taken) u
-    (c .before .fill-row .kept .0 ∙ ap length (part-is (l .at) w (l .t)) ∙ row-wide (l .inv) (c .before .before .before .before .before .before .pre .table) (c .before .before .before .loop-test .taken))
+    (goes-on (l .inv) (start .pre .table) (entered .loop-test .taken) u
+    (c .before .fill-row .kept .0 ∙ ap length (part-is (l .at) w (l .t)) ∙ row-wide (l .inv) (start .pre .table) (entered .loop-test .taken))
     (c .before .fill-row .ensures))
 
 same-length : tie.Need-same-length Inv-loop μ-loop

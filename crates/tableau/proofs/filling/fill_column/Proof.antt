@@ -22,10 +22,15 @@ abbrev μ-loop : tie.MeasureT-loop
 -- the coefficient that is read lies in the matrix
 inside : (c : tie.In-loop Inv-loop μ-loop) → let a = c .before .before .args in c .before .loop .i * a .n + a .j < length (a .coefficients .now)
 inside c =
-    let a = c .before .before .args in
-    omega (arith, in-table (length (a .to .now)) (a .n) (a .j) (c .before .loop .i) (c .before .before .pre .1) (omega (arith, c .before .loop .inv .same)), c .before .before .pre .0)
+    let start = c .before .before in
+    let a = start .args in
+    let l = c .before .loop in
+    omega (arith, in-table (length (a .to .now)) (a .n) (a .j) (l .i) (start .pre .1) (omega (arith, l .inv .same)), start .pre .0)
 
-low : (c : tie.In-loop Inv-loop μ-loop) → let a = c .before .before .args in c .before .loop .i < length (column (a .j) (chop (length (a .to .now)) (a .n) (a .coefficients .now)))
+low :
+    (c : tie.In-loop Inv-loop μ-loop) →
+    let a = c .before .before .args in
+    c .before .loop .i < length (column (a .j) (chop (length (a .to .now)) (a .n) (a .coefficients .now)))
 low c =
     let a = c .before .before .args in
     omega (arith, c .before .loop .inv .same, column-length (a .j) (length (a .to .now)) (a .n) (a .coefficients .now))
@@ -59,14 +64,23 @@ loop-less c = omega (arith, c .before .before .loop .inv .same)
 
 loop-again : tie.Need-loop-again Inv-loop μ-loop
 loop-again c =
-    goes-on (c .before .before .loop .inv) (low (c .before))
-    (back _ (c .x .given) ∙ sym (column-number (c .before .before .loop .i) (c .before .before .before .args .j) (length (c .before .before .before .args .to .now)) (c .before .before .before .args .n) (c .before .before .before .args .coefficients .now) (omega (arith, c .before .before .loop .inv .same)) (c .before .before .before .pre .1)))
+    let turn = c .before .before in
+    let start = turn .before in
+    let a = start .args in
+    goes-on (turn .loop .inv) (low (c .before))
+    (back _ (c .x .given)
+    ∙ sym
+    (column-number (turn .loop .i) (a .j) (length (a .to .now)) (a .n) (a .coefficients .now) (omega (arith, turn .loop .inv .same)) (start .pre .1)))
 
 same-length : tie.Need-same-length Inv-loop μ-loop
 same-length c = c .before .loop .inv .same
 
 returns : tie.Need-returns Inv-loop μ-loop
-returns c = ends (c .before .loop .inv) (omega (arith, c .before .loop .inv .same, column-length (c .before .before .args .j) (length (c .before .before .args .to .now)) (c .before .before .args .n) (c .before .before .args .coefficients .now)))
+returns c =
+    let start = c .before .before in
+    let a = start .args in
+    let i = c .before .loop .inv in
+    ends i (omega (arith, i .same, column-length (a .j) (length (a .to .now)) (a .n) (a .coefficients .now)))
 
 pub fill-column-spec : {M : Type 1} → statement M
 fill-column-spec =

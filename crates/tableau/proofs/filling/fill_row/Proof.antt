@@ -20,7 +20,9 @@ slice-aggregate-fill-column : tie.Need-slice-aggregate-fill-column
 slice-aggregate-fill-column c = sym (length-take-le (c .before .args .p .rows) (c .before .args .row .now) (omega (arith, c .before .pre .0 .0)))
 
 fill-column-requires : tie.Need-fill-column-requires
-fill-column-requires c κs = rw (length-take-le (c .before .args .p .rows) (c .before .args .row .now) (omega (arith, c .before .pre .0 .0))) (c .before .pre .1, c .before .pre .0 .1)
+fill-column-requires c κs =
+    let s = c .before in
+    rw (length-take-le (s .args .p .rows) (s .args .row .now) (omega (arith, s .pre .0 .0))) (s .pre .1, s .pre .0 .1)
 
 mul-fill-unit : tie.Need-mul-fill-unit
 mul-fill-unit c = search needs
@@ -42,16 +44,21 @@ same-length c = search needs
 
 returns : tie.Need-returns
 returns c =
-    let a = c .before .before .before .before .before .before .args in
+    let after-fill-column = c .before .before .before .before in
+    let start = after-fill-column .before .before in
+    let a = start .args in
     let m : ℕ = a .p .rows in
-    let x : List ℤ = c .before .before .before .before .fill-column .last .0 in
-    let l : length (take m (a .row .now)) ≡ m = length-take-le m (a .row .now) (omega (arith, c .before .before .before .before .before .before .pre .0 .0)) in
-    let k : length x ≡ m = c .before .before .before .before .fill-column .kept .0 ∙ l in
+    let x : List ℤ = after-fill-column .fill-column .last .0 in
+    let l : length (take m (a .row .now)) ≡ m = length-take-le m (a .row .now) (omega (arith, start .pre .0 .0)) in
+    let k : length x ≡ m = after-fill-column .fill-column .kept .0 ∙ l in
     let y : List ℤ = x ++ drop m (a .row .now) in
-    let n : length (drop m y) ≡ a .p .columns = ap length (drop-at x (drop m (a .row .now)) m k) ∙ omega (arith, length-drop m (a .row .now), c .before .before .before .before .before .before .pre .0 .0) in
+    let n : length (drop m y) ≡ a .p .columns =
+    ap length (drop-at x (drop m (a .row .now)) m k) ∙ omega (arith, length-drop m (a .row .now), start .pre .0 .0) in
     tail-back m y (c .before .fill-unit .last .0) (omega (arith, length-append x (drop m (a .row .now))))
     ∙ ap₂ (λ (u v : List ℤ). u ++ v)
-    (take-at x (drop m (a .row .now)) m k ∙ c .before .before .before .before .fill-column .ensures ∙ ap (λ (i : ℕ). column (a .j) (chop i (a .p .columns) (a .coefficients .now))) l)
+    (take-at x (drop m (a .row .now)) m k
+    ∙ after-fill-column .fill-column .ensures
+    ∙ ap (λ (i : ℕ). column (a .j) (chop i (a .p .columns) (a .coefficients .now))) l)
     (c .before .fill-unit .ensures ∙ ap (λ (i : ℕ). unit i (a .j)) (ap length (tail-is m y) ∙ n))
 
 pub fill-row-spec : {M : Type 1} → statement M

@@ -21,7 +21,10 @@ same-length : tie.Need-same-length
 same-length c = search needs
 
 returns : tie.Need-returns
-returns c = ap (λ (l : List ℤ). set l (c .before .before .before .args .j) (pos 1)) (c .before .wipe .ensures) ∙ unit-set (length (c .before .before .before .args .to .now)) (c .before .before .before .args .j) (c .before .before .before .pre)
+returns c =
+    let start = c .before .before .before in
+    ap (λ (l : List ℤ). set l (start .args .j) (pos 1)) (c .before .wipe .ensures)
+    ∙ unit-set (length (start .args .to .now)) (start .args .j) (start .pre)
 
 pub fill-unit-spec : {M : Type 1} → statement M
 fill-unit-spec = tie.close (tie.spec wipe-requires mul-to slice-set-of-to same-length returns)

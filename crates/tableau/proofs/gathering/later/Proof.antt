@@ -31,11 +31,14 @@ add-t8 c = search needs
 
 returns-3 : tie.Need-returns-3
 returns-3 c =
-    let a = c .before .before .before .before .before .before .args in
+    let counted-before = c .before .before .before in
+    let nonzero = counted-before .before .before in
+    let start = nonzero .before in
+    let a = start .args in
     let z = a .z in (
-      below-left (z .count) (z .row) (z .size) (a .i) (a .size) (c .before .before .before .if2 .left)
+      below-left (z .count) (z .row) (z .size) (a .i) (a .size) (counted-before .if2 .left)
           (ltb-false (a .size) (z .size) (c .before .if3 .left)),
-      counted-up (z .count) (a .size) (c .before .before .before .before .before .if1 .left),
+      counted-up (z .count) (a .size) (nonzero .if1 .left),
     )
 
 pub later-spec : {M : Type 1} → statement M

@@ -1,6 +1,7 @@
 -- `tableau::gathering::raise` meets its contract: its test is the sign of the entry. Assumes nothing.
 use mathlib.Core.Path.{_≡_, sym, _∙_}
-use lib.IntN.{pos}
+use mathlib.Core.List.{List}
+use lib.IntN.{ℤ, pos}
 use lib.Signed.{ltZ}
 use Rattle.whole.specs.Lists.{entry}
 use Rattle.whole.proofs.Signed.{back}
@@ -28,10 +29,17 @@ same-length : tie.Need-same-length
 same-length c = search needs
 
 returns : tie.Need-returns
-returns c = c .before .negate .ensures ∙ sym (Lifting.taken (entry (c .before .before .before .before .before .before .args .c) (c .before .before .before .before .before .before .args .row .now)) (c .before .before .before .before .before .before .args .row .now) (sym (tested (c .before .before .before .before)) ∙ c .before .before .before .if1 .taken))
+returns c =
+    let met-less = c .before .before .before in
+    let after-less = met-less .before in
+    let start = after-less .before .before in
+    let r : List ℤ = start .args .row .now in
+    c .before .negate .ensures ∙ sym (Lifting.taken (entry (start .args .c) r) r (sym (tested after-less) ∙ met-less .if1 .taken))
 
 returns-2 : tie.Need-returns-2
-returns-2 c = sym (Lifting.left (entry (c .before .before .before .args .c) (c .before .before .before .args .row .now)) (c .before .before .before .args .row .now) (sym (tested (c .before)) ∙ c .if1 .left))
+returns-2 c =
+    let start = c .before .before .before in
+    sym (Lifting.left (entry (start .args .c) (start .args .row .now)) (start .args .row .now) (sym (tested (c .before)) ∙ c .if1 .left))
 
 pub raise-spec : {M : Type 1} → statement M
 raise-spec =

@@ -19,10 +19,14 @@ mul-each : tie.Need-mul-each
 mul-each c = search needs
 
 sub-each : tie.Need-sub-each
-sub-each c = omega (arith, c .before .before .lift .kept .0, ends-inside (c .before .before .before .before .before .pre .0) (c .before .before .before .before .before .pre .1))
+sub-each c =
+    let start = c .before .before .before .before .before in
+    omega (arith, c .before .before .lift .kept .0, ends-inside (start .pre .0) (start .pre .1))
 
 part-each-start : tie.Need-part-each-start
-part-each-start c = omega (arith, c .before .before .lift .kept .0, ends-inside (c .before .before .before .before .before .pre .0) (c .before .before .before .before .before .pre .1))
+part-each-start c =
+    let start = c .before .before .before .before .before in
+    omega (arith, c .before .before .lift .kept .0, ends-inside (start .pre .0) (start .pre .1))
 
 part-each-end : tie.Need-part-each-end
 part-each-end c = search needs
@@ -32,10 +36,15 @@ sub-each-2 c = search needs
 
 each-requires : tie.Need-each-requires
 each-requires c κs =
-    let w : ℕ = length (c .before .before .before .before .before .before .before .args .pivot .now) in
-    let u : List ℤ = c .before .before .before .before .lift .last .0 in (
-      ap length (tail-is w u) ∙ below-is-wide (c .before .before .before .before .before .before .before .pre .0) (c .before .before .before .before .before .before .before .pre .1) (c .before .before .before .before .lift .ensures),
-      (pivot-is (c .before .before .before .before .before .before .before .pre .0) (c .before .before .before .before .before .before .before .pre .1) (c .before .before .before .before .lift .ensures), subst Within (sym (tail-is w u)) (below-is-small (c .before .before .before .before .before .before .before .pre .0) (c .before .before .before .before .before .before .before .pre .1) (c .before .before .before .before .lift .ensures))),
+    let after-lift = c .before .before .before .before in
+    let start = after-lift .before .before .before in
+    let w : ℕ = length (start .args .pivot .now) in
+    let u : List ℤ = after-lift .lift .last .0 in (
+      ap length (tail-is w u) ∙ below-is-wide (start .pre .0) (start .pre .1) (after-lift .lift .ensures),
+      (
+        pivot-is (start .pre .0) (start .pre .1) (after-lift .lift .ensures),
+        subst Within (sym (tail-is w u)) (below-is-small (start .pre .0) (start .pre .1) (after-lift .lift .ensures)),
+      ),
     )
 
 same-length : tie.Need-same-length
@@ -46,11 +55,15 @@ same-length-2 c = search needs
 
 returns : tie.Need-returns
 returns c =
-    let w : ℕ = length (c .before .before .before .before .before .before .before .before .before .args .pivot .now) in
-    let u : List ℤ = c .before .before .before .before .before .before .lift .last .0 in
+    let lent-back = c .before .before .before .before .before in
+    let after-lift = lent-back .before in
+    let start = after-lift .before .before .before in
+    let w : ℕ = length (start .args .pivot .now) in
+    let u : List ℤ = after-lift .lift .last .0 in
     let v : List ℤ = c .before .each .last .0 in
-    rw (tail-back w u v (omega (arith, c .before .before .before .before .before .before .lift .kept .0, ends-inside (c .before .before .before .before .before .before .before .before .before .pre .0) (c .before .before .before .before .before .before .before .before .before .pre .1))))
-    (round-stops (c .before .before .before .before .before .before .before .before .before .pre .0) (c .before .before .before .before .before .before .before .before .before .pre .1) (c .before .before .before .before .before .before .lift .ensures) (c .before .each .result) v (rw (tail-is w u) at (c .before .each .ensures)))
+    rw (tail-back w u v (omega (arith, after-lift .lift .kept .0, ends-inside (start .pre .0) (start .pre .1))))
+    (round-stops (start .pre .0) (start .pre .1) (after-lift .lift .ensures) (c .before .each .result) v
+    (rw (tail-is w u) at (c .before .each .ensures)))
 
 pub round-spec : {M : Type 1} → statement M
 round-spec =

@@ -11,15 +11,15 @@ use lib.ListN.{length, take, drop, length-drop}
 use Rattle.whole.specs.Lists.{entry}
 use Rattle.whole.proofs.Signed.{back}
 use Rattle.lattice.specs.Rows.{flat, chop}
+use Rattle.lattice.proofs.FlatLaws.{one-less}
 use Rattle.lattice.proofs.LentParts.{tail-is}
 use Rattle.tableau.specs.Elimination.{Gathered, none, choose}
-use Rattle.tableau.specs.Gathering.{Chosen}
+use Rattle.tableau.specs.Gathering.{Chosen, magnitude}
 use Rattle.tableau.specs.Choices.{choiceOf}
 use Rattle.tableau.specs.Tails.{Tail, Picked, Gathers, roundOf, gatheringOf}
 use Rattle.tableau.proofs.Choosing.{sighted-none, sighted-some}
 use Rattle.tableau.proofs.Rounds.{chosen-low, ends-inside}
-use Rattle.tableau.proofs.Lifting.{one-less}
-use Rattle.tableau.proofs.Turns.{sizeOf, marked, finished, last-one, going-on, next-tail, next-below}
+use Rattle.tableau.proofs.Turns.{marked, finished, last-one, going-on, next-tail, next-below}
 use Rattle.tableau.proofs.gathering.rounds.Statement.{statement}
 use Rattle.tableau.proofs.gathering.rounds.Tie as tie
 
@@ -34,7 +34,7 @@ abbrev Inv-loop : tie.InvT-loop
 Inv-loop t₀ rows pivot₀ c chosen w j₀ t pivot j = Inv t₀ rows w c t pivot j
 
 abbrev μ-loop : tie.MeasureT-loop
-μ-loop t₀ rows pivot₀ c chosen w j₀ t pivot j = sizeOf (choose c (take w t ∷ chop (rows - 1) w (drop w t)))
+μ-loop t₀ rows pivot₀ c chosen w j₀ t pivot j = magnitude (choose c (take w t ∷ chop (rows - 1) w (drop w t)))
 
 -- what the round answers and leaves
 told :
@@ -57,8 +57,11 @@ same-pivot c = c .before .before .round .kept .1 .1 .0 ∙ c .before .before .be
 
 -- after a round that meets no number beyond M
 module _ (c : tie.Else1 Inv-loop μ-loop) where
+  abbrev after : tie.After-round Inv-loop μ-loop
+  after = c .before .before .before
+
   abbrev l : tie.At-loop Inv-loop μ-loop
-  l = c .before .before .before .before .before .before
+  l = after .before .before .before
 
   abbrev k : ℕ
   k = l .before .args .rows
@@ -70,42 +73,46 @@ module _ (c : tie.Else1 Inv-loop μ-loop) where
   col = l .before .args .c
 
   abbrev u : List ℤ
-  u = c .before .before .before .round .last .0
+  u = after .round .last .0
 
   abbrev x-of : Gathered
   x-of = roundOf k w col (l .loop .t)
 
   unmarked : x-of .over ≡ false
-  unmarked = sym (told (c .before .before .before) .answer) ∙ c .if1 .left
+  unmarked = sym (told after .answer) ∙ c .if1 .left
 
   rows-next : u ≡ flat (x-of .pivot ∷ x-of .below)
-  rows-next = told (c .before .before .before) .left (c .if1 .left)
+  rows-next = told after .left (c .if1 .left)
 
   tail-next : Tail k w col u
-  tail-next = next-tail (l .loop .inv .tail) (l .loop .inv .picked) unmarked rows-next (c .before .before .before .round .kept .0)
+  tail-next = next-tail (l .loop .inv .tail) (l .loop .inv .picked) unmarked rows-next (after .round .kept .0)
 
-  inside : col < length (c .before .before .before .round .last .1 .1 .0)
+  inside : col < length (after .round .last .1 .1 .0)
   inside = omega (arith, same-pivot (c .before), l .before .pre .0 .column)
 
   room : w ≤ length (l .loop .t)
   room = omega (arith, ends-inside (l .loop .inv .tail) (l .loop .inv .picked))
 
+-- such a round, before the next choice
+abbrev past-round : tie.After-choose Inv-loop μ-loop → tie.Else1 Inv-loop μ-loop
+past-round c = let after-magnitude = c .before .before .before .before in after-magnitude .before .before
+
 -- the choice among the rows below
 chosen-next : (c : tie.After-choose Inv-loop μ-loop) →
-    let n = c .before .before .before .before .before .before in
+    let n = past-round c in
     choiceOf (c .choose .result) ≡ choose (col n) (x-of n .below)
 chosen-next c =
-    let n = c .before .before .before .before .before .before in
+    let n = past-round c in
     c .choose .ensures .is
     ∙ ap (λ (v : List ℤ). choose (col n) (chop (k n - 1) (w n) v)) (tail-is (w n) (u n))
     ∙ ap (choose (col n))
-    (next-below (l n .loop .inv .tail) (l n .loop .inv .picked) (unmarked n) (rows-next n) (n .before .before .before .round .kept .0))
+    (next-below (l n .loop .inv .tail) (l n .loop .inv .picked) (unmarked n) (rows-next n) (after n .round .kept .0))
 
 -- where there is none, the round was the last one
 done : (n : tie.Else1 Inv-loop μ-loop) → choose (col n) (x-of n .below) ≡ none
-    → Gathers (gatheringOf (k n) (w n) (col n) (l n .before .args .t .now)) false (u n) (n .before .before .before .round .last .1 .1 .0)
+    → Gathers (gatheringOf (k n) (w n) (col n) (l n .before .args .t .now)) false (u n) (after n .round .last .1 .1 .0)
 done n e =
-    let r = n .before .before .before in
+    let r = after n in
     subst (λ (y : Gathered). Gathers y false (u n) (r .round .last .1 .1 .0))
     (sym (finished (l n .loop .inv .tail) (l n .loop .inv .picked) e) ∙ l n .loop .inv .rest)
     (subst (λ (b : Bool). Gathers (x-of n) b (u n) (r .round .last .1 .1 .0)) (n .if1 .left) (told r))
@@ -114,28 +121,28 @@ done n e =
 one : (c : tie.Then2 Inv-loop μ-loop) → natAbs (entry (col (c .before .before .before)) (x-of (c .before .before .before) .pivot)) ≡ 1
 one c =
     let n = c .before .before .before in
-    ap (λ (r : List ℤ). natAbs (entry (col n) r)) (sym (told (n .before .before .before) .row (n .if1 .left)))
+    ap (λ (r : List ℤ). natAbs (entry (col n) r)) (sym (told (after n) .row (n .if1 .left)))
     ∙ sym (rw (back _ (c .before .before .magnitude-arg .given)) at (c .before .magnitude .ensures))
     ∙ c .if2 .taken
 
 more :
     (c : tie.Else3 Inv-loop μ-loop) →
-    let n = c .before .before .before .before .before .before .before .before in
+    let n = past-round (c .before .before) in
     let z = c .before .before .choose .result in
     (gatheringOf (k n) (w n) (col n) (u n) ≡ gatheringOf (k n) (w n) (col n) (l n .loop .t))
     × (z .size < l n .loop .inv .picked .size)
     × Chosen (w n) (col n) (take (w n) (u n)) (chop (k n - 1) (w n) (drop (w n) (u n))) (z .row + 1) (z .size)
 more c =
-    let n = c .before .before .before .before .before .before .before .before in
+    let n = past-round (c .before .before) in
     let z = c .before .before .choose .result in
-    going-on (l n .loop .inv .tail) (l n .loop .inv .picked) (unmarked n) (rows-next n) (n .before .before .before .round .kept .0) (z .row) (z .size)
+    going-on (l n .loop .inv .tail) (l n .loop .inv .picked) (unmarked n) (rows-next n) (after n .round .kept .0) (z .row) (z .size)
     (sym (chosen-next (c .before .before)) ∙ sighted-some (z .count) (z .row) (z .size) (c .if3 .left))
 
 picked-next : (c : tie.Else3 Inv-loop μ-loop) →
-    let n = c .before .before .before .before .before .before .before .before in
+    let n = past-round (c .before .before) in
     Picked (k n) (w n) (col n) (u n) (c .before .before .choose .result .row + 1)
 picked-next c =
-    let n = c .before .before .before .before .before .before .before .before in
+    let n = past-round (c .before .before) in
     record { some = l n .loop .inv .picked .some; size = c .before .before .choose .result .size; is = more c .2 }
 
 loop-holds : tie.Need-loop-holds Inv-loop μ-loop
@@ -153,7 +160,8 @@ same-length-2 c = same-pivot (c .before)
 returns : tie.Need-returns Inv-loop μ-loop
 returns c =
     let r = c .before .before .before in
-    let l = c .before .before .before .before .before .before .loop in
+    let turn = r .before .before .before in
+    let l = turn .loop in
     record {
       answer =
           sym (ap (λ (y : Gathered). y .over) (sym (l .inv .rest)) ∙ marked (l .inv .tail) (l .inv .picked) (sym (told r .answer) ∙ c .if1 .taken));
@@ -180,19 +188,27 @@ returns-2 : tie.Need-returns-2 Inv-loop μ-loop
 returns-2 c = let n = c .before .before .before in done n (last-one (l n .loop .inv .tail) (l n .loop .inv .picked) (one c))
 
 mul-choose : tie.Need-mul-choose Inv-loop μ-loop
-mul-choose c = omega (arith, room (c .before .before .before), c .before .before .before .before .before .before .round .kept .0)
+mul-choose c =
+    let n = c .before .before .before in
+    omega (arith, room n, after n .round .kept .0)
 
 sub-choose : tie.Need-sub-choose Inv-loop μ-loop
-sub-choose c = omega (arith, room (c .before .before .before), c .before .before .before .before .before .before .round .kept .0)
+sub-choose c =
+    let n = c .before .before .before in
+    omega (arith, room n, after n .round .kept .0)
 
 part-choose-start : tie.Need-part-choose-start Inv-loop μ-loop
-part-choose-start c = let n = c .before .before .before .before in omega (arith, room n, n .before .before .before .round .kept .0)
+part-choose-start c = let n = c .before .before .before .before in omega (arith, room n, after n .round .kept .0)
 
 part-choose-end : tie.Need-part-choose-end Inv-loop μ-loop
 part-choose-end c = search needs
 
 sub-choose-2 : tie.Need-sub-choose-2 Inv-loop μ-loop
-sub-choose-2 c = omega (arith, c .before .before .before .before .before .before .before .before .before .before .before .loop .inv .picked .some)
+sub-choose-2 c =
+    let after-magnitude = c .before .before .before in
+    let after-round = after-magnitude .before .before .before .before .before in
+    let turn = after-round .before .before .before in
+    omega (arith, turn .loop .inv .picked .some)
 
 choose-requires : tie.Need-choose-requires Inv-loop μ-loop
 choose-requires c κs =
@@ -203,31 +219,31 @@ choose-requires c κs =
     )
 
 same-length-5 : tie.Need-same-length-5 Inv-loop μ-loop
-same-length-5 c = same-tail (c .before .before .before .before .before .before .before .before .before)
+same-length-5 c = same-tail (past-round (c .before .before) .before)
 
 same-length-6 : tie.Need-same-length-6 Inv-loop μ-loop
-same-length-6 c = same-pivot (c .before .before .before .before .before .before .before .before .before)
+same-length-6 c = same-pivot (past-round (c .before .before) .before)
 
 returns-3 : tie.Need-returns-3 Inv-loop μ-loop
 returns-3 c =
     let z = c .before .before .choose .result in
-    done (c .before .before .before .before .before .before .before .before)
+    done (past-round (c .before .before))
     (sym (chosen-next (c .before .before)) ∙ sighted-none (z .row) (z .size) (c .if3 .taken))
 
 add-j : tie.Need-add-j Inv-loop μ-loop
 add-j c =
-    let n = c .before .before .before .before .before .before .before .before .before in
+    let n = past-round (c .before .before .before) in
     omega (arith, chosen-low (tail-next n) (picked-next (c .before)), l n .before .fits .rows)
 
 loop-less : tie.Need-loop-less Inv-loop μ-loop
 loop-less c =
+    let n = past-round (c .before .before .before) in
     let m = more (c .before) in
-    let n = c .before .before .before .before .before .before .before .before .before in
-    omega (arith, m .1, ap sizeOf (m .2 .choice), ap sizeOf (l n .loop .inv .picked .is .choice))
+    omega (arith, m .1, ap magnitude (m .2 .choice), ap magnitude (l n .loop .inv .picked .is .choice))
 
 loop-again : tie.Need-loop-again Inv-loop μ-loop
 loop-again c =
-    let n = c .before .before .before .before .before .before .before .before .before in
+    let n = past-round (c .before .before .before) in
     record {
       same = same-tail (n .before);
       wide = same-pivot (n .before);

@@ -26,7 +26,10 @@ inside : (c : tie.In-loop Inv-loop μ-loop) → c .before .loop .i < length (neg
 inside c = omega (arith, c .before .loop .inv .same, length-neg (c .before .before .args .row .now))
 
 -- the number that is stored is the negated row's
-value : (c : tie.After-negated Inv-loop μ-loop) → toZ w64 (ofZ w64 (c .negated .result)) ≡ entry (c .before .before .before .loop .i) (neg (c .before .before .before .before .args .row .now))
+value :
+    (c : tie.After-negated Inv-loop μ-loop) →
+    let turn = c .before .before .before in
+    toZ w64 (ofZ w64 (c .negated .result)) ≡ entry (turn .loop .i) (neg (turn .before .args .row .now))
 value c =
     let m = c .before .before .before in
     back (c .negated .result) (c .negated .ok)
@@ -44,7 +47,11 @@ slice-copy-out-negated : tie.Need-slice-copy-out-negated Inv-loop μ-loop
 slice-copy-out-negated c = omega arith
 
 negated-requires : tie.Need-negated-requires Inv-loop μ-loop
-negated-requires c κs = rw (back _ (c .negated-arg .given), unread (c .before .before .loop .inv) (inside (c .before))) (omega (arith, within-entry (c .before .before .before .args .row .now) (c .before .before .loop .i) (c .before .before .before .pre)))
+negated-requires c κs =
+    let turn = c .before .before in
+    let start = turn .before in
+    rw (back _ (c .negated-arg .given), unread (turn .loop .inv) (inside (c .before)))
+    (omega (arith, within-entry (start .args .row .now) (turn .loop .i) (start .pre)))
 
 mul-x : tie.Need-mul-x Inv-loop μ-loop
 mul-x c = search needs

@@ -45,7 +45,9 @@ taken c =
 
 size-2 :
     (c : tie.After-magnitude2) →
-    let a = c .before .before .before .before .before .before .args in
+    let after-e = c .before .before .before .before .before in
+    let start = after-e .before in
+    let a = start .args in
     c .magnitude2 .result ≡ natAbs (quotientOf (a .way) (entry (a .c) (a .row .now)) (entry (a .c) (a .pivot .now)))
 size-2 c = c .magnitude2 .ensures ∙ ap natAbs (taken (c .before))
 
@@ -59,7 +61,9 @@ magnitude-requires : tie.Need-magnitude-requires
 magnitude-requires c κs = search needs
 
 returns : tie.Need-returns
-returns c = stays (step-none (c .before .before .before .args .way) (c .before .before .before .args .c) _ _ (c .before .before .before .pre .0 .lead) (c .before .before .before .pre .1) (sym (size (c .before)) ∙ c .if1 .taken))
+returns c =
+    let start = c .before .before .before in
+    stays (step-none (start .args .way) (start .args .c) _ _ (start .pre .0 .lead) (start .pre .1) (sym (size (c .before)) ∙ c .if1 .taken))
 
 mul-quotient : tie.Need-mul-quotient
 mul-quotient c = omega (arith, inside (c .before .before .before .pre .0))
@@ -75,42 +79,63 @@ magnitude-requires-2 c κs = search needs
 
 returns-2 : tie.Need-returns-2
 returns-2 c =
-    let s = c .before .before .before .before .before .before .before in
-    stays (step-idle (s .args .way) (s .args .c) _ _ (other (c .before .before .before .before)) (s .pre .1) (sym (size-2 (c .before)) ∙ c .if2 .taken))
+    let past-magnitude = c .before .before .before .before in
+    let s = past-magnitude .before .before .before in
+    stays (step-idle (s .args .way) (s .args .c) _ _ (other past-magnitude) (s .pre .1) (sym (size-2 (c .before)) ∙ c .if2 .taken))
 
 mul-subtract : tie.Need-mul-subtract
-mul-subtract c = omega (arith, inside (c .before .before .before .before .before .before .before .pre .0))
+mul-subtract c =
+    let after-magnitude = c .before .before .before .before .before in
+    let start = after-magnitude .before .before in
+    omega (arith, inside (start .pre .0))
 
 sub-subtract : tie.Need-sub-subtract
-sub-subtract c = omega (arith, inside (c .before .before .before .before .before .before .before .pre .0))
+sub-subtract c =
+    let after-magnitude = c .before .before .before .before .before in
+    let start = after-magnitude .before .before in
+    omega (arith, inside (start .pre .0))
 
 part-subtract-start : tie.Need-part-subtract-start
-part-subtract-start c = omega (arith, inside (c .before .before .before .before .before .before .before .pre .0))
+part-subtract-start c =
+    let after-magnitude = c .before .before .before .before .before in
+    let start = after-magnitude .before .before in
+    omega (arith, inside (start .pre .0))
 
 part-subtract-end : tie.Need-part-subtract-end
 part-subtract-end c = search needs
 
 mul-subtract-2 : tie.Need-mul-subtract-2
-mul-subtract-2 c = omega (arith, inside (c .before .before .before .before .before .before .before .before .pre .0))
+mul-subtract-2 c =
+    let after-quotient = c .before .before .before in
+    let start = after-quotient .before .before .before .before .before in
+    omega (arith, inside (start .pre .0))
 
 sub-subtract-2 : tie.Need-sub-subtract-2
-sub-subtract-2 c = omega (arith, inside (c .before .before .before .before .before .before .before .before .pre .0), c .before .before .before .before .before .before .before .before .pre .0 .wide)
+sub-subtract-2 c =
+    let after-quotient = c .before .before .before in
+    let start = after-quotient .before .before .before .before .before in
+    omega (arith, inside (start .pre .0), start .pre .0 .wide)
 
 part-subtract-start-2 : tie.Need-part-subtract-start-2
-part-subtract-start-2 c = omega (arith, inside (c .before .before .before .before .before .before .before .before .pre .0), c .before .before .before .before .before .before .before .before .pre .0 .wide)
+part-subtract-start-2 c =
+    let after-quotient = c .before .before .before in
+    let start = after-quotient .before .before .before .before .before in
+    omega (arith, inside (start .pre .0), start .pre .0 .wide)
 
 part-subtract-end-2 : tie.Need-part-subtract-end-2
 part-subtract-end-2 c = search needs
 
 subtract-requires : tie.Need-subtract-requires
 subtract-requires c κs =
-    let a = c .before .before .before .before .before .before .before .before .before .args in
-    let h = c .before .before .before .before .before .before .before .before .before .pre in
+    let after-quotient = c .before .before .before .before in
+    let start = after-quotient .before .before .before .before .before in
+    let a = start .args in
+    let h = start .pre in
     rw (tail-is (a .c) (a .row .now), tail-is (a .c) (a .pivot .now)) (
       omega (arith, length-drop (a .c) (a .row .now), length-drop (a .c) (a .pivot .now), h .0 .wide),
       (
         (within-drop (a .c) (a .row .now) (h .1), within-drop (a .c) (a .pivot .now) (h .0 .small)),
-        rw (taken (c .before .before .before .before))
+        rw (taken after-quotient)
             (le-trans (quotient-small (a .way) (entry (a .c) (a .row .now)) (h .0 .lead)) (within-entry (a .row .now) (a .c) (h .1))),
       ),
     )
@@ -120,12 +145,16 @@ same-length c = search needs
 
 returns-3 : tie.Need-returns-3
 returns-3 c =
-    let a = c .before .before .before .before .before .before .before .before .before .before .before .args in
-    let h = c .before .before .before .before .before .before .before .before .before .before .before .pre in
+    let after-magnitude2 = c .before .before .before .before .before in
+    let after-quotient = after-magnitude2 .before in
+    let past-magnitude = after-quotient .before .before in
+    let start = past-magnitude .before .before .before in
+    let a = start .args in
+    let h = start .pre in
     rw (tail-back (a .c) (a .row .now) (c .before .subtract .last .0) (omega (arith, inside (h .0))))
     (step-parts (a .way) (a .c) (a .pivot .now) (a .row .now) (c .before .subtract .last .0) (c .before .subtract .result) _ (h .0 .front) (h .1)
-    (other (c .before .before .before .before .before .before .before .before))
-    (taken (c .before .before .before .before .before .before))
+    (other past-magnitude)
+    (taken after-quotient)
     (rw (tail-is (a .c) (a .row .now), tail-is (a .c) (a .pivot .now)) at (c .before .subtract .ensures)))
 
 pub step-spec : {M : Type 1} → statement M
