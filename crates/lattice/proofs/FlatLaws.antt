@@ -6,6 +6,7 @@
 --   chop-row, chop-set                  row j of a table; row j replaced
 --   row-number                          a number of row j, in the list
 --   in-table, row-in-table              where a number and a row of a table lie
+--   set-behind                          a number replaced behind the list a
 --   put-take, put-drop                  a part u put into a list at `at`: what stands up to its end, and behind it
 -- Assumes nothing.
 use mathlib.Core.Path.{_≡_, refl, sym, _∙_, ap, ap₂}
@@ -141,6 +142,12 @@ in-table k w c j h l = omega (arith, mul-le-mul-right w l, suc-mul j w)
 
 pub row-in-table : (k w j : ℕ) → j < k → j * w + w ≤ k * w
 row-in-table k w j l = omega (arith, mul-le-mul-right w l, suc-mul j w)
+
+-- ---- a number of two lists end to end, replaced in the second
+pub set-behind : (a b : List ℤ) (n i : ℕ) (x : ℤ) → n ≡ length a + i → set (a ++ b) n x ≡ a ++ set b i x
+set-behind [] b n i x e = ap (λ (k : ℕ). set b k x) (e ∙ zero-add i)
+set-behind (y ∷ a) b zero i x e = absurd (omega arith)
+set-behind (y ∷ a) b (suc n) i x e = ap (λ (l : List ℤ). y ∷ l) (set-behind a b n i x (omega arith))
 
 -- ---- a part put in place
 module _ (at w : ℕ) (t u v : List ℤ) (h : at ≤ length t) (e : length u ≡ w) where

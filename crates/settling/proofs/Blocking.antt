@@ -1,6 +1,5 @@
 -- What the search may skip. Along the ranking the measure to come below only falls: a move that improves a column also improves each higher
 -- column that it changes, so that it has to be tried only at the highest column that it changes.
---   every-not          a test that fails at some place does not hold at every one
 --   Proper p C v j     the measure of column j is a fraction
 --   fit-proper         it is, where the column fits, is ranked and has a value that a move may leave
 --   weak               proper columns are ordered by their measures
@@ -31,14 +30,6 @@ use Rattle.settling.specs.Steps.{isRanked, isCompared, isAllowed, passes
 use Rattle.settling.specs.Ready.{FitColumn}
 use Rattle.settling.proofs.Sizes.{inside-above}
 use Rattle.settling.proofs.Orders.{Weak, under-past, below-weak}
-
--- ---- every
-pub every-not : (n : ℕ) (f : ℕ → Bool) (j : ℕ) → j < n → f j ≡ false → every n f ≡ false
-every-not n f j h e = go (every n f) refl
-  where
-    go : (b : Bool) → every n f ≡ b → every n f ≡ false
-    go true g = absurd (true≢false (sym (every-at n f j g h) ∙ e))
-    go false g = g
 
 -- ---- measures with a bottom above 0 are ordered as fractions
 abbrev pub Proper : Part → Columns → List ℤ → ℕ → Type 0

@@ -12,6 +12,7 @@ use lib.IntN.{ℤ, pos}
 use lib.ListN.{length, set, drop, length-append, length-drop, List·getD-eq-default}
 use lib.Seq.{drop-drop}
 use Rattle.whole.specs.Lists.{entry}
+use Rattle.lattice.proofs.FlatLaws.{set-behind}
 use Rattle.settling.specs.declared.Wish.{Wish}
 use Rattle.settling.specs.declared.Wish.the-variants.{Unset, Set}
 use Rattle.settling.specs.Columns.{Column, width, columnAt, columnsIn, wishOf, withGoal, listed, recordOf, packedFrom, packed}
@@ -36,12 +37,6 @@ packed-length f zero j = omega arith
 packed-length f (suc k) j = omega (arith, length-append (recordOf (f j)) (packedFrom f k (suc j)), record-length (f j), packed-length f k (suc j))
 
 -- ---- writing
--- behind the list A
-set-behind : (A B : List ℤ) (at k : ℕ) (x : ℤ) → at ≡ length A + k → set (A ++ B) at x ≡ A ++ set B k x
-set-behind [] B at k x e = ap (λ (i : ℕ). set B i x) (omega (arith, e))
-set-behind (a ∷ A) B zero k x e = absurd (omega (arith, e))
-set-behind (a ∷ A) B (suc at) k x e = ap (λ (l : List ℤ). a ∷ l) (set-behind A B at k x (omega (arith, e)))
-
 module _ (A : List ℤ) (at : ℕ) (e : at ≡ length A) where
   six : (x y z u v w a b c d f g : ℤ) (B : List ℤ)
       → set (set (set (set (set (set (A ++ (a ∷ b ∷ c ∷ d ∷ f ∷ g ∷ B)) (at + 0) x) (at + 1) y) (at + 2) z) (at + 3) u) (at + 4) v) (at + 5) w

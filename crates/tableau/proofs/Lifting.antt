@@ -22,6 +22,7 @@ use lib.Signed.{ltZ}
 use Rattle.whole.specs.Lists.{entry}
 use Rattle.whole.proofs.Signed.{lt-zero}
 use Rattle.lattice.specs.Rows.{neg, ZeroTo}
+use Rattle.lattice.proofs.FlatLaws.{set-behind}
 use Rattle.lattice.proofs.Writing as Writing
 use Rattle.lattice.proofs.Writing.{WrittenTo}
 use Rattle.tableau.specs.Elimination.{signed}
@@ -63,11 +64,6 @@ stays w j t l e =
     (sym (ap₂ (λ (n : ℕ) (v : List ℤ). take w (drop n t) ++ v) (zero-mul w) (lowered-first w t l) ∙ take-append-drop w t))
 
 -- ---- two lists end to end
-set-behind : (a b : List ℤ) (n i : ℕ) (x : ℤ) → n ≡ length a + i → set (a ++ b) n x ≡ a ++ set b i x
-set-behind [] b n i x e = ap (λ (k : ℕ). set b k x) (e ∙ zero-add i)
-set-behind (y ∷ a) b zero i x e = absurd (omega arith)
-set-behind (y ∷ a) b (suc n) i x e = ap (λ (l : List ℤ). y ∷ l) (set-behind a b n i x (omega arith))
-
 entry-behind : (a b : List ℤ) (n i : ℕ) → n ≡ length a + i → entry n (a ++ b) ≡ entry i b
 entry-behind a b n i e = ap (λ (k : ℕ). entry k (a ++ b)) e ∙ getD-append-add a b i (pos 0)
 

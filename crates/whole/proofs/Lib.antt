@@ -2,4 +2,5 @@
 pub mod Signed
 pub mod Euclid
 pub mod Counted
+pub mod Never
 pub mod Integers

@@ -7,7 +7,7 @@ use borrow.Author.Tests.{leb-true, leb-false}
 use lib.Dec.{leb}
 use lib.ListN.{length}
 use Rattle.whole.specs.Tests.{every}
-use Rattle.settling.proofs.Blocking.{every-not}
+use Rattle.whole.proofs.Counted.{every-not}
 use Rattle.search.specs.Probes.{passesBy, FailingIn}
 use Rattle.search.proofs.Testing.{covered-pass}
 use Rattle.search.proofs.probes.all_pass.Statement.{statement}

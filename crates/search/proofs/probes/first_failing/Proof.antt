@@ -1,35 +1,30 @@
 -- `search::probes::first_failing` meets its contract: the places that are left are those of `set`, and the others pass. Assumes nothing.
-use mathlib.Core.Path.{_≡_, sym, _∙_, ap, subst}
-use mathlib.Core.Bool.{Bool}
-use Prim.Native.Nat.{ℕ, _^_, _<_}
+use mathlib.Core.Path.{_≡_, sym, _∙_, ap}
+use mathlib.Core.Logic.{inl}
+use mathlib.Core.Bool.{true}
+use Prim.Native.Nat.{_<_}
 use native.Mathlib.Omega.{arith}
 use lib.ListN.{length}
 use Rattle.problem.proofs.Laws.{passed, failed}
 use Rattle.search.specs.Probes.{passesBy}
-use Rattle.search.proofs.Setting.{rest-less}
-use Rattle.search.proofs.Testing.{Left, left-starts, left-first, left-on, left-ends}
+use Rattle.search.specs.Sets.{has}
+use Rattle.search.proofs.Setting.{Walk, walk-first, walk-less, walk-on, walk-end}
 use Rattle.search.proofs.probes.first_failing.Statement.{statement}
 use Rattle.search.proofs.probes.first_failing.Tie as tie
 
 abbrev Inv-loop : tie.InvT-loop
-Inv-loop columns values p x y members set₀ set = (set < 2 ^ 64) × Left members set (passesBy columns values p x y)
+Inv-loop columns values p x y members set₀ set =
+    Walk (λ j. j < length values) (λ j. has members j ≡ true) (λ j. passesBy columns values p x y j ≡ true) set
 
 abbrev μ-loop : tie.MeasureT-loop
 μ-loop columns values p x y members set₀ set = set
 
-abbrev test : tie.Start Inv-loop μ-loop → ℕ → Bool
-test s = passesBy (s .args .columns .now) (s .args .values .now) (s .args .p) (s .args .x .now) (s .args .y .now)
-
 -- the place of a turn
 inside : (c : tie.After-first Inv-loop μ-loop) → c .first .result < length (c .before .before .before .args .values .now)
-inside c =
-    let s = c .before .before .before in
-    let l = c .before .before .loop in
-    s .pre .1 (c .first .result)
-    (rw (c .first .ensures) (left-first (s .args .members) (test s) (l .set) (l .inv .1) (c .before .loop-test .taken) (l .inv .0)))
+inside c = rw (c .first .ensures) (walk-first (c .before .before .loop .inv) (c .before .loop-test .taken))
 
 loop-holds : tie.Need-loop-holds Inv-loop μ-loop
-loop-holds c = (c .fits .members .fits, left-starts (c .args .members) (test c))
+loop-holds c = record { word = c .fits .members .fits; inside = c .pre .1; left = λ j. inl }
 
 first-requires : tie.Need-first-requires Inv-loop μ-loop
 first-requires c κs = c .loop-test .taken
@@ -49,29 +44,23 @@ rest-requires c κs = c .before .before .before .loop-test .taken
 
 loop-less : tie.Need-loop-less Inv-loop μ-loop
 loop-less c =
-    let l = c .before .before .before .before .before .loop in
-    rw (c .rest .ensures) (rest-less (l .set) (c .before .before .before .before .loop-test .taken) (l .inv .0))
+    let t = c .before .before .before .before in
+    rw (c .rest .ensures) (walk-less (t .before .loop .inv) (t .loop-test .taken))
 
 loop-again : tie.Need-loop-again Inv-loop μ-loop
 loop-again c =
-    let s = c .before .before .before .before .before .before in
-    let l = c .before .before .before .before .before .loop in
-    let h = c .before .before .before .before .loop-test .taken in (
-      omega (arith, rest-less (l .set) h (l .inv .0), c .rest .ensures, l .inv .0),
-      rw (c .rest .ensures)
-          (left-on (s .args .members) (test s) (l .set) (l .inv .1) h (l .inv .0)
-          (sym (ap (test s) (c .before .before .before .first .ensures))
-          ∙ passed (c .before .before .passes-by .ensures) (c .before .if1 .left))),
-    )
+    let t = c .before .before .before .before in
+    let a = t .before .before .args in
+    rw (c .rest .ensures)
+    (walk-on (t .before .loop .inv) (t .loop-test .taken) (λ j q. q)
+    (λ _. sym (ap (passesBy (a .columns .now) (a .values .now) (a .p) (a .x .now) (a .y .now)) (c .before .before .before .first .ensures))
+    ∙ passed (c .before .before .passes-by .ensures) (c .before .if1 .left)))
 
 returns-2 : tie.Need-returns-2 Inv-loop μ-loop
 returns-2 c =
-    let s = c .before .before in
-    let l = c .before .loop in
-    let e : l .set ≡ 0 = omega (arith, c .loop-test .left) in
     record {
-      bad = λ h. absurd (omega (arith, s .pre .0 .x-long));
-      good = λ _. left-ends (s .args .members) (test s) (subst (λ (v : ℕ). Left (s .args .members) v (test s)) e (l .inv .1));
+      bad = λ h. absurd (omega (arith, c .before .before .pre .0 .x-long));
+      good = λ _. walk-end (c .before .loop .inv) (omega (arith, c .loop-test .left));
     }
 
 pub first-failing-spec : {M : Type 1} → statement M
