@@ -35,7 +35,7 @@ use Rattle.settling.proofs.Views.{vector-long, vector-small, sum-small, moved-a
 use Rattle.settling.proofs.Passing.{passes-still}
 use Rattle.search.specs.declared.Search.{Search}
 use Rattle.search.specs.declared.probes.Sum.{Sum}
-use Rattle.search.specs.Probes.{sumAt, passesBy, Testable, Covered, Failing, Supported}
+use Rattle.search.specs.Probes.{sumAt, passesBy, Testable, Covered, Blocking, Supported}
 use Rattle.search.specs.Searches.{passing, Searchable}
 use Rattle.search.specs.Sets.{has, touches}
 
@@ -115,8 +115,8 @@ module _
         ap (λ (n : ℕ). every n (passesBy T v w x y)) (s .ready .values-long)
         ∙ every-same (S .view .columns) (passesBy T v w x y) (passing S T v b o q) by-rows
 
-    pub failing-rows : (k : ℕ) → Failing (length v) (passesBy T v w x y) k → Failing (S .view .columns) (passing S T v b o q) k
-    failing-rows k f = record {
+    pub blocking-rows : (k : ℕ) → Blocking (length v) (passesBy T v w x y) k → Blocking (S .view .columns) (passing S T v b o q) k
+    blocking-rows k f = record {
       bad = λ h. sym (by-rows k h) ∙ f .bad (omega (arith, s .ready .values-long));
       good = λ h. sym every-rows ∙ f .good (omega (arith, s .ready .values-long));
     }

@@ -14,8 +14,8 @@ noteWidth = 3
 abbrev pub notesLong : ℕ
 notesLong = noteWidth * maxColumns
 
-abbrev pub topAt : List ℕ → ℕ → ℕ
-topAt l s = getD l (noteWidth * s) 0
+abbrev pub visitedAt : List ℕ → ℕ → ℕ
+visitedAt l s = getD l (noteWidth * s) 0
 
-abbrev pub noteAt : List ℕ → ℕ → ℕ → ℕ
-noteAt l s x = getD l (noteWidth * s + 1 + x) 0
+abbrev pub blockingAt : List ℕ → ℕ → ℕ → ℕ
+blockingAt l s x = getD l (noteWidth * s + 1 + x) 0

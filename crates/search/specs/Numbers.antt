@@ -63,10 +63,10 @@ moveOf n = cond (ltb n firstPair) (single (n / 2) (signOf (n % 2))) (pairOf (n -
 unfoldable pub stepIn : List ℕ → ℕ → Step
 stepIn L z = cond (ltb (z / span) (length L)) (Take (getD L (z / span) 0) (moveOf (z % span))) Rest
 
-pub record Beaten (imp : Move → ℕ → Bool) (L : List ℕ) (z : ℕ) (o : Move) : Type 0 where
+pub record DominatedBy (imp : Move → ℕ → Bool) (L : List ℕ) (z : ℕ) (o : Move) : Type 0 where
   pub each : (x : ℕ) → x < length L → imp o (getD L x 0) ≡ true → z ≤ numberAt x o
 
-pub record Hit (imp : Move → ℕ → Bool) (L : List ℕ) (r z : ℕ) : Type 0 where
+pub record ImprovingNumber (imp : Move → ℕ → Bool) (L : List ℕ) (r z : ℕ) : Type 0 where
   pub place : ℕ
   pub move : Move
   pub inside : place < length L
@@ -74,5 +74,5 @@ pub record Hit (imp : Move → ℕ → Bool) (L : List ℕ) (r z : ℕ) : Type 0
   pub good : imp move (getD L place 0) ≡ true
   pub is : z ≡ numberAt place move
 
-abbrev pub Stands : (Move → ℕ → Bool) → List ℕ → ℕ → ℕ → Type 0
-Stands imp L r z = (z ≡ length L * span) ⊎ Hit imp L r z
+abbrev pub ImprovingOrNone : (Move → ℕ → Bool) → List ℕ → ℕ → ℕ → Type 0
+ImprovingOrNone imp L r z = (z ≡ length L * span) ⊎ ImprovingNumber imp L r z

@@ -50,11 +50,11 @@ pub record Covered (n : ℕ) (p : Sum) (x y : List ℤ) (w u : ℕ) : Type 0 whe
   pub other : (j : ℕ) → has u j ≡ true → j < n
   pub still : (j : ℕ) → j < n → has w j ≡ false → has u j ≡ false → isZero (sumAt p x y j) ≡ true
 
-pub record Failing (n : ℕ) (f : ℕ → Bool) (k : ℕ) : Type 0 where
+pub record Blocking (n : ℕ) (f : ℕ → Bool) (k : ℕ) : Type 0 where
   pub bad : k < n → f k ≡ false
   pub good : n ≤ k → every n f ≡ true
 
-pub record FailingIn (w n : ℕ) (f : ℕ → Bool) (k : ℕ) : Type 0 where
+pub record BlockingIn (w n : ℕ) (f : ℕ → Bool) (k : ℕ) : Type 0 where
   pub bad : k < n → f k ≡ false
   pub good : n ≤ k → (j : ℕ) → has w j ≡ true → f j ≡ true
 

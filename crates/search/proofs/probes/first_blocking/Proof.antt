@@ -1,4 +1,4 @@
--- `search::probes::first_failing` meets its contract: the places that are left are those of `set`, and the others pass. Assumes nothing.
+-- `search::probes::first_blocking` meets its contract: the places that are left are those of `set`, and the others pass. Assumes nothing.
 use mathlib.Core.Path.{_≡_, sym, _∙_, ap}
 use mathlib.Core.Logic.{inl}
 use mathlib.Core.Bool.{true}
@@ -9,8 +9,8 @@ use Rattle.problem.proofs.Laws.{passed, failed}
 use Rattle.search.specs.Probes.{passesBy}
 use Rattle.search.specs.Sets.{has}
 use Rattle.search.proofs.Setting.{Walk, walk-first, walk-less, walk-on, walk-end}
-use Rattle.search.proofs.probes.first_failing.Statement.{statement}
-use Rattle.search.proofs.probes.first_failing.Tie as tie
+use Rattle.search.proofs.probes.first_blocking.Statement.{statement}
+use Rattle.search.proofs.probes.first_blocking.Tie as tie
 
 abbrev Inv-loop : tie.InvT-loop
 Inv-loop columns values p x y members set₀ set =
@@ -63,8 +63,8 @@ returns-2 c =
       good = λ _. walk-end (c .before .loop .inv) (omega (arith, c .loop-test .left));
     }
 
-pub first-failing-spec : {M : Type 1} → statement M
-first-failing-spec =
+pub first-blocking-spec : {M : Type 1} → statement M
+first-blocking-spec =
     tie.close
     (tie.spec
     Inv-loop
