@@ -1,11 +1,11 @@
--- Moves that are no better than a number.
+-- Moves that a number dominates: they are no better than it.
 --   Still o k        the move o changes no column before place k
---   quiet-still      so it is where both its vectors are quiet before it
---   still-beat       it improves from place k on only, where its number is z or more
---   none-beat        it changes no column of the ranking
---   blocked-beat     it does not improve the first column that it changes, and so no later one
---   fails-beat       a column fails against the measure of place k, and so against those of later places
---   beat-less        what is no better than z is no better than what lies below
+--   zero-still       so it is where both its vectors change none
+--   still-dominated  it improves from place k on only, where its number is z or more
+--   none-dominated   it changes no column of the ranking
+--   blocked-dominated   it does not improve the first column that it changes, and so no later one
+--   fails-dominated  a column fails against the measure of place k, and so against those of later places
+--   dominated-less   what is no better than z is no better than what lies below
 -- Assumes nothing.
 use mathlib.Core.Path.{_≡_, refl, sym, _∙_, ap, ap₂}
 use mathlib.Core.Logic.{⊎-elim}
@@ -40,7 +40,7 @@ module _ (S : Search) (T v b : List ℤ) (L : List ℕ) where
   abbrev pub Still : Move → ℕ → Type 0
   Still o k = (x : ℕ) → x < k → x < length L → changes N o (getD L x 0) ≡ false
 
-  -- ---- quiet vectors
+  -- ---- vectors that change no column before a place
   none : (s j : ℕ) → touches (S .view) b s j ≡ false → entry j (vector N s) ≡ pos 0
   none s j e = isZero-true (entry j (vector N s)) (back (isZero (entry j (vector N s))) e)
     where

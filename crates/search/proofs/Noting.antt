@@ -1,9 +1,9 @@
 -- What a stored note leaves of the others.
---   top-same, -other     the place noted for a vector, and for another one
---   top-notes            the columns noted stay
---   note-same, -other    the column noted for a vector and a mark, and for others
---   note-tops            the places stay
---   Unseen l r           none of the first r vectors is seen; `unsee-more` one vector more
+--   visited-same, -other   the place noted for a vector, and for another one
+--   visited-blocking       the blocking columns stay
+--   blocking-same, -other  the blocking column noted for a vector and a mark, and for others
+--   blocking-visited       the places stay
+--   NoVisits l r           none of the first r vectors is visited; `no-visits-more` one vector more
 -- Assumes nothing.
 use mathlib.Core.Path.{_≡_, _∙_, ap}
 use mathlib.Core.Logic.{⊎-elim}
@@ -39,7 +39,7 @@ module _ (l : List ℕ) (s : ℕ) where
     pub blocking-visited : (t : ℕ) → visitedAt (set l (noteWidth * s + 1 + x) f) t ≡ visitedAt l t
     blocking-visited t = getD-set-other l (noteWidth * s + 1 + x) (noteWidth * t) f 0 (λ e. omega arith)
 
--- ---- no vector is seen
+-- ---- no vector is visited
 pub record NoVisits (l : List ℕ) (r : ℕ) : Type 0 where
   pub room : length l ≡ notesLong
   pub visits : (s : ℕ) → s < r → visitedAt l s ≡ maxColumns

@@ -7,7 +7,7 @@
 --   number-pair        that of a pair does not
 --   number-small, number-listed   both lie below span, for vectors below maxColumns, and so for listed moves
 --   sign-mark          a sign is that of its mark
---   least-step         a number that stands for an improving move, or for none, and that no improving move beats, is the step of document 01
+--   least-step         the number of an improving move, or of none, that dominates all moves is the step of document 01
 -- Assumes nothing.
 use mathlib.Core.Path.{_≡_, refl, sym, _∙_, ap}
 use mathlib.Core.Logic.{inl, inr, ⊎-elim}

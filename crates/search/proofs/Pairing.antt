@@ -1,14 +1,14 @@
 -- The pairs of a place of the ranking.
---   kept-same, -then, -beat   an incumbent that stays, that has become no worse twice, and what was beaten before
+--   no-worse-same, -then, -dominated   an incumbent that stays, that has become no worse twice, and what was dominated before
 --   better-is            a move that changes a column improves it if all columns pass
 --   paired-..            of a pair that is tried: it is of the basis, changes no earlier column, has these vectors, and may become the incumbent
---   WithBeaten, AllBeaten   the pairs of s with the sign of mark x and of t are beaten; and those of s and of all open vectors
---   open-is, open-not    what the test of the code says of an open vector
---   front                what is known of a vector that a place sees first
---   open-quiet           an open vector is quiet so far
---   noted-inside         a column is noted for it, if this place sees it
---   shut-by              a pair that the column noted for the other vector shuts out is beaten
---   meeting              the loop over the vectors that change the column noted begins
+--   WithDominated, AllDominated   the pairs of s with the sign of mark x and of t are dominated; and those of s and of all its partners
+--   partner-is, -not     what the test of the code says of a partner
+--   leading              what is known of a vector that is visited at a place
+--   partner-zero         a partner changes no column so far
+--   blocking-inside      it has a blocking column, if it is visited here
+--   pruned-by            a pair that the blocking column of the other vector prunes is dominated
+--   meeting              the loop over the vectors that change the blocking column begins
 --   pairing              what the pairs of a place may rely on, after all its singles
 --   starting             the loop over the vectors that change the column of a place begins
 --   paired-off           after all pairs of a place
@@ -219,7 +219,7 @@ module _ {h : Place} {T v b : List ℤ} {L U notes : List ℕ} (p : Pairing h T 
     pub blocking-inside : (y : ℕ) → y < 2 → visitedAt notes t ≤ h .at → blockingAt notes t y < h .search .view .columns
     blocking-inside y l m = partner-leading m .blocked y l .inside
 
-  -- where vector t leaves as it is the column at which s fails alone, the pair does there what s does alone
+  -- where vector t leaves the blocking column of s as it is, the pair does there what s does alone
   pruned : (s x t y z : ℕ) → ZeroBefore (h .search .view) b L s (h .at) → ZeroBefore (h .search .view) b L t (h .at) → Blocked h T v b notes s x
       → touches (h .search .view) b t (blockingAt notes s x) ≡ false → Dominated (h .search) T v b L z (both s x t y)
   pruned s x t y z f g k e =
@@ -254,7 +254,7 @@ module _ {h : Place} {T v b : List ℤ} {L U notes : List ℕ} (p : Pairing h T 
       subst (Dominated (h .search) T v b L z) (both-swap s x t y (o .apart))
       (pruned t y s x z (partner-zero o) (f .zero-before) (partner-leading o m .blocked y l) (not-true _ (d .1)))
 
-  -- a vector that leaves as it is the column noted for s is beaten with s, and the others are in the set of that column
+  -- with a vector that leaves the blocking column of s as it is s is dominated, and the others are in the set of that column
   pub meeting : {H : List ℕ} {s : ℕ} → Indexed (h .search .view) b U H → (x z : ℕ) → x < 2 → Leading h T v b L notes s
       → getD H (blockingAt notes s x) 0 < 2 ^ 64
       → Walk (λ t. t < h .search .view .vectors) (Partner (h .search .view .vectors) notes (h .at) s)

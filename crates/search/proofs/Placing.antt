@@ -1,8 +1,8 @@
 -- From place to place.
---   before-none         before the first place nothing is seen
+--   before-none         before the first place nothing is visited
 --   before-past         no move is better than what was found at an earlier place
 --   before-end          nor than what is found behind the last one
---   before-skip         a place all of whose vectors are seen tells nothing
+--   before-skip         a place all of whose vectors are visited tells nothing
 --   single-ends         a single that improves this place is the end
 --   final-step          what no move is better than is the step of the definition
 -- Assumes nothing.
@@ -54,7 +54,7 @@ module _ (S : Search) (T v b : List ℤ) (L notes : List ℕ) where
   }
 
   module _ (k z : ℕ) (q : Before S T v b L notes k z) where
-    -- a move of which no vector is seen is quiet so far
+    -- a move of which no vector is visited changes no column so far
     by-vectors : ((o : Move) → ZeroBefore (S .view) b L (o .s) k → ZeroBefore (S .view) b L (o .t) k → Dominated S T v b L z o)
         → (o : Move) → Listed o (moves (S .view .vectors)) → Dominated S T v b L z o
     by-vectors f o l =
@@ -75,7 +75,7 @@ module _ (S : Search) (T v b : List ℤ) (L notes : List ℕ) where
       all = by-vectors (λ o e f. none-dominated S T v b L o k z (zero-still S T v b L o k e f) h);
     }
 
-    -- ---- a place without a vector that is not seen
+    -- ---- a place without a vector that is not visited
     module _ (m : k < length L) (few : length L ≤ maxColumns)
         (seen : (s : ℕ) → s < S .view .vectors → touches (S .view) b s (getD L k 0) ≡ true → visitedAt notes s < maxColumns) where
       earlier : (s : ℕ) → s < S .view .vectors → visitedAt notes s < k + 1 → visitedAt notes s < k
@@ -110,7 +110,7 @@ module _ (h : Place) (T v b : List ℤ) (L notes : List ℕ) (z : ℕ) (q : Visi
   abbrev S : Search
   S = h .search
 
-  -- a vector that is not seen before this place is quiet so far
+  -- a vector that is not visited before this place changes no column so far
   so-far : (s : ℕ) → VisitedHere h T v b L notes z s ⊎ Unvisited h b L 0 notes s → ZeroBefore (S .view) b L s (h .at)
   so-far s (inl f) = f .zero-before
   so-far s (inr w) = w .zero-before

@@ -5,7 +5,7 @@
 --   sumOf S o q           the sum that a move stands for
 --   Tries S b o q w x y   w is that sum, and x and y are the rows of its vectors
 --   testable              such a sum can be tested
---   every-, failing-rows  and its tests tell which columns pass under the move
+--   every-, blocking-rows and its tests tell which columns pass under the move
 --   covered               the sets of both vectors cover what it changes
 -- Assumes nothing.
 use mathlib.Core.Path.{_≡_, refl, sym, _∙_, ap}

@@ -1,10 +1,10 @@
--- How the vectors that a place sees first are seen, one by one.
+-- How the vectors of a place are visited, one by one.
 --   alone-..             a vector alone: it is listed, it is a move of the basis, its number, what it adds, and the columns that it changes
 --   here-..              the column of a place, and room for its measure
---   waiting-quiet        after its last vector, those that are not seen are quiet at it
---   Seeing ..            vector s with a mark below x improves nothing, and a column is noted for it
---   see-..               for the loop over the marks
---   sight-..             for the loop over the vectors
+--   unvisited-zero       after its last vector, those that are not visited leave its column as it is
+--   Trying ..            vector s with a mark below x improves nothing, and its blocking column is noted
+--   try-..               for the loop over the marks
+--   visiting-..          for the loop over the vectors
 -- Assumes nothing.
 use mathlib.Core.Path.{_≡_, refl, sym, _∙_, ap, ap₂, subst}
 use mathlib.Core.Logic.{_⊎_, inl, inr, ⊎-elim}
@@ -79,7 +79,7 @@ module _ (h : Place) (T v b : List ℤ) (L : List ℕ) (u : Setup (h .search) T 
       (measure-room (h .search .part) (cell (columnsOf (h .search) T) v (h .column))
       (search-sized (h .search) T v b (u .searchable) (h .column) here-column))
 
--- what waits though no vector is left does not change the column
+-- what is unvisited though no vector is left does not change the column
 pub unvisited-zero : {h : Place} {b : List ℤ} {L notes : List ℕ} {s : ℕ} → h .column ≡ getD L (h .at) 0 → Unvisited h b L 0 notes s
     → ZeroBefore (h .search .view) b L s (h .at + 1)
 unvisited-zero {h} {b} {L} {notes} {s} e w =
@@ -269,7 +269,7 @@ module _ (h : Place) (T v b : List ℤ) (L : List ℕ) where
         listed = λ t. members s ∙ ap₂ _&&_ (lt-ltb s (h .search .view .vectors) i) t;
       }
 
-  -- a vector that is not seen is quiet
+  -- a vector that is not visited changes no column so far
   pub visiting-zero :
       (w : ℕ) (l : List ℕ) (z : ℕ) → Visiting h T v b L w l z → h .at < maxColumns → (s : ℕ) → s < h .search .view .vectors → maxColumns ≤ visitedAt l s
       → ZeroBefore (h .search .view) b L s (h .at)
@@ -277,7 +277,7 @@ module _ (h : Place) (T v b : List ℤ) (L : List ℕ) where
       ⊎-elim (λ q. absurd (omega arith)) (λ f. ⊎-elim (λ q. absurd (omega (arith, q .visited))) (λ q. q .zero-before) f) (k .each s i)
 
   module _ (w : ℕ) (l : List ℕ) (z : ℕ) (k : Visiting h T v b L w l z) (g : 0 < w) (j : w < 2 ^ 64) where
-    -- the first vector is seen already
+    -- the first vector is visited already
     pub visiting-skip : visitedAt l (firstOf w) < maxColumns → Visiting h T v b L (restOf w) l z
     visiting-skip p =
         record {

@@ -1,7 +1,7 @@
--- What a search notes of each vector, in one list of numbers.
+-- What a search notes of each vector, in one list of numbers: where it was visited, and its blocking columns.
 --   noteWidth, notesLong   how many numbers a note has, and how many all have
---   topAt l s              the place of the ranking at which vector s was seen first; maxColumns where it was not
---   noteAt l s x           a column at which it fails alone there, with the sign of mark x
+--   visitedAt l s          the place of the ranking at which vector s was visited; maxColumns where it was not
+--   blockingAt l s x       its blocking column with the sign of mark x: it fails there alone, against the measure of that place
 -- Assumes nothing.
 use mathlib.Core.List.{List}
 use Prim.Native.Nat.{ℕ, _+_, _*_}

@@ -9,9 +9,9 @@
 --   pairOf d           the pair that is d after the first one
 --   moveOf n           the move of a number
 --   stepIn L z         the step that the number z stands for, along the ranking L; a place behind the ranking is none
---   Beaten imp L z o   the move o is no better than z: at each place of L whose column it improves its number is z or more
---   Hit imp L r z      z is the number of a move over r vectors, at a place of L whose column it improves
---   Stands imp L r z   z is such a number, or the least one behind the ranking
+--   DominatedBy imp L z o   the candidate o is no better than z: at each place of L whose column it improves its number is z or more
+--   ImprovingNumber imp L r z   z is the number of a move over r vectors, at a place of L whose column it improves
+--   ImprovingOrNone imp L r z   z is such a number, or the least one behind the ranking
 -- Assumes nothing.
 use mathlib.Core.Path.{_≡_}
 use mathlib.Core.Logic.{_⊎_}

@@ -4,8 +4,8 @@
 --   passesBy T v p x y j   column j passes when that is added to it
 --   Testable T v p x y     what such a test needs
 --   Covered n p x y w u    the columns that it changes, of n, are in the set w or in the set u
---   Failing n f k          k is a column at which f fails, or f holds at all n
---   FailingIn w n f k      the same of the columns of the set w
+--   Blocking n f k         k is a blocking column, at which f fails, or f holds at all n
+--   BlockingIn w n f k     the same of the columns of the set w
 --   Supported B b U        the list U has for each vector the set of the columns that it changes
 -- Assumes nothing.
 use mathlib.Core.Path.{_≡_}

@@ -1,27 +1,28 @@
--- How far a search by places of the ranking has come. Its incumbent, the best move so far, is one number (Numbers).
+-- How far a search by places of the ranking has come. A candidate is a move at a place whose column it improves; the incumbent, the best one
+-- so far, is one number (Numbers). A vector is visited at the first place whose column it changes.
 --   Place                  a place of the ranking that is searched, its column and that column's measure (declared in src/)
 --   Here T v L h           it tells the truth
 --   alone s x              the vector s with the sign of mark x
 --   both s x t y           two vectors with the signs of two marks, as a move of the basis
---   Quiet B b L s k        vector s changes no column before place k
---   Beat S T v b L z o     the move o is no better than z
---   Stand S T v b L z      z is the number of a move that improves, or of nothing
---   Incumbent S T v b L z  and not of a single
---   FirstChanged N L o f k   k is the first place from f on whose column the move o changes
---   Marked                 the vectors seen before place k, and all others, which are quiet so far
---   Dealt                  each move of a vector seen before place k is no better than z
+--   ZeroBefore B b L s k   vector s changes no column before place k
+--   Dominated S T v b L z o   the move o is no better than z
+--   Incumbent S T v b L z  z is the number of a move that improves, or of nothing
+--   PairIncumbent S T v b L z   and not of a single
+--   FirstChanged N L o k   k is the first place whose column the move o changes, or behind the ranking
+--   VisitedOrZero ..       each vector is visited before place k, or changes no column before it
+--   Explored ..            each move of a vector visited before place k is no better than z
 --   Before S T v b L l k z   the state with the notes l before place k
 --   Final S T v b L z      no move is better than z
 --   Searched .. l k z      the state after place k: before the next one, or the end
---   Stuck h T v b l s x    the column noted for vector s with mark x fails alone at this place
---   Fresh .. s             vector s is seen first at this place; `Waiting` it is not seen yet, but may be in the set w
---   Sighting .. w l z      the vectors of the set w are still to be seen at this place
---   Saw .. s l z l' z'     one more has been seen
---   Fronted, Pairing       after all singles of this place: what its pairs may rely on
---   Open r l k s t         the pairs of s and t are tried from s: t is not seen before, and is later if this place sees it too
---   openBy, shutBy         the tests of the code for that, and for a pair that the note of t shuts out
---   Kept S T v b L z z'    the incumbent has become no worse
---   Pair                   a pair as a move, its vector seen here, and its other one (declared in src/); `Paired` it tells the truth
+--   Blocked h T v b l s x  vector s with mark x fails alone at its blocking column, against the measure of this place
+--   VisitedHere .. s       vector s is visited at this place; `Unvisited` it is not visited yet, but may be in the set w
+--   Visiting .. w l z      the vectors of the set w are still to be visited at this place
+--   Visited .. s l z l' z'   one more has been visited
+--   Leading, Pairing       after all singles of this place: what the pairs of a vector visited here, and all its pairs, may rely on
+--   Partner r l k s t      the pairs of s and t are tried from s: t is not visited before, and is later if it is visited here too
+--   partnerBy, prunedBy    the tests of the code for that, and for a pair that the blocking column of t prunes
+--   NoWorse S T v b L z z'   the incumbent has become no worse
+--   Pair                   a pair as a move, its vector visited here, and its other one (declared in src/); `Paired` it tells the truth
 -- Assumes nothing.
 use mathlib.Core.Path.{_≡_}
 use mathlib.Core.Logic.{_⊎_}
@@ -70,11 +71,9 @@ pub record PairIncumbent (S : Search) (T v b : List ℤ) (L : List ℕ) (z : ℕ
   pub incumbent : Incumbent S T v b L z
   pub late : (k : ℕ) → k < length L → k * span ≤ z → k * span + firstPair ≤ z
 
--- k is the first place from `from` on that the move changes, or behind the ranking; it changes none before
-pub record FirstChanged (N : List (List ℤ)) (L : List ℕ) (o : Move) (from k : ℕ) : Type 0 where
+pub record FirstChanged (N : List (List ℤ)) (L : List ℕ) (o : Move) (k : ℕ) : Type 0 where
   pub still : (x : ℕ) → x < k → x < length L → changes N o (getD L x 0) ≡ false
   pub changed : k < length L → changes N o (getD L k 0) ≡ true
-  pub since : from ≤ k
 
 -- ---- between two places
 abbrev pub VisitedOrZero : Search → List ℤ → List ℕ → List ℕ → ℕ → Type 0
@@ -149,7 +148,7 @@ pub record Pairing (h : Place) (T v b : List ℤ) (L U notes : List ℕ) : Type 
       → (visitedAt notes s < h .at)
       ⊎ (Leading h T v b L notes s ⊎ ((maxColumns ≤ visitedAt notes s) × ZeroBefore (h .search .view) b L s (h .at + 1)))
 
--- the same as tests: t may be tried from s; the column noted for t, if this place sees it, shuts s out
+-- as tests: t is a partner of s; the blocking column of t, if it is visited here, prunes the pair
 abbrev pub partnerBy : List ℕ → ℕ → ℕ → ℕ → Bool
 partnerBy notes k s t = ltb k (visitedAt notes t) || (not (ltb (visitedAt notes t) k) && ltb s t)
 

@@ -1,5 +1,6 @@
-// The search by places of the ranking. A move has to be tried only at the first place whose column it changes, so that each vector is
-// seen once: its singles are tried there, and its pairs with the vectors that no earlier place has seen.
+// The search by places of the ranking, for the best candidate: a move at a place whose column it improves. A move has to be tried only at the first
+// place whose column it changes, so that each vector is visited once: its singles are tried there, and its pairs with the vectors that no earlier
+// place has visited. The incumbent z is the number of the best candidate so far, and better is smaller (numbers).
 ghost use mathlib.Core.Path.{_≡_};
 ghost use mathlib.Core.Logic.{_⊎_};
 ghost use mathlib.Core.Bool.{true, false, _&&_};
@@ -54,13 +55,13 @@ struct Place {
     pub q: Measure,
 }
 
-// A vector that this place sees first, with the mark of its sign.
+// A vector that is visited at this place, with the mark of its sign.
 struct Lead {
     pub s: usize,
     pub x: usize,
 }
 
-// A pair as a move of the basis, its vector that this place sees first, and the other one.
+// A pair as a move of the basis, its vector that is visited at this place, and the other one.
 struct Pair {
     pub o: Move,
     pub s: usize,
@@ -100,7 +101,7 @@ fn both(s: usize, x: usize, t: usize, y: usize) -> Move
     }
 }
 
-// A column that fails under a vector alone, or how many columns there are. This place's is tried first, then the guess, which may be any number.
+// A blocking column of a vector alone, or how many columns there are. This place's is tried first, then the guess, which may be any number.
 fn blocking_column(
     here: Place,
     columns: &[i64],
@@ -133,7 +134,7 @@ fn blocking_column(
     find_blocking(columns, values, p, &basis[at..end], supports[s], i, guess)
 }
 
-// Sees vector s: the least of z and its singles that improve this place. Where one does not, a column is noted at which it fails.
+// Visits vector s: the least of the incumbent z and its singles that improve this place. Where one does not, its blocking column is noted.
 fn visit(
     here: Place,
     columns: &[i64],
@@ -173,7 +174,7 @@ fn visit(
     z
 }
 
-// The least of z and the singles of this place: those of the vectors of the set that no earlier place has seen.
+// The least of z and the singles of this place: those of the vectors of the set that no earlier place has visited.
 fn singles(
     here: Place,
     columns: &[i64],
@@ -214,11 +215,11 @@ fn singles(
     best
 }
 
-// The first place from k on whose column a move changes, or behind the ranking. It changes none before k.
+// The first place whose column a move changes, or behind the ranking. It changes none before `from`.
 fn first_changed(basis: &[i64], view: Basis, order: &[usize], o: Move, from: usize) -> usize
     requires { ⌜ Viewed view (now basis) × OfBasis (view .vectors) o × ((x : ℕ) → x < length (now order) → getD (now order) x 0 < view .columns)
         × ((x : ℕ) → x < from → x < length (now order) → changes (vectors view (now basis)) o (getD (now order) x 0) ≡ false) ⌝ }
-    ensures { λ r. ⌜ FirstChanged (vectors view (now (basis .entry))) (now (order .entry)) o from r ⌝ }
+    ensures { λ r. ⌜ FirstChanged (vectors view (now (basis .entry))) (now (order .entry)) o r ⌝ }
 {
     let mut k = from;
     while k < order.len() {
@@ -343,7 +344,7 @@ fn holds(basis: &[i64], view: Basis, s: usize, j: usize) -> bool
     !is_zero(basis[s * view.stride + j])
 }
 
-// Whether the pairs of s and t are tried from s, which place k sees first: no earlier place has seen t, and it is later if this one sees it too.
+// Whether t is a partner of s, which is visited at place k: no earlier place has visited t, and t is later if it is visited here too.
 fn is_partner(notes: &[usize], k: usize, s: usize, t: usize) -> bool
     requires { ⌜ (length (now notes) ≡ notesLong) × (t < maxColumns) ⌝ }
     ensures { λ r. ⌜ r ≡ partnerBy (now (notes .entry)) k s t ⌝ }
@@ -358,7 +359,7 @@ fn is_partner(notes: &[usize], k: usize, s: usize, t: usize) -> bool
     s < t
 }
 
-// Whether place k sees t too, and s leaves the column as it is at which t fails alone with the sign of mark y.
+// Whether a pair is pruned: t is visited here too, and s leaves its blocking column for the sign of mark y as it is.
 fn is_pruned(here: Place, basis: &[i64], notes: &[usize], s: usize, t: usize, y: usize) -> bool
     requires { ⌜ Viewed (here .search .view) (now basis) × (length (now notes) ≡ notesLong) × (s < here .search .view .vectors)
         × (t < maxColumns) × (y < 2) × (visitedAt (now notes) t ≤ here .at → blockingAt (now notes) t y < here .search .view .columns) ⌝ }
@@ -370,7 +371,7 @@ fn is_pruned(here: Place, basis: &[i64], notes: &[usize], s: usize, t: usize, y:
     !holds(basis, here.search.view, s, blocking_at(notes, t, y))
 }
 
-// The least of z and the pairs of a vector seen here and of another one with either sign.
+// The least of z and the pairs of a vector visited here and of a partner with either sign.
 fn with_signs(
     here: Place,
     columns: &[i64],
@@ -410,7 +411,7 @@ fn with_signs(
     best
 }
 
-// The least of z and the pairs of a vector seen here with one sign. Only a vector that changes the column at which it fails alone can help it.
+// The least of z and the pairs of a vector visited here with one sign. Only a vector that changes its blocking column can help it.
 fn pairs_with(
     here: Place,
     columns: &[i64],
@@ -457,7 +458,7 @@ fn pairs_with(
     best
 }
 
-// The least of z and the pairs of a vector seen here.
+// The least of z and the pairs of a vector visited here.
 fn pairs_of(
     here: Place,
     columns: &[i64],
@@ -476,7 +477,8 @@ fn pairs_of(
         × PairIncumbent (here .search) (now columns) (now values) (now basis) (now order) z ⌝ }
     ensures { λ r. ⌜ NoWorse (here .search) (now (columns .entry)) (now (values .entry)) (now (basis .entry)) (now (order .entry)) z r
         × ((x : ℕ) → x < 2 → (t : ℕ) → Partner (here .search .view .vectors) (now (notes .entry)) (here .at) s t → (y : ℕ) → y < 2
-        → Dominated (here .search) (now (columns .entry)) (now (values .entry)) (now (basis .entry)) (now (order .entry)) r (Progress.both s x t y)) ⌝ }
+        → Dominated (here .search) (now (columns .entry)) (now (values .entry)) (now (basis .entry)) (now (order .entry)) r
+        (Progress.both s x t y)) ⌝ }
 {
     let mut best = z;
     let mut x = 0;
@@ -499,7 +501,7 @@ fn pairs_of(
     best
 }
 
-// The least of z and the pairs of this place: those of the vectors that it sees first.
+// The least of z and the pairs of this place: those of the vectors that are visited at it.
 fn pairs(
     here: Place,
     columns: &[i64],
@@ -542,7 +544,7 @@ fn pairs(
     best
 }
 
-// Whether some vector of a set has not been seen.
+// Whether some vector of a set has not been visited.
 fn any_unvisited(notes: &[usize], members: Set) -> bool
     requires { ⌜ (length (now notes) ≡ notesLong) × ((s : ℕ) → has members s ≡ true → s < maxColumns) ⌝ }
     ensures { λ r. ⌜ (r ≡ false → (s : ℕ) → has members s ≡ true → visitedAt (now (notes .entry)) s < maxColumns) ⌝ }
@@ -557,7 +559,7 @@ fn any_unvisited(notes: &[usize], members: Set) -> bool
     false
 }
 
-// The least of z and the moves that place k is the first to see.
+// The least of z and the moves of the vectors that are visited at place k.
 fn search_place(
     search: Search,
     columns: &[i64],

@@ -47,7 +47,7 @@ fn passes_by(columns: &[i64], values: &[i64], p: Sum, x: &[i64], y: &[i64], j: u
     passes(part, moved, e, p.q)
 }
 
-// The first column of a set that does not pass, or how many columns there are.
+// The first blocking column of a set, which does not pass, or how many columns there are.
 fn first_blocking(
     columns: &[i64],
     values: &[i64],
@@ -71,7 +71,7 @@ fn first_blocking(
     x.len()
 }
 
-// A column that does not pass under a x, or how many columns there are. Column i is tried first, then the guess, which may be any number.
+// A blocking column of a x, which does not pass, or how many columns there are. Column i is tried first, then the guess, which may be any number.
 pub(crate) fn find_blocking(
     columns: &[i64],
     values: &[i64],

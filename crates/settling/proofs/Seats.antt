@@ -121,7 +121,7 @@ module _ (C : Columns) (B : Basis) (l v : List ℤ) (s : ℕ) where
       ∙ ap (λ (k : ℕ). seat C (drop k (vectors B l)) (seatOne C (vector (vectors B l) s) v)) (sym (add-one s))
 
 -- ---- where none is found beyond ±M, each number lies within
-pub none-beyond : (r : List ℤ) → anyBeyond r ≡ false → (j : ℕ) → natAbs (entry j r) ≤ M
+none-beyond : (r : List ℤ) → anyBeyond r ≡ false → (j : ℕ) → natAbs (entry j r) ≤ M
 unfolding anyBeyond
 none-beyond [] e j = omega arith
 none-beyond (x ∷ r) e j = go (beyond x) refl e j (none-beyond r)

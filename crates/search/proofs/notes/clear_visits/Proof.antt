@@ -1,4 +1,4 @@
--- `search::notes::clear_visits` meets its contract: the vectors before `s` are not seen. Assumes nothing.
+-- `search::notes::clear_visits` meets its contract: the vectors before `s` are not visited. Assumes nothing.
 use mathlib.Core.Path.{sym, _∙_}
 use Prim.Native.Nat.{_-_, _≤_}
 use native.Mathlib.Omega.{arith}

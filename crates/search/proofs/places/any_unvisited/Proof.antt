@@ -1,4 +1,4 @@
--- `search::places::any_unvisited` meets its contract: the vectors of the set that are not in `set` have been seen. Assumes nothing.
+-- `search::places::any_unvisited` meets its contract: the vectors of the set that are not in `set` have been visited. Assumes nothing.
 use mathlib.Core.Path.{_≡_, ap}
 use mathlib.Core.Logic.{inl}
 use mathlib.Core.Bool.{true, true≢false}

@@ -1,4 +1,4 @@
--- `search::places::is_partner` meets its contract: it tests the place noted for t, then the order of the two vectors. Assumes nothing.
+-- `search::places::is_partner` meets its contract: it tests the place at which t was visited, then the order of the two vectors. Assumes nothing.
 use native.Mathlib.Omega.{arith}
 use borrow.Author.Needs.{needs}
 use borrow.Author.Tests.{lt-ltb, le-ltb}

@@ -1,4 +1,4 @@
--- `search::places::is_pruned` meets its contract: the column noted is asked for only where this place sees t. Assumes nothing.
+-- `search::places::is_pruned` meets its contract: the blocking column is asked for only where t is visited here. Assumes nothing.
 use mathlib.Core.Path.{_∙_, ap}
 use mathlib.Core.Bool.{not}
 use Prim.Native.Nat.{ℕ}

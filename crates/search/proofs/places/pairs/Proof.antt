@@ -1,4 +1,4 @@
--- `search::places::pairs` meets its contract: the vectors seen first here whose pairs are left are in `set`. Assumes nothing.
+-- `search::places::pairs` meets its contract: the vectors visited here whose pairs are left are in `set`. Assumes nothing.
 use mathlib.Core.Path.{_≡_, sym, _∙_}
 use mathlib.Core.Logic.{⊎-elim}
 use Prim.Native.Nat.{_<_}

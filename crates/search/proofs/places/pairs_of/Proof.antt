@@ -1,4 +1,4 @@
--- `search::places::pairs_of` meets its contract: the pairs with the signs before x are beaten. Assumes nothing.
+-- `search::places::pairs_of` meets its contract: the pairs with the signs before x are dominated. Assumes nothing.
 use Prim.Native.Nat.{ℕ, _-_, _<_}
 use native.Mathlib.Omega.{arith}
 use borrow.Author.Count.{below-more}

@@ -20,7 +20,7 @@ Inv-loop here columns values basis order supports holders notes lead z s best₀
 abbrev μ-loop : tie.MeasureT-loop
 μ-loop here columns values basis order supports holders notes lead z s best₀ set₀ best set = set
 
--- the column that is noted
+-- the blocking column
 noted : (c : tie.After-blocking-at Inv-loop μ-loop) → c .blocking-at .result < maxColumns
 noted c =
     let s = c .before .before .before .before .before in

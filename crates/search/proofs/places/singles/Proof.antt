@@ -1,4 +1,4 @@
--- `search::places::singles` meets its contract: the vectors that are still to be seen are in `set`. Assumes nothing.
+-- `search::places::singles` meets its contract: the vectors that are still to be visited are in `set`. Assumes nothing.
 use mathlib.Core.Path.{_≡_, sym, _∙_, ap, subst}
 use mathlib.Core.Logic.{⊎-elim}
 use mathlib.Core.Bool.{Bool, true}
@@ -63,7 +63,7 @@ member c =
 few : (c : tie.After-first Inv-loop μ-loop) → c .first .result < maxColumns
 few c = omega (arith, member c .0, start (c .before .before) .pre .0 .searchable .ready .few-vectors)
 
--- it is seen here, or was seen before
+-- it is visited here, or was visited before
 seen : (c : tie.Joined1 Inv-loop μ-loop) →
     let l = c .before .before .before .before .before in
     let u = start l in

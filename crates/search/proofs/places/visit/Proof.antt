@@ -1,4 +1,4 @@
--- `search::places::visit` meets its contract: the singles of the marks before `x` have failed, and their columns are noted. Assumes nothing.
+-- `search::places::visit` meets its contract: the singles of the marks before `x` have failed, and their blocking columns are noted. Assumes nothing.
 use mathlib.Core.Path.{_≡_, sym, _∙_, ap, subst}
 use mathlib.Core.List.{List}
 use Prim.Native.Nat.{ℕ, _+_, _-_, _<_, _≤_}

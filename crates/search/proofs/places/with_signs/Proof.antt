@@ -1,4 +1,4 @@
--- `search::places::with_signs` meets its contract: the pairs with the signs before y are beaten. Assumes nothing.
+-- `search::places::with_signs` meets its contract: the pairs with the signs before y are dominated. Assumes nothing.
 use mathlib.Core.Path.{sym, _∙_, subst}
 use mathlib.Core.Logic.{⊎-elim}
 use Prim.Native.Nat.{ℕ, _-_, _<_}
