@@ -1,6 +1,6 @@
--- The laws of specs/Views.
+-- The rows of the tableau that are the basis, in the list in which they lie.
 --   basis-view       the vectors of the view are the basis
---   basis-in         so they are in such a list
+--   basis-in         so they are in a parted list of the tableau's length
 -- Assumes nothing.
 use mathlib.Core.Path.{_≡_, refl, sym, _∙_, ap, ap₂}
 use mathlib.Core.Bool.{Bool, true, false, cond}

@@ -29,17 +29,14 @@ use Rattle.settling.specs.Measures.{fraction, below, distance, ratio, me
 use Rattle.settling.specs.Steps.{isRanked, isCompared, isAllowed, passes, measureAt, largerAt, passesAt, improves}
 use Rattle.settling.specs.Ready.{FitColumn}
 use Rattle.settling.proofs.Sizes.{inside-above}
-use Rattle.settling.proofs.Orders.{Weak, under-past, below-weak}
+use Rattle.settling.proofs.Orders.{Weak, under-past, below-weak, weak-by}
 
 -- ---- measures with a bottom above 0 are ordered as fractions
 abbrev pub Proper : Part → Columns → List ℤ → ℕ → Type 0
 Proper p C v j = 0 < measureAt p C v j .bottom
 
 pub weak : (p : Part) (C : Columns) (v : List ℤ) → Weak (Proper p C v) (largerAt p C v)
-weak p C v = record {
-  asym = λ i j e. below-weak .asym (measureAt p C v j) (measureAt p C v i) e;
-  past = λ i j k b e f. below-weak .past (measureAt p C v k) (measureAt p C v j) (measureAt p C v i) (omega (arith, b)) f e;
-}
+weak p C v = weak-by (measureAt p C v) (λ i h. h)
 
 -- ---- what makes a measure a fraction
 ratio-proper : (low high w : ℕ) → 0 < low → 0 < w → 0 < ratio low high w .bottom

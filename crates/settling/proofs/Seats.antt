@@ -1,6 +1,7 @@
--- The laws of specs/Seats.
+-- How large the numbers of seating are, and how seating goes from vector to vector.
 --   ideal-small             an ideal lies in bounds
 --   gap-small, quotient-small, product-small   how large a gap is, how often a row is then added, and what that adds
+--   twice-above             a lead above 0 is so when doubled
 --   seat-end, -far, -on     seating from vector s on: no vector is left; an addition leaves a value beyond ±M; it does not
 --   placeable, row-..       the lists, and each row of the basis, can be used for an addition; `still-seatable` and again after it
 --   none-beyond             where none is found beyond ±M, each number lies within
