@@ -13,6 +13,7 @@ use lib.ListN.{length, take, drop, replicate, length-append, length-map}
 use lib.Seq.{length-take-le}
 use Rattle.whole.specs.Lists.{zeros, entry}
 use Rattle.whole.proofs.Tests.{both-true}
+use Rattle.whole.proofs.Never.{never}
 use Rattle.text.specs.Overwriting.{overwritten}
 use Rattle.text.specs.Positions.{nextAt}
 use Rattle.text.specs.declared.Token.{Token}
@@ -47,9 +48,6 @@ cursorOf (section.Refused why) = cursor 0 0 0 0
 abbrev reason : Section → Refusal
 reason (section.Read c) = Layout
 reason (section.Refused why) = why
-
-never : {A : Type 0} → _≡_ {A = ℕ} 0 1 → A
-never e = absurd (omega arith)
 
 pub record IntervalsFound (o : Outcome (List Interval)) (p : Cursor) (k : List ℤ) : Type 0 where
   pub is : List Interval

@@ -1,6 +1,6 @@
--- The laws of specs/Views.
+-- The rows of the tableau that are the basis, in the list in which they lie.
 --   basis-view       the vectors of the view are the basis
---   basis-in         so they are in such a list
+--   basis-in         so they are in a parted list of the tableau's length
 -- Assumes nothing.
 use mathlib.Core.Path.{_≡_, refl, sym, _∙_, ap, ap₂}
 use mathlib.Core.Bool.{Bool, true, false, cond}
@@ -15,7 +15,7 @@ use lib.Seq.{drop-drop, take-at, drop-append-le, drop-append-add}
 use Rattle.lattice.specs.Rows.{flat}
 use Rattle.lattice.specs.Span.{All, Len}
 use Rattle.lattice.proofs.Span.{all-append}
-use Rattle.lattice.proofs.FlatLaws.{flat-append, flat-chop, chop-rows, length-chop}
+use Rattle.lattice.proofs.FlatLaws.{flat-append, flat-chop, chop-rows, length-chop, length-flat}
 use Rattle.problem.specs.declared.Problem.{Problem}
 use Rattle.tableau.specs.RightSide.{leading, remaining, basis}
 use Rattle.tableau.proofs.RightLaws.{rising-split}
@@ -23,10 +23,6 @@ use Rattle.settling.specs.Views.{rowsOf, vectors}
 use Rattle.engine.specs.BasisPlace.{Parted, basisOf, basisStart, basisView, tableOf, width}
 
 -- ---- rows in a list
-pub flat-length : (w : ℕ) (T : List (List ℤ)) → All (Len w) T → length (flat T) ≡ length T * w
-flat-length w [] a = omega arith
-flat-length w (r ∷ T) a = omega (arith, length-append r (flat T), flat-length w T (a .1), a .0)
-
 -- the rows of R without their first m numbers
 rows-drop : (m n : ℕ) (R : List (List ℤ)) → All (Len (m + n)) R → rowsOf (length R) n (m + n) (drop m (flat R)) ≡ map (drop m) R
 unfolding rowsOf
@@ -57,7 +53,7 @@ module _ (p : Problem) (T : List (List ℤ)) (w : All (Len (width p)) T) (c : le
 
   behind : drop (length L * width p + p .rows) (flat T) ≡ drop (p .rows) (flat R)
   behind =
-      let e : length L * width p + p .rows ≡ length (flat L) + p .rows = omega (arith, flat-length (width p) L (both-wide .0)) in
+      let e : length L * width p + p .rows ≡ length (flat L) + p .rows = omega (arith, length-flat (width p) L (both-wide .0)) in
       ap (λ (i : ℕ). drop i (flat T)) e ∙ ap (λ (X : List (List ℤ)). drop (length (flat L) + p .rows) (flat X)) (sym s)
       ∙ ap (drop (length (flat L) + p .rows)) (flat-append L R) ∙ drop-append-add (flat L) (flat R) (p .rows)
 

@@ -6,23 +6,23 @@
 --   laid-parted     it is parted; laid-placed, so everything is placed for seating and settling
 --   start-small     a starting list lies within ±M
 -- Assumes nothing.
-use mathlib.Core.Path.{_≡_, refl, sym, _∙_, ap, subst}
-use mathlib.Core.Bool.{Bool, true, false, cond, _||_, true≢false}
+use mathlib.Core.Path.{_≡_, sym, _∙_, ap, subst}
+use mathlib.Core.Bool.{Bool, true, false, cond, _||_}
 use mathlib.Core.List.{List, _++_}
 use Prim.Native.Nat.{ℕ, _+_, _*_, _≤_}
-use native.Mathlib.Omega.{arith}
 use lib.IntN.{ℤ, pos, natAbs}
 use lib.Dec.{lit≤}
 use lib.ListN.{length, take, drop, length-replicate}
 use Rattle.whole.specs.Lists.{entry, zeros}
+use Rattle.whole.proofs.Never.{never}
 use Rattle.lattice.specs.Rows.{neg, allZero, flat, chop}
 use Rattle.lattice.specs.Span.{All, Len}
 use Rattle.lattice.specs.Hermite.{Rising}
-use Rattle.lattice.proofs.FlatLaws.{length-chop, chop-flat}
+use Rattle.lattice.proofs.FlatLaws.{length-chop, chop-flat, length-flat}
 use Rattle.problem.specs.Limits.{M, maxCoefficient, maxRight}
 use Rattle.tableau.specs.Within.{Within}
 use Rattle.problem.specs.Checks.{Posed, allSpan}
-use Rattle.whole.proofs.Tests.{both-true}
+use Rattle.whole.proofs.Tests.{both-true, neither}
 use Rattle.problem.proofs.CheckLaws.{Passes, Fits, fits}
 use Rattle.problem.specs.declared.Lent.{Lent}
 use Rattle.tableau.specs.Table.{tableau}
@@ -37,7 +37,6 @@ use Rattle.tableau.proofs.Staying.{flat-all, all-flat, eliminate-all}
 use Rattle.rightside.proofs.Sweeping.{sweep-within}
 use Rattle.engine.specs.Assign.{n, m, matrix, solved, formed}
 use Rattle.engine.specs.BasisPlace.{width, tableOf, basisOf, Parted}
-use Rattle.engine.proofs.BasisLaws.{flat-length}
 use Rattle.engine.specs.Placed.{Placed}
 use Rattle.engine.proofs.Readiness.{view-lies, table, ready}
 
@@ -91,7 +90,7 @@ module _ (P : Posed) (L : Lent) (q : Passes P L) where
 
     pub laid-parted : Parted (P .problem) t
     laid-parted = record {
-      long = ap length (a .is) ∙ flat-length (width (P .problem)) (formed P .table) wide ∙ ap (λ (k : ℕ). k * width (P .problem)) (problem-count (n P) (matrix P));
+      long = ap length (a .is) ∙ length-flat (width (P .problem)) (formed P .table) wide ∙ ap (λ (k : ℕ). k * width (P .problem)) (problem-count (n P) (matrix P));
       small = λ i. within-entry t i laid-within;
       rises = subst (Rising 0) (sym laid-table) (problem-rising (n P) (matrix P));
     }
@@ -126,17 +125,13 @@ module _ (P : Posed) (L : Lent) (q : Passes P L) where
       z : Left
       z = sweep (remaining k T) (w .row)
 
-      none-or : (a b : Bool) → a || b ≡ false → (a ≡ false) × (b ≡ false)
-      none-or true b e = absurd (true≢false e)
-      none-or false b e = (refl, e)
-
       by : Bool → Solved
       by t = cond t (record { form = T; found = some (drop k (z .row)) (basis k T); over = formed P .over || (w .over || z .over) }) (record { form = T; found = none; over = formed P .over || w .over })
 
       go : (t : Bool) → by t .over ≡ false → by t .found ≡ some s N → Within s
       go true e g =
-          let a : (formed P .over ≡ false) × (w .over || z .over ≡ false) = none-or (formed P .over) (w .over || z .over) e in
-          let b : (w .over ≡ false) × (z .over ≡ false) = none-or (w .over) (z .over) (a .1) in
+          let a : (formed P .over ≡ false) × (w .over || z .over ≡ false) = neither (formed P .over) (w .over || z .over) e in
+          let b : (w .over ≡ false) × (z .over ≡ false) = neither (w .over) (z .over) (a .1) in
           let h : drop k (z .row) ≡ s = cc in
           subst Within h (within-drop k (z .row) (sweep-within (remaining k T) (w .row) (sweep-within (leading k T) _ right-within (b .0)) (b .1)))
-      go false e g = absurd (let y : _≡_ {A = ℕ} 0 1 = cc in omega arith)
+      go false e g = never (cc)

@@ -2,7 +2,7 @@
 --   stands-in      the test on the buffers is that of the definition
 --   standable      what the checks leave of the lists
 -- Assumes nothing.
-use mathlib.Core.Path.{_≡_, refl, sym, _∙_, ap, ap₂}
+use mathlib.Core.Path.{_≡_, sym, _∙_, ap}
 use mathlib.Core.Bool.{Bool, not, _&&_}
 use mathlib.Core.List.{List}
 use Prim.Native.Nat.{ℕ, zero, suc, _+_, _*_, _<_}
@@ -12,7 +12,8 @@ use lib.IntN.{ℤ, _-ℤ_}
 use lib.ListN.{length, take, drop}
 use lib.Seq.{drop-drop}
 use Rattle.whole.specs.Lists.{entry}
-use Rattle.whole.specs.Tests.{isZero, every}
+use Rattle.whole.proofs.Counted.{every-same}
+use Rattle.whole.specs.Tests.{isZero}
 use Rattle.lattice.specs.Rows.{chop}
 use Rattle.lattice.specs.Sums.{dot, sums}
 use Rattle.problem.specs.Limits.{anyBeyond}
@@ -29,11 +30,6 @@ sum-at (suc k) n a v zero h = ap (λ (j : ℕ). dot (take n (drop j a)) v) (sym 
 sum-at (suc k) n a v (suc i) h =
     let e : n + i * n ≡ suc i * n = omega arith in
     sum-at k n (drop n a) v i (omega arith) ∙ ap (λ (l : List ℤ). dot (take n l) v) (drop-drop (i * n) n a ∙ ap (λ (j : ℕ). drop j a) e)
-
-every-same : (k : ℕ) (f g : ℕ → Bool) → ((i : ℕ) → i < k → f i ≡ g i) → every k f ≡ every k g
-unfolding every
-every-same zero f g h = refl
-every-same (suc k) f g h = ap₂ _&&_ (every-same k f g (λ i l. h i (omega arith))) (h k (omega arith))
 
 pub stands-in : (P : Posed) (v : List ℤ) → standsIn (P .problem) (P .coefficients) (P .rights) v ≡ stands P v
 stands-in P v =

@@ -1,16 +1,17 @@
 -- A problem that passes the checks is ready for seating and settling over the basis that lies in its tableau.
 --   view-lies   the basis lies in a tableau of n rows, and no number of it lies beyond ±M where none of the tableau does
 --   table P     its columns, packed; table-columns, and read back; fit-column, each of them fits
+--   packable    they can be packed; PackedIn P l, and the list l holds them; packed-fits, -long, -back, in the front of a buffer, lent again
 --   ready       so it is, with a list of values within ±M
 -- Assumes nothing.
-use mathlib.Core.Path.{_≡_, refl, sym, subst}
-use mathlib.Core.List.{List}
+use mathlib.Core.Path.{_≡_, refl, sym, _∙_, ap, subst}
+use mathlib.Core.List.{List, _++_}
 use Prim.Native.Nat.{ℕ, suc, _+_, _*_, _-_, _<_, _≤_}
 use native.Mathlib.Nat.{mul-le-mul-right}
 use native.Mathlib.Omega.{arith}
 use borrow.Author.Tests.{lt-ltb}
 use lib.IntN.{ℤ, pos, natAbs}
-use lib.ListN.{length, drop, length-drop}
+use lib.ListN.{length, take, drop, length-drop}
 use lib.Seq.{getD-drop}
 use Rattle.whole.specs.Lists.{entry}
 use Rattle.problem.specs.Limits.{M}
@@ -18,7 +19,10 @@ use Rattle.problem.specs.Checks.{Posed}
 use Rattle.problem.proofs.CheckLaws.{Fits}
 use Rattle.problem.specs.declared.Problem.{Problem}
 use Rattle.problem.specs.declared.Lent.{Lent}
-use Rattle.settling.specs.Columns.{Columns, columnsIn, packed}
+use Rattle.settling.specs.Columns.{Columns, listed, columnsIn, packed}
+use Rattle.settling.specs.Columns as Columns
+use Rattle.settling.specs.Packing.{Packable}
+use Rattle.settling.proofs.Fronts.{part-back, part-fits}
 use Rattle.settling.specs.Views.{Viewed}
 use Rattle.settling.specs.Ready.{FitColumn, Ready}
 use Rattle.settling.proofs.Packing.{packed-length, packed-columns}
@@ -48,8 +52,40 @@ view-lies p h t l a = record {
 abbrev pub table : Posed → List ℤ
 table P = packed (columns P)
 
+-- how many numbers it has
+abbrev pub cells : Posed → ℕ
+cells P = Columns.width * n P
+
+pub record PackedIn (P : Posed) (l : List ℤ) : Type 0 where
+  pub is : l ≡ table P
+  pub long : length l ≡ cells P
+
 pub table-columns : (P : Posed) (L : Lent) → Fits P L → columnsIn (n P) (table P) ≡ columns P
 table-columns P L f = packed-columns (n P) (P .lower) (P .upper) (P .goals) (f .lower-long) (f .upper-long) (f .goals-long)
+
+module _ (P : Posed) (L : Lent) (f : Fits P L) where
+  pub packable : (t : List ℤ) → cells P ≡ length t → Packable t (P .lower) (P .upper) (P .goals)
+  packable t e = record {
+    room = sym e ∙ ap (λ (k : ℕ). Columns.width * k) (sym (f .lower-long));
+    upper-long = f .upper-long ∙ sym (f .lower-long);
+    goals-long = f .goals-long ∙ sym (f .lower-long);
+    goals-small = f .goals-small;
+  }
+
+  pub packed-in : (l : List ℤ) → l ≡ packed (listed (length (P .lower)) (P .lower) (P .upper) (P .goals)) → PackedIn P l
+  packed-in l e =
+      let is : l ≡ table P = e ∙ ap (λ (k : ℕ). packed (listed k (P .lower) (P .upper) (P .goals))) (f .lower-long) in
+      record { is = is; long = ap length is ∙ packed-length (columns P .column) (n P) 0 }
+
+module _ {P : Posed} {l : List ℤ} (a : PackedIn P l) (t : List ℤ) where
+  pub packed-fits : cells P ≤ length (l ++ drop (cells P) t)
+  packed-fits = part-fits (cells P) l t (a .long)
+
+  pub packed-back : take (cells P) (l ++ drop (cells P) t) ≡ table P
+  packed-back = part-back (cells P) l t (a .long) ∙ a .is
+
+  pub packed-long : cells P ≡ length (take (cells P) (l ++ drop (cells P) t))
+  packed-long = sym (a .long) ∙ sym (ap length (part-back (cells P) l t (a .long)))
 
 pub fit-column : (P : Posed) (L : Lent) → Fits P L → (j : ℕ) → FitColumn (columns P .column j)
 fit-column P L f j = record {

@@ -16,7 +16,7 @@ use Rattle.problem.specs.declared.Answer.the-variants.{Refused}
 use Rattle.tableau.specs.RightSide.{Found, none, some}
 use Rattle.settling.specs.Seating.{Seated, seated, far, seat}
 use Rattle.settling.specs.Verdicts.{Means}
-use Rattle.settling.proofs.Keeping.{never}
+use Rattle.whole.proofs.Never.{never}
 use Rattle.settling.proofs.Verdicts.{settle-means}
 use Rattle.engine.specs.Assign.{Buffers, Done, columns, lentOf, refused, overLimit, settleOn, onCheck, onSeated, onFound}
 use Rattle.engine.specs.Assign.{solved, assignFit, assign, stands, formed, continueFit, continue}

@@ -1,7 +1,11 @@
 -- A whole assignment and Continue, of document 01: what they return, and what they leave in each lent buffer.
 --   Buffers          the lent buffers that a call fills: the tableau, the interval list and the strides
 --   Done             what a call returns and what these buffers then hold; "problem buffers are only read". `done` makes one of the four
---   refused ..       "number, counts 0", with the lists as before
+--   posedBy, buffers   a call's arguments, as a problem and as the buffers
+--   n, m, matrix, columns P   the problem's parts; lentOf B, the lengths of the buffers
+--   refused ..       "number, counts 0", with the lists as before; overLimit, refusal 7; settled, settleOn, a verdict
+--   solved, formed   the tableau with the right side, and without it; stands P v, the list v satisfies the rows, within ±M
+--   assignFit, continueFit   past the checks; onCheck, onFound, onSeated by what is found before
 --   assign P B       "A whole assignment is the tableau, the right side, seating and settling."
 --   continue P B     "Continue settles a lent list that satisfies the rows. It forms the tableau but takes neither the right-side step nor seating."
 -- "Order: 1 to 6, then 10, then 7 and 8 as met, then 9."
@@ -43,7 +47,6 @@ pub record Done : Type 0 where
   pub values : List ℤ
   pub strides : List ℕ
 
--- a call's arguments, as these
 abbrev pub posedBy : Problem → List ℤ → List ℤ → List ℤ → List ℤ → List ℤ → Posed
 posedBy p coefficients rights lower upper goals = record {
   problem = p;
@@ -57,7 +60,6 @@ posedBy p coefficients rights lower upper goals = record {
 abbrev pub buffers : List ℤ → List ℤ → List ℕ → Buffers
 buffers tableau values strides = record { tableau = tableau; values = values; strides = strides }
 
--- what it returns, and what it leaves
 abbrev pub done : Answer → List ℤ → List ℤ → List ℕ → Done
 done answer tableau values strides = record { answer = answer; tableau = tableau; values = values; strides = strides }
 

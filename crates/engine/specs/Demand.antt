@@ -1,5 +1,5 @@
 -- Demand 3: "Nobody who restates a requirement can move the intervals", in document 01's words ("The words of demand 3").
---   WithinLimits P B        "A problem is within the limits if none of causes 1 to 6 holds for it and the buffers lent with it."
+--   WithinLimits P B  "A problem is within the limits if none of causes 1 to 6 holds for it and the buffers lent with it."
 --   PastLimit P B     "It is past the elimination limit if it meets 7"
 --   IsNone P B        "and "none" if it meets 8"
 --   SatisfiesRows P x "A list satisfies the rows if it has n whole numbers, of any size, in bounds or not, and in each row the coefficients times

@@ -2,7 +2,7 @@
 --   Finished               the answer, and what the interval list and the strides then hold; `finishedWith` makes one of the three
 --   settledBy k C N v      with the step limit k the list v settled over the basis N, which gives the strides too
 --   settledOver p C t v    the same over the basis in the tableau t
---   finished p C t s v d   with the form in t, the starting list s, and v and d in the lists before
+--   finished p C t s v d   with the form in t, the starting list s, and v and d in the lists before; `onSeat` by what seating finds
 --   Finishable ..          what it needs, with the columns in the table c
 -- Assumes nothing.
 use mathlib.Core.Path.{_≡_}

@@ -149,6 +149,7 @@ in-table k w c j h l = omega (arith, mul-le-mul-right w l, suc-mul j w)
 pub row-in-table : (k w j : ℕ) → j < k → j * w + w ≤ k * w
 row-in-table k w j l = omega (arith, mul-le-mul-right w l, suc-mul j w)
 
+-- ---- a number of two lists end to end, replaced in the second
 -- ---- a part put in place
 module _ (at w : ℕ) (t u v : List ℤ) (h : at ≤ length t) (e : length u ≡ w) where
   front-length : length (take at t ++ u) ≡ at + w

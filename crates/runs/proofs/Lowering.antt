@@ -20,7 +20,7 @@ use Rattle.settling.proofs.Orders.{Weak, self, under-past, alike, back, past-un
 use Rattle.settling.proofs.Insertion.{Each, each-insert, Down, insert-down}
 use Rattle.runs.specs.Sorted.{above, sorted, lower, LowerAt}
 
-pub lower-at : {A : Type 0} (lt : A → A → Bool) (d : A) (K L : List A) → lower lt K L ≡ true → LowerAt lt d K L
+lower-at : {A : Type 0} (lt : A → A → Bool) (d : A) (K L : List A) → lower lt K L ≡ true → LowerAt lt d K L
 unfolding lower
 lower-at lt d [] L e = absurd (false≢true e)
 lower-at lt d (x ∷ K) [] e = absurd (false≢true e)

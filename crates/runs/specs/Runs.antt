@@ -1,5 +1,6 @@
 -- Document 02, (xiii): "No assignment comes twice", of a run of settling over the columns C and the basis N.
---   measures p C v      the measures of the values v, of the columns that the part p compares, in order of column
+--   measures p C v      the measures of the values v, of the columns that the part p compares, in order of column;
+--                       measuresFrom .. k j, of k columns from j on
 --   distances C v       "the list of distances" of the values v: of all columns
 --   ratios C v          "the same for ratios": of the columns with a goal
 --   lowerThan K L       K, "sorted largest first, is lower at the first place where it differs" from L
@@ -33,7 +34,6 @@ use Rattle.settling.specs.Steps.{isCompared, measureAt, partOf, nextStep}
 use Rattle.runs.specs.Sorted.{sorted, lower}
 
 -- ---- what falls
--- of the columns j and on, k of them, those that the part compares
 unfoldable pub measuresFrom : Part → Columns → List ℤ → ℕ → ℕ → List Measure
 measuresFrom p C v zero j = []
 measuresFrom p C v (suc k) j =

@@ -8,11 +8,11 @@ pub mod Inserting
 pub mod Kept
 pub mod Ranked
 pub mod Indexing
-pub mod Beating
+pub mod Dominance
 pub mod Placing
 pub mod Pairing
 pub mod Reached
 pub mod Turning
 pub mod Testing
 pub mod Noting
-pub mod Sighting
+pub mod Visiting

@@ -7,7 +7,7 @@
 --   number-pair        that of a pair does not
 --   number-small, number-listed   both lie below span, for vectors below maxColumns, and so for listed moves
 --   sign-mark          a sign is that of its mark
---   least-step         a number that stands for an improving move, or for none, and that no improving move beats, is the step of document 01
+--   least-step         the number of an improving move, or of none, that dominates all moves is the step of document 01
 -- Assumes nothing.
 use mathlib.Core.Path.{_≡_, refl, sym, _∙_, ap}
 use mathlib.Core.Logic.{inl, inr, ⊎-elim}
@@ -29,7 +29,7 @@ use Rattle.settling.specs.Moves.{single, pair, signPairs, singles, pairsWith, p
 use Rattle.settling.proofs.Fronts.{lt-or-ge}
 use Rattle.settling.specs.Steps.{firstMove, firstColumn}
 use Rattle.settling.specs.Verdicts.{Listed}
-use Rattle.search.specs.Numbers.{Sign, firstPair, span, mark, numberOf, numberAt, signOf, moveOf, stepIn, Beaten, Hit, Stands}
+use Rattle.search.specs.Numbers.{Sign, firstPair, span, mark, numberOf, numberAt, signOf, moveOf, stepIn, DominatedBy, ImprovingNumber, ImprovingOrNone}
 use Rattle.search.proofs.Listings.{Single, Double, listed-cases}
 
 -- ---- the number of a move
@@ -253,13 +253,13 @@ column-at f (j ∷ L) (suc k) i o l h e = rw (h 0 (omega arith)) (column-at f L 
 
 -- ---- the step
 module _
-    (imp : Move → ℕ → Bool) (L : List ℕ) (r z : ℕ) (small : r ≤ maxColumns) (beaten : (o : Move) → Listed o (moves r) → Beaten imp L z o)
+    (imp : Move → ℕ → Bool) (L : List ℕ) (r z : ℕ) (small : r ≤ maxColumns) (dominated : (o : Move) → Listed o (moves r) → DominatedBy imp L z o)
   where
     -- a place whose numbers are all below z has no improving move
     before : (x : ℕ) → x < length L → (x + 1) * span ≤ z → firstMove (λ o. imp o (getD L x 0)) (getD L x 0) (moves r) ≡ Rest
     before x h k =
         no-move (λ o. imp o (getD L x 0)) (getD L x 0) (moves r)
-        (λ o l e. omega (arith, beaten o l .each x h e, at-below r small o l x))
+        (λ o l e. omega (arith, dominated o l .each x h e, at-below r small o l x))
 
     behind : z ≡ length L * span → stepIn L z ≡ firstColumn (λ i. firstMove (λ o. imp o i) i (moves r)) L
     unfolding stepIn
@@ -267,7 +267,7 @@ module _
         let k : length L ≤ z / span = omega arith in
         rw (le-ltb (z / span) (length L) k) (sym (no-column (λ i. firstMove (λ o. imp o i) i (moves r)) L (λ x h. before x h (omega arith))))
 
-    inside : Hit imp L r z → stepIn L z ≡ firstColumn (λ i. firstMove (λ o. imp o i) i (moves r)) L
+    inside : ImprovingNumber imp L r z → stepIn L z ≡ firstColumn (λ i. firstMove (λ o. imp o i) i (moves r)) L
     unfolding stepIn
     inside t =
         step ∙ sym (column-at (λ i. firstMove (λ o. imp o i) i (moves r)) L (t .place) (getD L (t .place) 0) (t .move) (t .inside)
@@ -287,7 +287,7 @@ module _
         here : firstMove (λ o. imp o (getD L (t .place) 0)) (getD L (t .place) 0) (moves r) ≡ Take (getD L (t .place) 0) (t .move)
         here =
             least-move (λ o. imp o (getD L (t .place) 0)) (getD L (t .place) 0) (t .move) 0 (pairsFrom r 0) (moves r) (moves-rise r small)
-            (t .listed) (t .good) (λ u l e. omega (arith, t .is, beaten u l .each (t .place) (t .inside) e))
+            (t .listed) (t .good) (λ u l e. omega (arith, t .is, dominated u l .each (t .place) (t .inside) e))
 
-    pub least-step : Stands imp L r z → stepIn L z ≡ firstColumn (λ i. firstMove (λ o. imp o i) i (moves r)) L
+    pub least-step : ImprovingOrNone imp L r z → stepIn L z ≡ firstColumn (λ i. firstMove (λ o. imp o i) i (moves r)) L
     least-step s = ⊎-elim behind inside s

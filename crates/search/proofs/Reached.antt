@@ -17,6 +17,7 @@ use lib.IntN.{ℤ, natAbs}
 use lib.ListN.{length}
 use Rattle.whole.specs.Lists.{entry}
 use Rattle.whole.proofs.Counted.{every-at}
+use Rattle.whole.proofs.Never.{never}
 use Rattle.problem.specs.Limits.{M}
 use Rattle.settling.specs.declared.Basis.{Basis}
 use Rattle.settling.specs.declared.Part.{Part}
@@ -50,7 +51,7 @@ module _ (B : Basis) (T v b : List ℤ) (r : Ready B v T b) where
     where
       go : (t : Bool) → inBounds (columnsIn (B .columns) T) v ≡ t → Goals ≡ partIf t → inBounds (columnsIn (B .columns) T) v ≡ true
       go true f g = f
-      go false f g = let z : _≡_ {A = ℕ} 0 1 = cc in absurd (omega arith)
+      go false f g = never (cc)
 
   reached-allowed : (p : Part) → p ≡ partOf (columnsIn (B .columns) T) v → (j : ℕ) → j < B .columns
       → isAllowed p (cell (columnsIn (B .columns) T) v j) ≡ true

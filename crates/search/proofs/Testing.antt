@@ -1,26 +1,24 @@
 -- Laws of the tests of one move.
 --   sum-still             a column to which 0 is added passes
 --   sum-within, -near     how large what is added is, and the value after it
---   Left w v f            of the set w the places of v are left, and f holds at the others
---   left-..               for the loop over the places of a set, from the first on
 --   covered-pass          where the columns of the sets pass that cover what is changed, all do
 --   sumOf S o q           the sum that a move stands for
 --   Tries S b o q w x y   w is that sum, and x and y are the rows of its vectors
 --   testable              such a sum can be tested
---   every-, failing-rows  and its tests tell which columns pass under the move
+--   every-, blocking-rows and its tests tell which columns pass under the move
 --   covered               the sets of both vectors cover what it changes
 -- Assumes nothing.
-use mathlib.Core.Path.{_≡_, refl, sym, _∙_, ap, ap₂}
-use mathlib.Core.Logic.{_⊎_, inl, inr, ⊎-elim}
-use mathlib.Core.Bool.{Bool, true, false, _&&_, false≢true, and-eq-true-iff}
+use mathlib.Core.Path.{_≡_, refl, sym, _∙_, ap}
+use mathlib.Core.Logic.{_⊎_, ⊎-elim}
+use mathlib.Core.Bool.{Bool, true, false, _&&_, and-eq-true-iff}
 use mathlib.Core.List.{List}
-use Prim.Native.Nat.{ℕ, zero, suc, _*_, _^_, _<_, _≤_}
+use Prim.Native.Nat.{ℕ, _*_, _<_, _≤_}
 use native.Mathlib.Omega.{arith}
 use borrow.Author.Tests.{lt-ltb, ltb-true, not-false}
 use lib.Dec.{ltb}
 use lib.IntN.{ℤ, natAbs, _+ℤ_, _*ℤ_, +ℤ-idr, *ℤ-zero}
 use lib.ListN.{length, getD}
-use Rattle.whole.proofs.Counted.{every-all}
+use Rattle.whole.proofs.Counted.{every-all, every-same}
 use Rattle.whole.proofs.Integers.{add-none, isZero-true}
 use Rattle.whole.specs.Lists.{entry}
 use Rattle.whole.specs.Tests.{isZero, every}
@@ -37,10 +35,9 @@ use Rattle.settling.proofs.Views.{vector-long, vector-small, sum-small, moved-a
 use Rattle.settling.proofs.Passing.{passes-still}
 use Rattle.search.specs.declared.Search.{Search}
 use Rattle.search.specs.declared.probes.Sum.{Sum}
-use Rattle.search.specs.Probes.{sumAt, passesBy, Testable, Covered, Failing, Supported}
+use Rattle.search.specs.Probes.{sumAt, passesBy, Testable, Covered, Blocking, Supported}
 use Rattle.search.specs.Searches.{passing, Searchable}
-use Rattle.search.specs.Sets.{has, firstOf, restOf, touches}
-use Rattle.search.proofs.Setting.{none-has, first-in, first-has, rest-in}
+use Rattle.search.specs.Sets.{has, touches}
 
 -- ---- one column
 none-added : (a x b y : ℤ) → isZero x ≡ true → isZero y ≡ true → isZero (a *ℤ x +ℤ b *ℤ y) ≡ true
@@ -61,29 +58,6 @@ module _ (T v : List ℤ) (p : Sum) (x y : List ℤ) (t : Testable T v p x y) (j
   pub sum-near : natAbs (entry j v +ℤ sumAt p x y j) ≤ 3 * M
   sum-near = omega (arith, abs-add (entry j v) (sumAt p x y j), t .values-small j, sum-within)
 
--- ---- the places of a set, one after the other
-pub record Left (w v : ℕ) (f : ℕ → Bool) : Type 0 where
-  pub inside : (j : ℕ) → has v j ≡ true → has w j ≡ true
-  pub others : (j : ℕ) → has w j ≡ true → (has v j ≡ true) ⊎ (f j ≡ true)
-
-module _ (w : ℕ) (f : ℕ → Bool) where
-  pub left-starts : Left w w f
-  left-starts = record { inside = λ j e. e; others = λ j e. inl e }
-
-  pub left-ends : Left w 0 f → (j : ℕ) → has w j ≡ true → f j ≡ true
-  left-ends l j e = ⊎-elim (λ h. absurd (false≢true (sym (none-has j) ∙ h))) (λ h. h) (l .others j e)
-
-  module _ (v : ℕ) (l : Left w v f) (p : 0 < v) (q : v < 2 ^ 64) where
-    pub left-first : has w (firstOf v) ≡ true
-    left-first = l .inside (firstOf v) (first-has v p q)
-
-    pub left-on : f (firstOf v) ≡ true → Left w (restOf v) f
-    left-on e =
-        record {
-          inside = λ j h. l .inside j (rest-in v p q j h);
-          others = λ j h. ⊎-elim (λ k. ⊎-elim (λ m. inr (ap f m ∙ e)) inl (first-in v p q j k)) inr (l .others j h);
-        }
-
 -- ---- the columns of two sets
 pub covered-pass : (T v : List ℤ) (p : Sum) (x y : List ℤ) → Testable T v p x y → (w u : ℕ) → Covered (length v) p x y w u
     → ((j : ℕ) → has w j ≡ true → passesBy T v p x y j ≡ true) → ((j : ℕ) → has u j ≡ true → passesBy T v p x y j ≡ true)
@@ -94,11 +68,6 @@ covered-pass T v p x y t w u c f g = every-all (length v) (passesBy T v p x y) (
     go j h true k e l = f j k
     go j h false k true l = g j l
     go j h false k false l = sum-still T v p x y t j h (c .still j h k l)
-
-every-alike : (n : ℕ) (f g : ℕ → Bool) → ((j : ℕ) → j < n → f j ≡ g j) → every n f ≡ every n g
-unfolding every
-every-alike zero f g h = refl
-every-alike (suc n) f g h = ap₂ _&&_ (every-alike n f g (λ j l. h j (omega arith))) (h n (omega arith))
 
 -- ---- the rows of a move
 abbrev pub sumOf : Search → Move → Measure → Sum
@@ -144,10 +113,10 @@ module _
     pub every-rows : every (length v) (passesBy T v w x y) ≡ every (S .view .columns) (passing S T v b o q)
     every-rows =
         ap (λ (n : ℕ). every n (passesBy T v w x y)) (s .ready .values-long)
-        ∙ every-alike (S .view .columns) (passesBy T v w x y) (passing S T v b o q) by-rows
+        ∙ every-same (S .view .columns) (passesBy T v w x y) (passing S T v b o q) by-rows
 
-    pub failing-rows : (k : ℕ) → Failing (length v) (passesBy T v w x y) k → Failing (S .view .columns) (passing S T v b o q) k
-    failing-rows k f = record {
+    pub blocking-rows : (k : ℕ) → Blocking (length v) (passesBy T v w x y) k → Blocking (S .view .columns) (passing S T v b o q) k
+    blocking-rows k f = record {
       bad = λ h. sym (by-rows k h) ∙ f .bad (omega (arith, s .ready .values-long));
       good = λ h. sym every-rows ∙ f .good (omega (arith, s .ready .values-long));
     }

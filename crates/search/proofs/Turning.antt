@@ -16,6 +16,7 @@ use lib.Dec.{ltb, eqb}
 use lib.IntN.{ℤ}
 use lib.ListN.{length, take, getD, length-take}
 use Rattle.whole.proofs.Counted.{every-at, every-all}
+use Rattle.whole.proofs.Never.{never}
 use Rattle.problem.specs.Limits.{maxColumns}
 use Rattle.settling.specs.declared.Basis.{Basis}
 use Rattle.settling.specs.declared.Move.{Move}
@@ -158,7 +159,7 @@ pub arranged-none : (T v : List ℤ) (l : List ℕ) (x : Ranked) → x ≡ unran
 arranged-none T v l x none = record { part = λ e. absurd (apart e); few = λ e. absurd (apart e); columns = λ e. absurd (apart e) }
   where
     apart : x .part ≡ Goals → ⊥
-    apart e = let b : x .part ≡ Bounds = ap (λ (y : Ranked). y .part) none in let z : _≡_ {A = ℕ} 0 1 = cc in omega arith
+    apart e = let b : x .part ≡ Bounds = ap (λ (y : Ranked). y .part) none in never (cc)
 
 module _
     {B : Basis} {T v b : List ℤ} (r : Ready B v T b) {l : List ℕ} {x : Ranked} (q : RankedIn T v l x) {i : ℕ} {o : Move}

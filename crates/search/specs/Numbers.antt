@@ -9,9 +9,9 @@
 --   pairOf d           the pair that is d after the first one
 --   moveOf n           the move of a number
 --   stepIn L z         the step that the number z stands for, along the ranking L; a place behind the ranking is none
---   Beaten imp L z o   the move o is no better than z: at each place of L whose column it improves its number is z or more
---   Hit imp L r z      z is the number of a move over r vectors, at a place of L whose column it improves
---   Stands imp L r z   z is such a number, or the least one behind the ranking
+--   DominatedBy imp L z o   the candidate o is no better than z: at each place of L whose column it improves its number is z or more
+--   ImprovingNumber imp L r z   z is the number of a move over r vectors, at a place of L whose column it improves
+--   ImprovingOrNone imp L r z   z is such a number, or the least one behind the ranking
 -- Assumes nothing.
 use mathlib.Core.Path.{_≡_}
 use mathlib.Core.Logic.{_⊎_}
@@ -63,10 +63,10 @@ moveOf n = cond (ltb n firstPair) (single (n / 2) (signOf (n % 2))) (pairOf (n -
 unfoldable pub stepIn : List ℕ → ℕ → Step
 stepIn L z = cond (ltb (z / span) (length L)) (Take (getD L (z / span) 0) (moveOf (z % span))) Rest
 
-pub record Beaten (imp : Move → ℕ → Bool) (L : List ℕ) (z : ℕ) (o : Move) : Type 0 where
+pub record DominatedBy (imp : Move → ℕ → Bool) (L : List ℕ) (z : ℕ) (o : Move) : Type 0 where
   pub each : (x : ℕ) → x < length L → imp o (getD L x 0) ≡ true → z ≤ numberAt x o
 
-pub record Hit (imp : Move → ℕ → Bool) (L : List ℕ) (r z : ℕ) : Type 0 where
+pub record ImprovingNumber (imp : Move → ℕ → Bool) (L : List ℕ) (r z : ℕ) : Type 0 where
   pub place : ℕ
   pub move : Move
   pub inside : place < length L
@@ -74,5 +74,5 @@ pub record Hit (imp : Move → ℕ → Bool) (L : List ℕ) (r z : ℕ) : Type 0
   pub good : imp move (getD L place 0) ≡ true
   pub is : z ≡ numberAt place move
 
-abbrev pub Stands : (Move → ℕ → Bool) → List ℕ → ℕ → ℕ → Type 0
-Stands imp L r z = (z ≡ length L * span) ⊎ Hit imp L r z
+abbrev pub ImprovingOrNone : (Move → ℕ → Bool) → List ℕ → ℕ → ℕ → Type 0
+ImprovingOrNone imp L r z = (z ≡ length L * span) ⊎ ImprovingNumber imp L r z

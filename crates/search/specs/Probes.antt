@@ -4,8 +4,8 @@
 --   passesBy T v p x y j   column j passes when that is added to it
 --   Testable T v p x y     what such a test needs
 --   Covered n p x y w u    the columns that it changes, of n, are in the set w or in the set u
---   Failing n f k          k is a column at which f fails, or f holds at all n
---   FailingIn w n f k      the same of the columns of the set w
+--   Blocking n f k         k is a blocking column, at which f fails, or f holds at all n
+--   BlockingIn w n f k     the same of the columns of the set w
 --   Supported B b U        the list U has for each vector the set of the columns that it changes
 -- Assumes nothing.
 use mathlib.Core.Path.{_≡_}
@@ -50,11 +50,11 @@ pub record Covered (n : ℕ) (p : Sum) (x y : List ℤ) (w u : ℕ) : Type 0 whe
   pub other : (j : ℕ) → has u j ≡ true → j < n
   pub still : (j : ℕ) → j < n → has w j ≡ false → has u j ≡ false → isZero (sumAt p x y j) ≡ true
 
-pub record Failing (n : ℕ) (f : ℕ → Bool) (k : ℕ) : Type 0 where
+pub record Blocking (n : ℕ) (f : ℕ → Bool) (k : ℕ) : Type 0 where
   pub bad : k < n → f k ≡ false
   pub good : n ≤ k → every n f ≡ true
 
-pub record FailingIn (w n : ℕ) (f : ℕ → Bool) (k : ℕ) : Type 0 where
+pub record BlockingIn (w n : ℕ) (f : ℕ → Bool) (k : ℕ) : Type 0 where
   pub bad : k < n → f k ≡ false
   pub good : n ≤ k → (j : ℕ) → has w j ≡ true → f j ≡ true
 

@@ -1,27 +1,28 @@
--- How far a search by places of the ranking has come. Its incumbent, the best move so far, is one number (Numbers).
+-- How far a search by places of the ranking has come. A candidate is a move at a place whose column it improves; the incumbent, the best one
+-- so far, is one number (Numbers). A vector is visited at the first place whose column it changes.
 --   Place                  a place of the ranking that is searched, its column and that column's measure (declared in src/)
 --   Here T v L h           it tells the truth
 --   alone s x              the vector s with the sign of mark x
 --   both s x t y           two vectors with the signs of two marks, as a move of the basis
---   Quiet B b L s k        vector s changes no column before place k
---   Beat S T v b L z o     the move o is no better than z
---   Stand S T v b L z      z is the number of a move that improves, or of nothing
---   Incumbent S T v b L z  and not of a single
---   FirstChanged N L o f k   k is the first place from f on whose column the move o changes
---   Marked                 the vectors seen before place k, and all others, which are quiet so far
---   Dealt                  each move of a vector seen before place k is no better than z
+--   ZeroBefore B b L s k   vector s changes no column before place k
+--   Dominated S T v b L z o   the move o is no better than z
+--   Incumbent S T v b L z  z is the number of a move that improves, or of nothing
+--   PairIncumbent S T v b L z   and not of a single
+--   FirstChanged N L o k   k is the first place whose column the move o changes, or behind the ranking
+--   VisitedOrZero ..       each vector is visited before place k, or changes no column before it
+--   Explored ..            each move of a vector visited before place k is no better than z
 --   Before S T v b L l k z   the state with the notes l before place k
 --   Final S T v b L z      no move is better than z
 --   Searched .. l k z      the state after place k: before the next one, or the end
---   Stuck h T v b l s x    the column noted for vector s with mark x fails alone at this place
---   Fresh .. s             vector s is seen first at this place; `Waiting` it is not seen yet, but may be in the set w
---   Sighting .. w l z      the vectors of the set w are still to be seen at this place
---   Saw .. s l z l' z'     one more has been seen
---   Fronted, Pairing       after all singles of this place: what its pairs may rely on
---   Open r l k s t         the pairs of s and t are tried from s: t is not seen before, and is later if this place sees it too
---   openBy, shutBy         the tests of the code for that, and for a pair that the note of t shuts out
---   Kept S T v b L z z'    the incumbent has become no worse
---   Pair                   a pair as a move, its vector seen here, and its other one (declared in src/); `Paired` it tells the truth
+--   Blocked h T v b l s x  vector s with mark x fails alone at its blocking column, against the measure of this place
+--   VisitedHere .. s       vector s is visited at this place; `Unvisited` it is not visited yet, but may be in the set w
+--   Visiting .. w l z      the vectors of the set w are still to be visited at this place
+--   Visited .. s l z l' z'   one more has been visited
+--   Leading, Pairing       after all singles of this place: what the pairs of a vector visited here, and all its pairs, may rely on
+--   Partner r l k s t      the pairs of s and t are tried from s: t is not visited before, and is later if it is visited here too
+--   partnerBy, prunedBy    the tests of the code for that, and for a pair that the blocking column of t prunes
+--   NoWorse S T v b L z z'   the incumbent has become no worse
+--   Pair                   a pair as a move, its vector visited here, and its other one (declared in src/); `Paired` it tells the truth
 -- Assumes nothing.
 use mathlib.Core.Path.{_≡_}
 use mathlib.Core.Logic.{_⊎_}
@@ -40,8 +41,8 @@ use Rattle.settling.specs.Verdicts.{Listed}
 use Rattle.search.specs.declared.Search.{Search}
 use Rattle.search.specs.declared.places.Place.{Place}
 use Rattle.search.specs.declared.places.Pair.{Pair}
-use Rattle.search.specs.Notes.{notesLong, topAt, noteAt}
-use Rattle.search.specs.Numbers.{firstPair, span, signOf, Beaten, Stands}
+use Rattle.search.specs.Notes.{notesLong, visitedAt, blockingAt}
+use Rattle.search.specs.Numbers.{firstPair, span, signOf, DominatedBy, ImprovingOrNone}
 use Rattle.search.specs.Probes.{Supported}
 use Rattle.search.specs.Searches.{columnsOf, better, passing, Setup}
 use Rattle.search.specs.Sets.{has, touches}
@@ -57,87 +58,85 @@ alone s x = single s (signOf x)
 abbrev pub both : ℕ → ℕ → ℕ → ℕ → Move
 both s x t y = cond (ltb s t) (pair s (signOf x) t (signOf y)) (pair t (signOf y) s (signOf x))
 
-pub record Quiet (B : Basis) (b : List ℤ) (L : List ℕ) (s k : ℕ) : Type 0 where
+pub record ZeroBefore (B : Basis) (b : List ℤ) (L : List ℕ) (s k : ℕ) : Type 0 where
   pub each : (x : ℕ) → x < k → x < length L → touches B b s (getD L x 0) ≡ false
 
-abbrev pub Beat : Search → List ℤ → List ℤ → List ℤ → List ℕ → ℕ → Move → Type 0
-Beat S T v b L z o = Beaten (better S T v b) L z o
+abbrev pub Dominated : Search → List ℤ → List ℤ → List ℤ → List ℕ → ℕ → Move → Type 0
+Dominated S T v b L z o = DominatedBy (better S T v b) L z o
 
-abbrev pub Stand : Search → List ℤ → List ℤ → List ℤ → List ℕ → ℕ → Type 0
-Stand S T v b L z = Stands (better S T v b) L (S .view .vectors) z
+abbrev pub Incumbent : Search → List ℤ → List ℤ → List ℤ → List ℕ → ℕ → Type 0
+Incumbent S T v b L z = ImprovingOrNone (better S T v b) L (S .view .vectors) z
 
-pub record Incumbent (S : Search) (T v b : List ℤ) (L : List ℕ) (z : ℕ) : Type 0 where
-  pub stands : Stand S T v b L z
+pub record PairIncumbent (S : Search) (T v b : List ℤ) (L : List ℕ) (z : ℕ) : Type 0 where
+  pub incumbent : Incumbent S T v b L z
   pub late : (k : ℕ) → k < length L → k * span ≤ z → k * span + firstPair ≤ z
 
--- k is the first place from `from` on that the move changes, or behind the ranking; it changes none before
-pub record FirstChanged (N : List (List ℤ)) (L : List ℕ) (o : Move) (from k : ℕ) : Type 0 where
+pub record FirstChanged (N : List (List ℤ)) (L : List ℕ) (o : Move) (k : ℕ) : Type 0 where
   pub still : (x : ℕ) → x < k → x < length L → changes N o (getD L x 0) ≡ false
   pub changed : k < length L → changes N o (getD L k 0) ≡ true
-  pub since : from ≤ k
 
 -- ---- between two places
-abbrev pub Marked : Search → List ℤ → List ℕ → List ℕ → ℕ → Type 0
-Marked S b L notes k =
-    (s : ℕ) → s < S .view .vectors → (topAt notes s < k) ⊎ ((maxColumns ≤ topAt notes s) × Quiet (S .view) b L s k)
+abbrev pub VisitedOrZero : Search → List ℤ → List ℕ → List ℕ → ℕ → Type 0
+VisitedOrZero S b L notes k =
+    (s : ℕ) → s < S .view .vectors → (visitedAt notes s < k) ⊎ ((maxColumns ≤ visitedAt notes s) × ZeroBefore (S .view) b L s k)
 
-abbrev pub Dealt : Search → List ℤ → List ℤ → List ℤ → List ℕ → List ℕ → ℕ → ℕ → Type 0
-Dealt S T v b L notes k z =
-    (o : Move) → Listed o (moves (S .view .vectors)) → (topAt notes (o .s) < k) ⊎ (topAt notes (o .t) < k) → Beat S T v b L z o
+abbrev pub Explored : Search → List ℤ → List ℤ → List ℤ → List ℕ → List ℕ → ℕ → ℕ → Type 0
+Explored S T v b L notes k z =
+    (o : Move) → Listed o (moves (S .view .vectors)) → (visitedAt notes (o .s) < k) ⊎ (visitedAt notes (o .t) < k) → Dominated S T v b L z o
 
 pub record Before (S : Search) (T v b : List ℤ) (L notes : List ℕ) (k z : ℕ) : Type 0 where
   pub room : length notes ≡ notesLong
-  pub incumbent : Incumbent S T v b L z
-  pub marked : Marked S b L notes k
-  pub dealt : Dealt S T v b L notes k z
+  pub incumbent : PairIncumbent S T v b L z
+  pub each : VisitedOrZero S b L notes k
+  pub explored : Explored S T v b L notes k z
 
 pub record Final (S : Search) (T v b : List ℤ) (L : List ℕ) (z : ℕ) : Type 0 where
-  pub stands : Stand S T v b L z
-  pub all : (o : Move) → Listed o (moves (S .view .vectors)) → Beat S T v b L z o
+  pub incumbent : Incumbent S T v b L z
+  pub all : (o : Move) → Listed o (moves (S .view .vectors)) → Dominated S T v b L z o
 
 abbrev pub Searched : Search → List ℤ → List ℤ → List ℤ → List ℕ → List ℕ → ℕ → ℕ → Type 0
 Searched S T v b L notes k z = (Final S T v b L z × (z < (k + 1) * span)) ⊎ Before S T v b L notes (k + 1) z
 
 -- ---- the singles of a place
-pub record Stuck (h : Place) (T v b : List ℤ) (notes : List ℕ) (s x : ℕ) : Type 0 where
-  pub inside : noteAt notes s x < h .search .view .columns
-  pub fails : passing (h .search) T v b (alone s x) (h .q) (noteAt notes s x) ≡ false
+pub record Blocked (h : Place) (T v b : List ℤ) (notes : List ℕ) (s x : ℕ) : Type 0 where
+  pub inside : blockingAt notes s x < h .search .view .columns
+  pub fails : passing (h .search) T v b (alone s x) (h .q) (blockingAt notes s x) ≡ false
 
-pub record Fresh (h : Place) (T v b : List ℤ) (L notes : List ℕ) (z s : ℕ) : Type 0 where
-  pub top : topAt notes s ≡ h .at
-  pub quiet : Quiet (h .search .view) b L s (h .at)
+pub record VisitedHere (h : Place) (T v b : List ℤ) (L notes : List ℕ) (z s : ℕ) : Type 0 where
+  pub visited : visitedAt notes s ≡ h .at
+  pub zero-before : ZeroBefore (h .search .view) b L s (h .at)
   pub touch : touches (h .search .view) b s (h .column) ≡ true
-  pub beat : (x : ℕ) → x < 2 → Beat (h .search) T v b L z (alone s x)
-  pub stuck : h .at * span + firstPair ≤ z → (x : ℕ) → x < 2 → Stuck h T v b notes s x
+  pub dominated : (x : ℕ) → x < 2 → Dominated (h .search) T v b L z (alone s x)
+  pub blocked : h .at * span + firstPair ≤ z → (x : ℕ) → x < 2 → Blocked h T v b notes s x
 
-pub record Waiting (h : Place) (b : List ℤ) (L : List ℕ) (w : ℕ) (notes : List ℕ) (s : ℕ) : Type 0 where
-  pub top : maxColumns ≤ topAt notes s
-  pub quiet : Quiet (h .search .view) b L s (h .at)
+pub record Unvisited (h : Place) (b : List ℤ) (L : List ℕ) (w : ℕ) (notes : List ℕ) (s : ℕ) : Type 0 where
+  pub visited : maxColumns ≤ visitedAt notes s
+  pub zero-before : ZeroBefore (h .search .view) b L s (h .at)
   pub listed : touches (h .search .view) b s (h .column) ≡ true → has w s ≡ true
 
-pub record Sighting (h : Place) (T v b : List ℤ) (L : List ℕ) (w : ℕ) (notes : List ℕ) (z : ℕ) : Type 0 where
+pub record Visiting (h : Place) (T v b : List ℤ) (L : List ℕ) (w : ℕ) (notes : List ℕ) (z : ℕ) : Type 0 where
   pub room : length notes ≡ notesLong
-  pub stands : Stand (h .search) T v b L z
-  pub late : h .at * span + firstPair ≤ z → Incumbent (h .search) T v b L z
+  pub incumbent : Incumbent (h .search) T v b L z
+  pub late : h .at * span + firstPair ≤ z → PairIncumbent (h .search) T v b L z
   pub each :
       (s : ℕ) → s < h .search .view .vectors
-      → (topAt notes s < h .at) ⊎ (Fresh h T v b L notes z s ⊎ Waiting h b L w notes s)
-  pub dealt : Dealt (h .search) T v b L notes (h .at) z
+      → (visitedAt notes s < h .at) ⊎ (VisitedHere h T v b L notes z s ⊎ Unvisited h b L w notes s)
+  pub explored : Explored (h .search) T v b L notes (h .at) z
 
-pub record Saw (h : Place) (T v b : List ℤ) (L : List ℕ) (s : ℕ) (l : List ℕ) (z : ℕ) (m : List ℕ) (y : ℕ) : Type 0 where
+pub record Visited (h : Place) (T v b : List ℤ) (L : List ℕ) (s : ℕ) (l : List ℕ) (z : ℕ) (m : List ℕ) (y : ℕ) : Type 0 where
   pub room : length m ≡ notesLong
-  pub tops : (t : ℕ) → (t ≡ s → ⊥) → topAt m t ≡ topAt l t
-  pub notes : (t : ℕ) → (t ≡ s → ⊥) → (x : ℕ) → x < 2 → noteAt m t x ≡ noteAt l t x
+  pub visits : (t : ℕ) → (t ≡ s → ⊥) → visitedAt m t ≡ visitedAt l t
+  pub notes : (t : ℕ) → (t ≡ s → ⊥) → (x : ℕ) → x < 2 → blockingAt m t x ≡ blockingAt l t x
   pub less : y ≤ z
-  pub stands : Stand (h .search) T v b L y
-  pub fresh : Fresh h T v b L m y s
+  pub incumbent : Incumbent (h .search) T v b L y
+  pub visited : VisitedHere h T v b L m y s
   pub same : h .at * span + firstPair ≤ y → y ≡ z
 
 -- ---- its pairs
-pub record Fronted (h : Place) (T v b : List ℤ) (L notes : List ℕ) (s : ℕ) : Type 0 where
-  pub top : topAt notes s ≡ h .at
-  pub quiet : Quiet (h .search .view) b L s (h .at)
-  pub stuck : (x : ℕ) → x < 2 → Stuck h T v b notes s x
+pub record Leading (h : Place) (T v b : List ℤ) (L notes : List ℕ) (s : ℕ) : Type 0 where
+  pub visited : visitedAt notes s ≡ h .at
+  pub zero-before : ZeroBefore (h .search .view) b L s (h .at)
+  pub blocked : (x : ℕ) → x < 2 → Blocked h T v b notes s x
 
 pub record Pairing (h : Place) (T v b : List ℤ) (L U notes : List ℕ) : Type 0 where
   pub setup : Setup (h .search) T v b L
@@ -146,30 +145,30 @@ pub record Pairing (h : Place) (T v b : List ℤ) (L U notes : List ℕ) : Type 
   pub room : length notes ≡ notesLong
   pub each :
       (s : ℕ) → s < h .search .view .vectors
-      → (topAt notes s < h .at)
-      ⊎ (Fronted h T v b L notes s ⊎ ((maxColumns ≤ topAt notes s) × Quiet (h .search .view) b L s (h .at + 1)))
+      → (visitedAt notes s < h .at)
+      ⊎ (Leading h T v b L notes s ⊎ ((maxColumns ≤ visitedAt notes s) × ZeroBefore (h .search .view) b L s (h .at + 1)))
 
--- the same as tests: t may be tried from s; the column noted for t, if this place sees it, shuts s out
-abbrev pub openBy : List ℕ → ℕ → ℕ → ℕ → Bool
-openBy notes k s t = ltb k (topAt notes t) || (not (ltb (topAt notes t) k) && ltb s t)
+-- as tests: t is a partner of s; the blocking column of t, if it is visited here, prunes the pair
+abbrev pub partnerBy : List ℕ → ℕ → ℕ → ℕ → Bool
+partnerBy notes k s t = ltb k (visitedAt notes t) || (not (ltb (visitedAt notes t) k) && ltb s t)
 
-abbrev pub shutBy : Basis → List ℤ → List ℕ → ℕ → ℕ → ℕ → ℕ → Bool
-shutBy B b notes k s t y = not (ltb k (topAt notes t)) && not (touches B b s (noteAt notes t y))
+abbrev pub prunedBy : Basis → List ℤ → List ℕ → ℕ → ℕ → ℕ → ℕ → Bool
+prunedBy B b notes k s t y = not (ltb k (visitedAt notes t)) && not (touches B b s (blockingAt notes t y))
 
-pub record Open (r : ℕ) (notes : List ℕ) (k s t : ℕ) : Type 0 where
+pub record Partner (r : ℕ) (notes : List ℕ) (k s t : ℕ) : Type 0 where
   pub inside : t < r
   pub apart : t ≡ s → ⊥
-  pub unseen : k ≤ topAt notes t
-  pub later : topAt notes t ≡ k → s < t
+  pub unvisited : k ≤ visitedAt notes t
+  pub later : visitedAt notes t ≡ k → s < t
 
-pub record Kept (S : Search) (T v b : List ℤ) (L : List ℕ) (z y : ℕ) : Type 0 where
+pub record NoWorse (S : Search) (T v b : List ℤ) (L : List ℕ) (z y : ℕ) : Type 0 where
   pub less : y ≤ z
-  pub incumbent : Incumbent S T v b L y
+  pub incumbent : PairIncumbent S T v b L y
 
 pub record Paired (h : Place) (b : List ℤ) (L : List ℕ) (p : Pair) : Type 0 where
   pub s-inside : p .s < h .search .view .vectors
   pub t-inside : p .t < h .search .view .vectors
   pub apart : p .t ≡ p .s → ⊥
   pub marks : (x : ℕ) × (y : ℕ) × (p .o ≡ both (p .s) x (p .t) y)
-  pub s-quiet : Quiet (h .search .view) b L (p .s) (h .at)
-  pub t-quiet : Quiet (h .search .view) b L (p .t) (h .at)
+  pub s-zero : ZeroBefore (h .search .view) b L (p .s) (h .at)
+  pub t-zero : ZeroBefore (h .search .view) b L (p .t) (h .at)

@@ -1,4 +1,4 @@
--- What the search sees of its slices, and what it needs of them.
+-- What the search reads from its slices, and what it needs of them.
 --   Search                 the part, and the view of the basis (declared in src/)
 --   columnsOf S T          the columns of the table T
 --   better S T v b         which columns a move improves, from the values v, over the basis b

@@ -1,5 +1,6 @@
-// The search by places of the ranking. A move has to be tried only at the first place whose column it changes, so that each vector is
-// seen once: its singles are tried there, and its pairs with the vectors that no earlier place has seen.
+// The search by places of the ranking, for the best candidate: a move at a place whose column it improves. A move has to be tried only at the first
+// place whose column it changes, so that each vector is visited once: its singles are tried there, and its pairs with the vectors that no earlier
+// place has visited. The incumbent z is the number of the best candidate so far, and better is smaller (numbers).
 ghost use mathlib.Core.Path.{_≡_};
 ghost use mathlib.Core.Logic.{_⊎_};
 ghost use mathlib.Core.Bool.{true, false, _&&_};
@@ -12,20 +13,20 @@ ghost use Rattle.settling.specs.Moves.{changes};
 ghost use Rattle.settling.specs.Sizes.{Crossable};
 ghost use Rattle.settling.specs.Steps.{measureAt};
 ghost use Rattle.settling.specs.Views.{vectors, Viewed, OfBasis};
-ghost use Rattle.search.specs.Notes.{notesLong, topAt, noteAt};
+ghost use Rattle.search.specs.Notes.{notesLong, visitedAt, blockingAt};
 ghost use Rattle.search.specs.Numbers.{firstPair, span};
-ghost use Rattle.search.specs.Probes.{Failing, Supported};
+ghost use Rattle.search.specs.Probes.{Blocking, Supported};
 ghost use Rattle.search.specs.Progress as Progress;
-ghost use Rattle.search.specs.Progress.{Here, Quiet, Beat, Stand, Incumbent, Before, Searched};
-ghost use Rattle.search.specs.Progress.{FirstChanged, Sighting, Saw, Fronted, Pairing, Open, Kept, Paired, openBy, shutBy};
+ghost use Rattle.search.specs.Progress.{Here, ZeroBefore, Dominated, Incumbent, PairIncumbent, Before, Searched};
+ghost use Rattle.search.specs.Progress.{FirstChanged, Visiting, Visited, Leading, Pairing, Partner, NoWorse, Paired, partnerBy, prunedBy};
 ghost use Rattle.search.specs.Searches.{columnsOf, passing, stepAlong, Searchable, Setup};
 ghost use Rattle.search.specs.Sets.{has, touches, Indexed};
 use crate::Search;
-use crate::notes::note_at;
-use crate::notes::put_note;
-use crate::notes::put_top;
-use crate::notes::top_at;
-use crate::notes::unsee;
+use crate::notes::blocking_at;
+use crate::notes::clear_visits;
+use crate::notes::put_blocking;
+use crate::notes::put_visited;
+use crate::notes::visited_at;
 use crate::numbers::FIRST_PAIR;
 use crate::numbers::SPAN;
 use crate::numbers::number_at;
@@ -33,7 +34,7 @@ use crate::numbers::sign_of;
 use crate::numbers::step_in;
 use crate::probes::Sum;
 use crate::probes::all_pass;
-use crate::probes::find_failing;
+use crate::probes::find_blocking;
 use crate::sets::Set;
 use crate::sets::first;
 use crate::sets::rest;
@@ -54,13 +55,13 @@ struct Place {
     pub q: Measure,
 }
 
-// A vector that this place sees first, with the mark of its sign.
+// A vector that is visited at this place, with the mark of its sign.
 struct Lead {
     pub s: usize,
     pub x: usize,
 }
 
-// A pair as a move of the basis, its vector that this place sees first, and the other one.
+// A pair as a move of the basis, its vector that is visited at this place, and the other one.
 struct Pair {
     pub o: Move,
     pub s: usize,
@@ -100,8 +101,8 @@ fn both(s: usize, x: usize, t: usize, y: usize) -> Move
     }
 }
 
-// A column that fails under a vector alone, or how many columns there are. This place's is tried first, then the guess, which may be any number.
-fn blame(
+// A blocking column of a vector alone, or how many columns there are. This place's is tried first, then the guess, which may be any number.
+fn blocking_column(
     here: Place,
     columns: &[i64],
     values: &[i64],
@@ -113,7 +114,7 @@ fn blame(
 ) -> usize
     requires { ⌜ Searchable (here .search) (now columns) (now values) (now basis) × Supported (here .search .view) (now basis) (now supports)
         × (s < here .search .view .vectors) × Crossable (here .q) × (here .column < here .search .view .columns) ⌝ }
-    ensures { λ r. ⌜ Failing (here .search .view .columns)
+    ensures { λ r. ⌜ Blocking (here .search .view .columns)
         (passing (here .search) (now (columns .entry)) (now (values .entry)) (now (basis .entry)) (Progress.alone s x) (here .q)) r ⌝ }
 {
     let search = here.search;
@@ -130,11 +131,11 @@ fn blame(
         q: q,
     };
     let i = here.column;
-    find_failing(columns, values, p, &basis[at..end], supports[s], i, guess)
+    find_blocking(columns, values, p, &basis[at..end], supports[s], i, guess)
 }
 
-// Sees vector s: the least of z and its singles that improve this place. Where one does not, a column is noted at which it fails.
-fn see(
+// Visits vector s: the least of the incumbent z and its singles that improve this place. Where one does not, its blocking column is noted.
+fn visit(
     here: Place,
     columns: &[i64],
     values: &[i64],
@@ -148,13 +149,13 @@ fn see(
     requires { ⌜ Setup (here .search) (now columns) (now values) (now basis) (now order) × Here (now columns) (now values) (now order) here
         × Supported (here .search .view) (now basis) (now supports) × (length (now notes) ≡ notesLong)
         × (s < here .search .view .vectors) × (touches (here .search .view) (now basis) s (here .column) ≡ true)
-        × Quiet (here .search .view) (now basis) (now order) s (here .at)
-        × Stand (here .search) (now columns) (now values) (now basis) (now order) z ⌝ }
-    ensures { λ r. ⌜ Saw here (now (columns .entry)) (now (values .entry)) (now (basis .entry)) (now (order .entry)) s
+        × ZeroBefore (here .search .view) (now basis) (now order) s (here .at)
+        × Incumbent (here .search) (now columns) (now values) (now basis) (now order) z ⌝ }
+    ensures { λ r. ⌜ Visited here (now (columns .entry)) (now (values .entry)) (now (basis .entry)) (now (order .entry)) s
         (now (notes .entry)) z (now (notes .exit)) r ⌝ }
 {
     let n = here.search.view.columns;
-    put_top(notes, s, here.at);
+    put_visited(notes, s, here.at);
     let mut x = 0;
     while x < 2 {
         let o = alone(s, x);
@@ -162,18 +163,18 @@ fn see(
         if z <= number {
             return z;
         }
-        let guess = note_at(notes, s, x);
-        let f = blame(here, columns, values, basis, supports, s, x, guess);
+        let guess = blocking_at(notes, s, x);
+        let f = blocking_column(here, columns, values, basis, supports, s, x, guess);
         if n <= f {
             return number;
         }
-        put_note(notes, s, x, f);
+        put_blocking(notes, s, x, f);
         x += 1;
     }
     z
 }
 
-// The least of z and the singles of this place: those of the vectors of the set that no earlier place has seen.
+// The least of z and the singles of this place: those of the vectors of the set that no earlier place has visited.
 fn singles(
     here: Place,
     columns: &[i64],
@@ -190,14 +191,14 @@ fn singles(
         × ((s : ℕ) → has members s ≡ ltb s (here .search .view .vectors) && touches (here .search .view) (now basis) s (here .column))
         × Before (here .search) (now columns) (now values) (now basis) (now order) (now notes) (here .at) z
         × (here .at * span ≤ z) ⌝ }
-    ensures { λ r. ⌜ Sighting here (now (columns .entry)) (now (values .entry)) (now (basis .entry)) (now (order .entry)) 0 (now (notes .exit)) r ⌝ }
+    ensures { λ r. ⌜ Visiting here (now (columns .entry)) (now (values .entry)) (now (basis .entry)) (now (order .entry)) 0 (now (notes .exit)) r ⌝ }
 {
     let mut best = z;
     let mut set = members;
     while 0 < set {
         let s = first(set);
-        if Problem::MAX_COLUMNS <= top_at(notes, s) {
-            best = see(
+        if Problem::MAX_COLUMNS <= visited_at(notes, s) {
+            best = visit(
                 here,
                 columns,
                 values,
@@ -214,11 +215,11 @@ fn singles(
     best
 }
 
-// The first place from k on whose column a move changes, or behind the ranking. It changes none before k.
+// The first place whose column a move changes, or behind the ranking. It changes none before `from`.
 fn first_changed(basis: &[i64], view: Basis, order: &[usize], o: Move, from: usize) -> usize
     requires { ⌜ Viewed view (now basis) × OfBasis (view .vectors) o × ((x : ℕ) → x < length (now order) → getD (now order) x 0 < view .columns)
         × ((x : ℕ) → x < from → x < length (now order) → changes (vectors view (now basis)) o (getD (now order) x 0) ≡ false) ⌝ }
-    ensures { λ r. ⌜ FirstChanged (vectors view (now (basis .entry))) (now (order .entry)) o from r ⌝ }
+    ensures { λ r. ⌜ FirstChanged (vectors view (now (basis .entry))) (now (order .entry)) o r ⌝ }
 {
     let mut k = from;
     while k < order.len() {
@@ -311,9 +312,9 @@ fn try_pair(
 ) -> usize
     requires { ⌜ Setup (here .search) (now columns) (now values) (now basis) (now order) × Here (now columns) (now values) (now order) here
         × Supported (here .search .view) (now basis) (now supports) × Paired here (now basis) (now order) p
-        × Incumbent (here .search) (now columns) (now values) (now basis) (now order) z ⌝ }
-    ensures { λ r. ⌜ Kept (here .search) (now (columns .entry)) (now (values .entry)) (now (basis .entry)) (now (order .entry)) z r
-        × Beat (here .search) (now (columns .entry)) (now (values .entry)) (now (basis .entry)) (now (order .entry)) r (p .o) ⌝ }
+        × PairIncumbent (here .search) (now columns) (now values) (now basis) (now order) z ⌝ }
+    ensures { λ r. ⌜ NoWorse (here .search) (now (columns .entry)) (now (values .entry)) (now (basis .entry)) (now (order .entry)) z r
+        × Dominated (here .search) (now (columns .entry)) (now (values .entry)) (now (basis .entry)) (now (order .entry)) r (p .o) ⌝ }
 {
     let o = p.o;
     if z <= number_at(here.at, o) {
@@ -343,12 +344,12 @@ fn holds(basis: &[i64], view: Basis, s: usize, j: usize) -> bool
     !is_zero(basis[s * view.stride + j])
 }
 
-// Whether the pairs of s and t are tried from s, which place k sees first: no earlier place has seen t, and it is later if this one sees it too.
-fn is_open(notes: &[usize], k: usize, s: usize, t: usize) -> bool
+// Whether t is a partner of s, which is visited at place k: no earlier place has visited t, and t is later if it is visited here too.
+fn is_partner(notes: &[usize], k: usize, s: usize, t: usize) -> bool
     requires { ⌜ (length (now notes) ≡ notesLong) × (t < maxColumns) ⌝ }
-    ensures { λ r. ⌜ r ≡ openBy (now (notes .entry)) k s t ⌝ }
+    ensures { λ r. ⌜ r ≡ partnerBy (now (notes .entry)) k s t ⌝ }
 {
-    let top = top_at(notes, t);
+    let top = visited_at(notes, t);
     if top < k {
         return false;
     }
@@ -358,19 +359,19 @@ fn is_open(notes: &[usize], k: usize, s: usize, t: usize) -> bool
     s < t
 }
 
-// Whether place k sees t too, and s leaves the column as it is at which t fails alone with the sign of mark y.
-fn is_shut(here: Place, basis: &[i64], notes: &[usize], s: usize, t: usize, y: usize) -> bool
+// Whether a pair is pruned: t is visited here too, and s leaves its blocking column for the sign of mark y as it is.
+fn is_pruned(here: Place, basis: &[i64], notes: &[usize], s: usize, t: usize, y: usize) -> bool
     requires { ⌜ Viewed (here .search .view) (now basis) × (length (now notes) ≡ notesLong) × (s < here .search .view .vectors)
-        × (t < maxColumns) × (y < 2) × (topAt (now notes) t ≤ here .at → noteAt (now notes) t y < here .search .view .columns) ⌝ }
-    ensures { λ r. ⌜ r ≡ shutBy (here .search .view) (now (basis .entry)) (now (notes .entry)) (here .at) s t y ⌝ }
+        × (t < maxColumns) × (y < 2) × (visitedAt (now notes) t ≤ here .at → blockingAt (now notes) t y < here .search .view .columns) ⌝ }
+    ensures { λ r. ⌜ r ≡ prunedBy (here .search .view) (now (basis .entry)) (now (notes .entry)) (here .at) s t y ⌝ }
 {
-    if here.at < top_at(notes, t) {
+    if here.at < visited_at(notes, t) {
         return false;
     }
-    !holds(basis, here.search.view, s, note_at(notes, t, y))
+    !holds(basis, here.search.view, s, blocking_at(notes, t, y))
 }
 
-// The least of z and the pairs of a vector seen here and of another one with either sign.
+// The least of z and the pairs of a vector visited here and of a partner with either sign.
 fn with_signs(
     here: Place,
     columns: &[i64],
@@ -385,11 +386,11 @@ fn with_signs(
 ) -> usize
     requires { ⌜ Pairing here (now columns) (now values) (now basis) (now order) (now supports) (now notes)
         × (lead .s < here .search .view .vectors) × (lead .x < 2)
-        × Fronted here (now columns) (now values) (now basis) (now order) (now notes) (lead .s)
-        × Open (here .search .view .vectors) (now notes) (here .at) (lead .s) t
-        × Incumbent (here .search) (now columns) (now values) (now basis) (now order) z ⌝ }
-    ensures { λ r. ⌜ Kept (here .search) (now (columns .entry)) (now (values .entry)) (now (basis .entry)) (now (order .entry)) z r
-        × ((y : ℕ) → y < 2 → Beat (here .search) (now (columns .entry)) (now (values .entry)) (now (basis .entry)) (now (order .entry)) r
+        × Leading here (now columns) (now values) (now basis) (now order) (now notes) (lead .s)
+        × Partner (here .search .view .vectors) (now notes) (here .at) (lead .s) t
+        × PairIncumbent (here .search) (now columns) (now values) (now basis) (now order) z ⌝ }
+    ensures { λ r. ⌜ NoWorse (here .search) (now (columns .entry)) (now (values .entry)) (now (basis .entry)) (now (order .entry)) z r
+        × ((y : ℕ) → y < 2 → Dominated (here .search) (now (columns .entry)) (now (values .entry)) (now (basis .entry)) (now (order .entry)) r
         (Progress.both (lead .s) (lead .x) t y)) ⌝ }
 {
     let s = lead.s;
@@ -397,7 +398,7 @@ fn with_signs(
     let mut best = z;
     let mut y = 0;
     while y < 2 {
-        if !is_shut(here, basis, notes, s, t, y) {
+        if !is_pruned(here, basis, notes, s, t, y) {
             let p = Pair {
                 o: both(s, x, t, y),
                 s: s,
@@ -410,7 +411,7 @@ fn with_signs(
     best
 }
 
-// The least of z and the pairs of a vector seen here with one sign. Only a vector that changes the column at which it fails alone can help it.
+// The least of z and the pairs of a vector visited here with one sign. Only a vector that changes its blocking column can help it.
 fn pairs_with(
     here: Place,
     columns: &[i64],
@@ -426,19 +427,19 @@ fn pairs_with(
     requires { ⌜ Pairing here (now columns) (now values) (now basis) (now order) (now supports) (now notes)
         × Indexed (here .search .view) (now basis) (now supports) (now holders)
         × (lead .s < here .search .view .vectors) × (lead .x < 2)
-        × Fronted here (now columns) (now values) (now basis) (now order) (now notes) (lead .s)
-        × Incumbent (here .search) (now columns) (now values) (now basis) (now order) z ⌝ }
-    ensures { λ r. ⌜ Kept (here .search) (now (columns .entry)) (now (values .entry)) (now (basis .entry)) (now (order .entry)) z r
-        × ((t : ℕ) → Open (here .search .view .vectors) (now (notes .entry)) (here .at) (lead .s) t → (y : ℕ) → y < 2
-        → Beat (here .search) (now (columns .entry)) (now (values .entry)) (now (basis .entry)) (now (order .entry)) r
+        × Leading here (now columns) (now values) (now basis) (now order) (now notes) (lead .s)
+        × PairIncumbent (here .search) (now columns) (now values) (now basis) (now order) z ⌝ }
+    ensures { λ r. ⌜ NoWorse (here .search) (now (columns .entry)) (now (values .entry)) (now (basis .entry)) (now (order .entry)) z r
+        × ((t : ℕ) → Partner (here .search .view .vectors) (now (notes .entry)) (here .at) (lead .s) t → (y : ℕ) → y < 2
+        → Dominated (here .search) (now (columns .entry)) (now (values .entry)) (now (basis .entry)) (now (order .entry)) r
         (Progress.both (lead .s) (lead .x) t y)) ⌝ }
 {
     let s = lead.s;
     let mut best = z;
-    let mut set = holders[note_at(notes, s, lead.x)];
+    let mut set = holders[blocking_at(notes, s, lead.x)];
     while 0 < set {
         let t = first(set);
-        if is_open(notes, here.at, s, t) {
+        if is_partner(notes, here.at, s, t) {
             best = with_signs(
                 here,
                 columns,
@@ -457,7 +458,7 @@ fn pairs_with(
     best
 }
 
-// The least of z and the pairs of a vector seen here.
+// The least of z and the pairs of a vector visited here.
 fn pairs_of(
     here: Place,
     columns: &[i64],
@@ -472,11 +473,12 @@ fn pairs_of(
 ) -> usize
     requires { ⌜ Pairing here (now columns) (now values) (now basis) (now order) (now supports) (now notes)
         × Indexed (here .search .view) (now basis) (now supports) (now holders)
-        × (s < here .search .view .vectors) × Fronted here (now columns) (now values) (now basis) (now order) (now notes) s
-        × Incumbent (here .search) (now columns) (now values) (now basis) (now order) z ⌝ }
-    ensures { λ r. ⌜ Kept (here .search) (now (columns .entry)) (now (values .entry)) (now (basis .entry)) (now (order .entry)) z r
-        × ((x : ℕ) → x < 2 → (t : ℕ) → Open (here .search .view .vectors) (now (notes .entry)) (here .at) s t → (y : ℕ) → y < 2
-        → Beat (here .search) (now (columns .entry)) (now (values .entry)) (now (basis .entry)) (now (order .entry)) r (Progress.both s x t y)) ⌝ }
+        × (s < here .search .view .vectors) × Leading here (now columns) (now values) (now basis) (now order) (now notes) s
+        × PairIncumbent (here .search) (now columns) (now values) (now basis) (now order) z ⌝ }
+    ensures { λ r. ⌜ NoWorse (here .search) (now (columns .entry)) (now (values .entry)) (now (basis .entry)) (now (order .entry)) z r
+        × ((x : ℕ) → x < 2 → (t : ℕ) → Partner (here .search .view .vectors) (now (notes .entry)) (here .at) s t → (y : ℕ) → y < 2
+        → Dominated (here .search) (now (columns .entry)) (now (values .entry)) (now (basis .entry)) (now (order .entry)) r
+        (Progress.both s x t y)) ⌝ }
 {
     let mut best = z;
     let mut x = 0;
@@ -499,7 +501,7 @@ fn pairs_of(
     best
 }
 
-// The least of z and the pairs of this place: those of the vectors that it sees first.
+// The least of z and the pairs of this place: those of the vectors that are visited at it.
 fn pairs(
     here: Place,
     columns: &[i64],
@@ -513,7 +515,7 @@ fn pairs(
 ) -> usize
     requires { ⌜ Setup (here .search) (now columns) (now values) (now basis) (now order) × Here (now columns) (now values) (now order) here
         × Indexed (here .search .view) (now basis) (now supports) (now holders)
-        × Sighting here (now columns) (now values) (now basis) (now order) 0 (now notes) z
+        × Visiting here (now columns) (now values) (now basis) (now order) 0 (now notes) z
         × (here .at * span + firstPair ≤ z) ⌝ }
     ensures { λ r. ⌜ Before (here .search) (now (columns .entry)) (now (values .entry)) (now (basis .entry)) (now (order .entry))
         (now (notes .entry)) (here .at + 1) r ⌝ }
@@ -523,7 +525,7 @@ fn pairs(
     let mut set = holders[i];
     while 0 < set {
         let s = first(set);
-        if top_at(notes, s) == here.at {
+        if visited_at(notes, s) == here.at {
             best = pairs_of(
                 here,
                 columns,
@@ -542,14 +544,14 @@ fn pairs(
     best
 }
 
-// Whether some vector of a set has not been seen.
-fn any_unseen(notes: &[usize], members: Set) -> bool
+// Whether some vector of a set has not been visited.
+fn any_unvisited(notes: &[usize], members: Set) -> bool
     requires { ⌜ (length (now notes) ≡ notesLong) × ((s : ℕ) → has members s ≡ true → s < maxColumns) ⌝ }
-    ensures { λ r. ⌜ (r ≡ false → (s : ℕ) → has members s ≡ true → topAt (now (notes .entry)) s < maxColumns) ⌝ }
+    ensures { λ r. ⌜ (r ≡ false → (s : ℕ) → has members s ≡ true → visitedAt (now (notes .entry)) s < maxColumns) ⌝ }
 {
     let mut set = members;
     while 0 < set {
-        if Problem::MAX_COLUMNS <= top_at(notes, first(set)) {
+        if Problem::MAX_COLUMNS <= visited_at(notes, first(set)) {
             return true;
         }
         set = rest(set);
@@ -557,7 +559,7 @@ fn any_unseen(notes: &[usize], members: Set) -> bool
     false
 }
 
-// The least of z and the moves that place k is the first to see.
+// The least of z and the moves of the vectors that are visited at place k.
 fn search_place(
     search: Search,
     columns: &[i64],
@@ -577,7 +579,7 @@ fn search_place(
 {
     let i = order[k];
     let members = holders[i];
-    if !any_unseen(notes, members) {
+    if !any_unvisited(notes, members) {
         return z;
     }
     let part = search.part;
@@ -629,7 +631,7 @@ pub(crate) fn first_step(
         × (length (now notes) ≡ notesLong) ⌝ }
     ensures { λ r. ⌜ r ≡ stepAlong search (now (columns .entry)) (now (values .entry)) (now (basis .entry)) (now (order .entry)) ⌝ }
 {
-    unsee(notes, search.view.vectors);
+    clear_visits(notes, search.view.vectors);
     let len = order.len();
     let mut z = len * SPAN;
     let mut k = 0;

@@ -4,7 +4,7 @@ ghost use mathlib.Core.Bool.{true};
 ghost use Prim.Native.Nat.{ℕ, _<_};
 ghost use lib.ListN.{length};
 ghost use Rattle.whole.specs.Tests.{every};
-ghost use Rattle.search.specs.Probes.{passesBy, Testable, Covered, Failing, FailingIn};
+ghost use Rattle.search.specs.Probes.{passesBy, Testable, Covered, Blocking, BlockingIn};
 ghost use Rattle.search.specs.Sets.{has};
 use crate::sets::Set;
 use crate::sets::first;
@@ -47,8 +47,8 @@ fn passes_by(columns: &[i64], values: &[i64], p: Sum, x: &[i64], y: &[i64], j: u
     passes(part, moved, e, p.q)
 }
 
-// The first column of a set that does not pass, or how many columns there are.
-fn first_failing(
+// The first blocking column of a set, which does not pass, or how many columns there are.
+fn first_blocking(
     columns: &[i64],
     values: &[i64],
     p: Sum,
@@ -57,7 +57,7 @@ fn first_failing(
     members: Set,
 ) -> usize
     requires { ⌜ Testable (now columns) (now values) p (now x) (now y) × ((j : ℕ) → has members j ≡ true → j < length (now values)) ⌝ }
-    ensures { λ r. ⌜ FailingIn members (length (now (values .entry)))
+    ensures { λ r. ⌜ BlockingIn members (length (now (values .entry)))
         (passesBy (now (columns .entry)) (now (values .entry)) p (now (x .entry)) (now (y .entry))) r ⌝ }
 {
     let mut set = members;
@@ -71,8 +71,8 @@ fn first_failing(
     x.len()
 }
 
-// A column that does not pass under a x, or how many columns there are. Column i is tried first, then the guess, which may be any number.
-pub(crate) fn find_failing(
+// A blocking column of a x, which does not pass, or how many columns there are. Column i is tried first, then the guess, which may be any number.
+pub(crate) fn find_blocking(
     columns: &[i64],
     values: &[i64],
     p: Sum,
@@ -83,7 +83,7 @@ pub(crate) fn find_failing(
 ) -> usize
     requires { ⌜ Testable (now columns) (now values) p (now x) (now x) × Covered (length (now values)) p (now x) (now x) members members
         × (i < length (now values)) ⌝ }
-    ensures { λ r. ⌜ Failing (length (now (values .entry)))
+    ensures { λ r. ⌜ Blocking (length (now (values .entry)))
         (passesBy (now (columns .entry)) (now (values .entry)) p (now (x .entry)) (now (x .entry))) r ⌝ }
 {
     if !passes_by(columns, values, p, x, x, i) {
@@ -94,7 +94,7 @@ pub(crate) fn find_failing(
             return guess;
         }
     }
-    first_failing(columns, values, p, x, x, members)
+    first_blocking(columns, values, p, x, x, members)
 }
 
 // Whether all columns pass under a x + b y, which changes those of two sets at most. The first set is tried first.
@@ -112,8 +112,8 @@ pub(crate) fn all_pass(
         (passesBy (now (columns .entry)) (now (values .entry)) p (now (x .entry)) (now (y .entry))) ⌝ }
 {
     let n = x.len();
-    if first_failing(columns, values, p, x, y, one) < n {
+    if first_blocking(columns, values, p, x, y, one) < n {
         return false;
     }
-    n <= first_failing(columns, values, p, x, y, other)
+    n <= first_blocking(columns, values, p, x, y, other)
 }

@@ -1,5 +1,5 @@
 // Settling under a limit: steps of the search, one after the other. What the search keeps between them is the order of the goals part, and the
-// columns at which vectors failed, where they are tried first.
+// blocking columns of the vectors, which are tried first.
 ghost use mathlib.Core.Path.{_≡_};
 ghost use Prim.Native.Nat.{_<_};
 ghost use Rattle.problem.specs.Answers.{noSteps};

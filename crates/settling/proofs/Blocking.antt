@@ -1,6 +1,5 @@
 -- What the search may skip. Along the ranking the measure to come below only falls: a move that improves a column also improves each higher
 -- column that it changes, so that it has to be tried only at the highest column that it changes.
---   every-not          a test that fails at some place does not hold at every one
 --   Proper p C v j     the measure of column j is a fraction
 --   fit-proper         it is, where the column fits, is ranked and has a value that a move may leave
 --   weak               proper columns are ordered by their measures
@@ -30,25 +29,14 @@ use Rattle.settling.specs.Measures.{fraction, below, distance, ratio, me
 use Rattle.settling.specs.Steps.{isRanked, isCompared, isAllowed, passes, measureAt, largerAt, passesAt, improves}
 use Rattle.settling.specs.Ready.{FitColumn}
 use Rattle.settling.proofs.Sizes.{inside-above}
-use Rattle.settling.proofs.Orders.{Weak, under-past, below-weak}
-
--- ---- every
-pub every-not : (n : ℕ) (f : ℕ → Bool) (j : ℕ) → j < n → f j ≡ false → every n f ≡ false
-every-not n f j h e = go (every n f) refl
-  where
-    go : (b : Bool) → every n f ≡ b → every n f ≡ false
-    go true g = absurd (true≢false (sym (every-at n f j g h) ∙ e))
-    go false g = g
+use Rattle.settling.proofs.Orders.{Weak, under-past, below-weak, weak-by}
 
 -- ---- measures with a bottom above 0 are ordered as fractions
 abbrev pub Proper : Part → Columns → List ℤ → ℕ → Type 0
 Proper p C v j = 0 < measureAt p C v j .bottom
 
 pub weak : (p : Part) (C : Columns) (v : List ℤ) → Weak (Proper p C v) (largerAt p C v)
-weak p C v = record {
-  asym = λ i j e. below-weak .asym (measureAt p C v j) (measureAt p C v i) e;
-  past = λ i j k b e f. below-weak .past (measureAt p C v k) (measureAt p C v j) (measureAt p C v i) (omega (arith, b)) f e;
-}
+weak p C v = weak-by (measureAt p C v) (λ i h. h)
 
 -- ---- what makes a measure a fraction
 ratio-proper : (low high w : ℕ) → 0 < low → 0 < w → 0 < ratio low high w .bottom

@@ -2,15 +2,14 @@
 --   Keeps Q N       adding a multiple of a vector of N to a list with the property Q leaves one with Q
 --   seat-keeps      seating keeps such a property
 --   settle-keeps    and so do the steps of settling
---   never           what follows where two constructors are told to be equal
 -- Assumes nothing.
 use mathlib.Core.Path.{_≡_, subst}
 use mathlib.Core.Bool.{Bool, true, false, cond}
 use mathlib.Core.List.{List, [], _∷_}
 use Prim.Native.Nat.{ℕ, zero, suc}
-use native.Mathlib.Omega.{arith}
 use lib.IntN.{ℤ}
 use lib.ListN.{getD}
+use Rattle.whole.proofs.Never.{never}
 use Rattle.lattice.specs.Rows.{plus}
 use Rattle.lattice.specs.Span.{All}
 use Rattle.problem.specs.Limits.{anyBeyond}
@@ -24,10 +23,6 @@ use Rattle.settling.specs.Seating.{seated, far, seatOne, seat}
 use Rattle.settling.specs.Moves.{vector, moved}
 use Rattle.settling.specs.Steps.{partOf, nextStep}
 use Rattle.settling.specs.Settle.{ended, atRest, counted, onStep, settleFrom}
-
--- two constructors are never equal: `cc` then has 0 equal to 1
-pub never : {A : Type 0} → _≡_ {A = ℕ} 0 1 → A
-never e = absurd (omega arith)
 
 -- ---- what sums of vectors keep
 pub record Keeps (Q : List ℤ → Type 0) (N : List (List ℤ)) : Type 0 where

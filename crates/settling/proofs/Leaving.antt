@@ -33,7 +33,7 @@ use Rattle.settling.specs.Settle.{ended, atRest, counted, onStep, settle
 use Rattle.settling.specs.Strides.{stride, stridesFrom, strides}
 use Rattle.settling.specs.Ready.{FitColumn}
 use Rattle.settling.proofs.Settlings.{Values, taken-values, counted-sum}
-use Rattle.settling.proofs.Keeping.{never}
+use Rattle.whole.proofs.Never.{never}
 
 -- ---- seating
 seated-one : (C : Columns) (n : ℕ) (r v : List ℤ) → length v ≡ n → anyBeyond (seatOne C r v) ≡ false → Values n (seatOne C r v)

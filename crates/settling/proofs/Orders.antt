@@ -9,6 +9,7 @@
 --   Total In lt         of two that differ one is below
 --   Determinate q       the fraction q is not 0/0
 --   below-weak          `below`, by cross products, is such an order, in which those are proper
+--   weak-by             so is "larger" of those that have a fraction with a bottom above 0
 -- Assumes nothing.
 use mathlib.Core.Path.{_≡_, refl, sym, _∙_}
 use mathlib.Core.Bool.{Bool, true, false, true≢false}
@@ -94,4 +95,10 @@ below-weak = record {
       le-ltb (x .top * z .bottom) (z .top * x .bottom)
       (products (x .top) (x .bottom) (y .top) (y .bottom) (z .top) (z .bottom) h
       (ltb-false (x .top * y .bottom) (y .top * x .bottom) e) (ltb-false (y .top * z .bottom) (z .top * y .bottom) f));
+}
+
+pub weak-by : {A : Type 0} {In : A → Type 0} (f : A → Measure) → ((x : A) → In x → 0 < f x .bottom) → Weak In (λ x y. below (f y) (f x))
+weak-by f p = record {
+  asym = λ x y e. below-weak .asym (f y) (f x) e;
+  past = λ x y z i e g. below-weak .past (f z) (f y) (f x) (omega (arith, p y i)) g e;
 }

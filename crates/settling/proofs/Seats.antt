@@ -1,6 +1,7 @@
--- The laws of specs/Seats.
+-- How large the numbers of seating are, and how seating goes from vector to vector.
 --   ideal-small             an ideal lies in bounds
 --   gap-small, quotient-small, product-small   how large a gap is, how often a row is then added, and what that adds
+--   twice-above             a lead above 0 is so when doubled
 --   seat-end, -far, -on     seating from vector s on: no vector is left; an addition leaves a value beyond ±M; it does not
 --   placeable, row-..       the lists, and each row of the basis, can be used for an addition; `still-seatable` and again after it
 --   none-beyond             where none is found beyond ±M, each number lies within
@@ -19,6 +20,7 @@ use lib.ListN.{length, drop, drop-of-length-le}
 use lib.Signed.{ltZ, _<ℤ_}
 use Rattle.whole.specs.Lists.{entry}
 use Rattle.whole.proofs.Integers.{_⊖_, ⊖-pos, ⊖-negsuc, rep, diff-rel}
+use Rattle.whole.proofs.Never.{never}
 use Rattle.whole.specs.Quotient.{floorQuotient, nearestQuotient}
 use Rattle.whole.proofs.Signed.{abs-add, abs-mul}
 use Rattle.problem.specs.Limits.{M, maxBound, beyond, anyBeyond}
@@ -67,7 +69,7 @@ under : (n b a : ℕ) (x y z : ℤ) → x ≡ 0 ⊖ suc n → y ≡ b ⊖ 0 → 
 under n b a x y z ex ey ez = rw (ex, ey, ez) (simp diff-rel (omega arith))
 
 sum-under : (x : ℤ) (b a : ℕ) → x +ℤ pos b ≡ negsuc a → suc a ≤ natAbs x
-sum-under (pos n) b a e = let z : _≡_ {A = ℕ} 0 1 = cc in absurd (omega arith)
+sum-under (pos n) b a e = never (cc)
 sum-under (negsuc n) b a e = under n b a (negsuc n) (pos b) (negsuc a) (⊖-negsuc n) (⊖-pos b) (⊖-negsuc a) e
 
 pub quotient-small : (d p : ℤ) → pos 0 <ℤ p → natAbs (nearestQuotient d p) ≤ natAbs d + 1

@@ -1,5 +1,5 @@
--- The laws of specs/Sizes.
---   distance-under ..   the three cases of the distance
+-- How large distances and measures are.
+--   distance-under, -over, -inside   the three cases of the distance
 --   between, inside-small   a value in bounds is no larger than they are; `inside-above` nor 0, where the lower bound is 1 or more
 --   measure-room        the measure of a sized column has room
 --   allowed-sized       a value that a move may leave in part p can be measured there; `sized-near` one that can be measured is near

@@ -16,6 +16,7 @@ use lib.ListN.{length, List·getD-eq-default}
 use Rattle.whole.specs.Lists.{entry}
 use Rattle.whole.specs.Tests.{isZero, every}
 use Rattle.whole.proofs.Counted.{every-at}
+use Rattle.whole.proofs.Never.{never}
 use Rattle.whole.proofs.Integers.{isZero-true}
 use Rattle.whole.proofs.Tests.{both-true}
 use Rattle.settling.specs.declared.Move.{Move}
@@ -34,7 +35,7 @@ use Rattle.settling.proofs.Insertion.{Each, each-ranked}
 use Rattle.settling.proofs.Passing.{passes-measured}
 
 not-take : {i : ℕ} {o : Move} → Rest ≡ Take i o → ⊥
-not-take {i} {o} e = let z : _≡_ {A = ℕ} 0 1 = cc in omega arith
+not-take {i} {o} e = never (cc)
 
 same-column : {i j : ℕ} {o u : Move} → Take i o ≡ Take j u → i ≡ j
 same-column {i} {j} {o} {u} e = cc

@@ -1,4 +1,4 @@
--- The laws of specs/StrideLaws.
+-- Laws of the strides, for the loop over the vectors, from the last on, and for the one over the columns.
 --   stride-none, -past, -up     the vectors from s on, where s counts down: none, one more that leaves the column as it is, one more
 --   stride-one                  1 from some vector on is 1 from the first on
 --   Filled N d₀ d j             the first j numbers of d are strides, and it is as long as d₀

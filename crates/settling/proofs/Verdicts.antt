@@ -15,6 +15,7 @@ use lib.IntN.{ℤ}
 use lib.ListN.{length}
 use Rattle.whole.specs.Tests.{every}
 use Rattle.whole.proofs.Counted.{every-at}
+use Rattle.whole.proofs.Never.{never}
 use Rattle.problem.specs.Answers.{noSteps, isVerdict}
 use Rattle.problem.specs.declared.Counts.{Counts}
 use Rattle.problem.specs.declared.Answer.{Answer}
@@ -33,7 +34,6 @@ use Rattle.settling.specs.Settle.{Settled, ended, atRest, counted, onSte
 use Rattle.settling.specs.Verdicts.{Listed, Improving, AllInBounds, SomeOutside, NoMoveImproves, Means}
 use Rattle.settling.proofs.Insertion.{Each, ranked-each}
 use Rattle.settling.proofs.Stepping.{next-taken}
-use Rattle.settling.proofs.Keeping.{never}
 
 -- ---- no step is left
 no-move : (good : Move → Bool) (i : ℕ) (R : List Move) (o : Move) → firstMove good i R ≡ Rest → Listed o R → good o ≡ true → ⊥

@@ -1,4 +1,4 @@
--- The laws of specs/Views.
+-- Where the vectors of a basis lie in its slice, and what a move makes of the values.
 --   rows-length        there are as many as the view says
 --   vectors-is, -drop  vector s, and those from s on
 --   vectors-at         the number at column j of vector s

@@ -3,15 +3,16 @@
 --                      is both goals
 --   Columns            their count n, and each of them; a list of values has n numbers
 --   Cell               a column's bounds and goals, and its value (declared in src/)
---   cell C v j         column j with its value in the list v
+--   valued c x         a column with the value x; cell C v j, column j with its value in the list v
 --   withGoal lo hi g   the column with the bounds lo and hi and the one goal g, which also gives its wish
 --   listed n lo hi gs  the n columns of a list of lower bounds, one of upper bounds and one of goals
 --   width              how many numbers the record of a column has in a table: lower bound, upper bound, low goal, high goal, whether a wish is set,
 --                      wish
 --   columnAt t j       the column whose record is the j-th of the table t
+--   wishOf, wishNumbers   the wish that two numbers stand for, and the two numbers of a wish
 --   columnsIn n t      the n columns of a table
 --   recordOf c         the record of a column
---   packed C           the table of the columns C, record after record
+--   packed C           the table of the columns C, record after record; packedFrom f k j, of k columns from column j on
 -- Assumes nothing.
 use mathlib.Core.Bool.{cond}
 use mathlib.Core.List.{List, [], _∷_, _++_}
@@ -52,7 +53,7 @@ listed n lo hi gs = record { count = n; column = λ j. withGoal (entry j lo) (en
 abbrev pub width : ℕ
 width = 6
 
--- the wish that two numbers stand for: whether one is set, and which
+-- whether a wish is set, and which
 abbrev pub wishOf : ℤ → ℤ → Wish
 wishOf given x = cond (isZero given) Unset (Set x)
 
@@ -77,7 +78,6 @@ wishNumbers (Set x) = pos 1 ∷ x ∷ []
 abbrev pub recordOf : Column → List ℤ
 recordOf c = c .lower ∷ c .upper ∷ c .low ∷ c .high ∷ wishNumbers (c .wish)
 
--- the records of the columns j and on, k of them
 unfoldable pub packedFrom : (ℕ → Column) → ℕ → ℕ → List ℤ
 packedFrom f zero j = []
 packedFrom f (suc k) j = recordOf (f j) ++ packedFrom f k (suc j)

@@ -1,8 +1,9 @@
 -- Document 01, "Seating": the ideal of a column, document 01's own term for the number that seating pulls it to.
---   goalIdeal g         "k is floor(g/1000); take 1 if k = 0, k + 1 if k(k + 1) × 1,000,000 < g × g, else k"
+--   goalIdeal g         "k is floor(g/1000); take 1 if k = 0, k + 1 if k(k + 1) × 1,000,000 < g × g, else k"; idealFrom g k, so
 --   into lo hi x        x brought into the bounds lo to hi
 --   Wish                what a column is to come to: a number, or nothing set (declared in src/)
---   goalWish g          the wish of a goal; nothing for 0, no goal
+--   goalWish g          the wish of a goal; nothing for 0, no goal; wishFrom of its magnitude
+--   wished w x          the wish, or the present value x where none is set
 --   ideal lo hi w x     the wish brought into the bounds; "Without a goal it is the present value brought into the bounds"
 -- Seating takes wishes and not goals, so that a wish may come from elsewhere too.
 -- Assumes nothing.
@@ -14,7 +15,6 @@ use lib.Signed.{ltZ}
 use Rattle.settling.specs.declared.Wish.{Wish}
 use Rattle.settling.specs.declared.Wish.the-variants.{Unset, Set}
 
--- for the goal g and its whole intervals k
 abbrev pub idealFrom : ℕ → ℕ → ℕ
 idealFrom g zero = 1
 idealFrom g (suc k) = cond (ltb (suc k * (suc k + 1) * 1000000) (g * g)) (suc k + 1) (suc k)
@@ -32,7 +32,6 @@ wishFrom (suc g) = Set (pos (goalIdeal (suc g)))
 abbrev pub goalWish : ℤ → Wish
 goalWish g = wishFrom (natAbs g)
 
--- the wish, or the present value x
 abbrev pub wished : Wish → ℤ → ℤ
 wished Unset x = x
 wished (Set y) x = y

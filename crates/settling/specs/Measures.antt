@@ -1,6 +1,7 @@
 -- Document 01, "Moves and settling": how far a column is from what is wanted of it.
 --   Measure              a fraction of natural numbers (declared in src/)
---   below p q            p is the smaller one, "compared exactly by cross products"
+--   fraction a b         the measure a/b
+--   below p q            p is the smaller one, "compared exactly by cross products"; larger p q, the other one
 --   Cell                 a column's bounds and goals, and its value (declared in src/)
 --   distance c           "how far it lies outside its bounds"
 --   ratio low high v     "for goal g and value v of 1 or more, is the larger of 1000v/g and g/1000v"; here the first is over a low goal and the

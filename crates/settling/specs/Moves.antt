@@ -1,6 +1,9 @@
 -- Document 01, "Moves and settling": the moves over a basis N1 to Nr, which are counted from 0 here.
 --   Move            a Ns + b Nt, with a and b of +1 or −1; a single vector has b = 0 (declared in src/)
+--   single, pair    the moves of one vector and of two
 --   moves r         "Moves in order: +N1, −N1, +N2 and on; then the pairs s < t in rising (s, t), each as ++, +−, −+, −−."
+--   singles, pairs k s   of the vectors s and on, k of them; pairsWith k s t, the pairs of s and of those; signPairs s t, the four of s and t
+--   vector N s      vector s of the basis N, or none
 --   change N o j    what the move o adds to column j
 --   changes N o j   it changes column j
 --   moved N o v     the values after the move
@@ -21,7 +24,6 @@ single s a = record { s = s; a = a; t = s; b = pos 0 }
 abbrev pub pair : ℕ → ℤ → ℕ → ℤ → Move
 pair s a t b = record { s = s; a = a; t = t; b = b }
 
--- +Ns, −Ns and on, k vectors
 unfoldable pub singles : ℕ → ℕ → List Move
 singles zero s = []
 singles (suc k) s = (single s (pos 1) ∷ single s (negsuc 0) ∷ []) ++ singles k (suc s)
@@ -29,12 +31,10 @@ singles (suc k) s = (single s (pos 1) ∷ single s (negsuc 0) ∷ []) ++ singles
 abbrev pub signPairs : ℕ → ℕ → List Move
 signPairs s t = pair s (pos 1) t (pos 1) ∷ pair s (pos 1) t (negsuc 0) ∷ pair s (negsuc 0) t (pos 1) ∷ pair s (negsuc 0) t (negsuc 0) ∷ []
 
--- s with t and on, k vectors
 unfoldable pub pairsWith : ℕ → ℕ → ℕ → List Move
 pairsWith zero s t = []
 pairsWith (suc k) s t = signPairs s t ++ pairsWith k s (suc t)
 
--- the pairs of s and on, k vectors
 unfoldable pub pairs : ℕ → ℕ → List Move
 pairs zero s = []
 pairs (suc k) s = pairsWith k s (suc s) ++ pairs k (suc s)

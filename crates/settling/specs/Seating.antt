@@ -1,4 +1,5 @@
 -- Document 01, "Seating", its own term: each basis vector is added so often that its lead column comes nearest to its ideal.
+--   idealAt, gapAt C v c   the ideal of column c, and that less the present value
 --   seatOne C r v     the values v after the addition for the vector r
 --   Seated            the seated list; or `far`, "a value beyond ±M after a seating addition" (refusal 9)
 --   seat C N v        "For N1 to Nr in order"

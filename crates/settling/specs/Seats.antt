@@ -1,7 +1,7 @@
 -- Seating, a vector at a time.
 --   within v                v as a seated list; or `far`, where a value of it lies beyond ±M
 --   Placeable, Addable      lists of fitting length, with numbers small enough for a gap and for an addition
---   PositiveLead r                   the row has a lead above 0, and so a column for it
+--   PositiveLead r          the row has a lead above 0, and so a column for it
 --   Seatable B v ..         what seating needs: lists that are ready, and a basis of such rows, whose leads rise
 -- Assumes nothing.
 use mathlib.Core.Path.{_≡_}

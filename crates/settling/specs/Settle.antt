@@ -1,6 +1,9 @@
 -- Document 01, "Moves and settling": settling under a limit, its own term.
---   Settled            the verdict with the step counts of the two parts, and the values
+--   Settled            the verdict with the step counts of the two parts, and the values; `ended` makes one
+--   atRest, counted    the verdict where no move improves; the counts with one more step of a part
+--   onStep s z f       z where no move improves, else what f makes of the step's move
 --   settle limit ..    steps while some move improves and the limit is not reached; "The limit covers both parts together."
+--   settleFrom g ..    with g steps left, after the steps counted
 -- "FITTED: all in bounds and no move improves. OUTSIDE: some column out of bounds and no move improves. SPENT: limit reached and some move still
 -- improves."
 -- Assumes nothing.
@@ -27,12 +30,10 @@ pub record Settled : Type 0 where
 abbrev pub ended : Answer → List ℤ → Settled
 ended a v = record { answer = a; values = v }
 
--- no move improves, in the part that is reached
 abbrev pub atRest : Part → Counts → Answer
 atRest Goals k = Fitted k
 atRest Bounds k = Outside k
 
--- one more step of a part
 abbrev pub counted : Part → Counts → Counts
 counted Bounds k = record { bounds = suc (k .bounds); goals = k .goals }
 counted Goals k = record { bounds = k .bounds; goals = suc (k .goals) }
@@ -41,7 +42,7 @@ abbrev pub onStep : Step → Settled → (Move → Settled) → Settled
 onStep Rest z f = z
 onStep (Take i o) z f = f o
 
--- g steps left after the steps k; "Then the ranking is made anew"
+-- "Then the ranking is made anew"
 unfoldable pub settleFrom : ℕ → Columns → List (List ℤ) → Counts → List ℤ → Settled
 settleFrom zero C N k v = onStep (nextStep C N v) (ended (atRest (partOf C v) k) v) (λ o. ended (Spent k) v)
 settleFrom (suc g) C N k v =

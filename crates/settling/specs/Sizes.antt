@@ -1,7 +1,8 @@
 -- How large the numbers of settling are, so that no machine number overflows.
 --   Near x              a value after a move: two vectors may each add M to a value within ±M
---   FitCell p c           the column c has bounds and goals within the limits, and a value that the measure of part p can take
---   Crossable q              a measure whose cross products with another one fit
+--   reach p             how large a value may be that is measured in part p
+--   FitCell p c         the column c has bounds and goals within the limits, and a value that the measure of part p can take
+--   Crossable q         a measure whose cross products with another one fit
 -- Assumes nothing.
 use Prim.Native.Nat.{ℕ, _*_, _≤_}
 use lib.IntN.{ℤ, natAbs}
@@ -14,7 +15,7 @@ use Rattle.settling.specs.declared.Part.the-variants.{Bounds, Goals}
 abbrev pub Near : ℤ → Type 0
 Near x = natAbs x ≤ 3 * M
 
--- how large a value may be that is measured: in the goals part it lies in bounds
+-- in the goals part a value lies in bounds
 abbrev pub reach : Part → ℕ
 reach Bounds = 3 * M
 reach Goals = maxBound

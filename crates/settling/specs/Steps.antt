@@ -1,8 +1,13 @@
 -- Document 01, "Moves and settling": a step.
 --   inBounds C v       all distances are 0
---   partOf C v         "Bounds part, while some distance is above 0"; "Goals part, once all distances are 0"
+--   partOf C v         "Bounds part, while some distance is above 0"; "Goals part, once all distances are 0"; `partIf` by inBounds
+--   isRanked, isCompared, isAllowed   of one column: it is tried; a move that changes it is to lower its measure; a move may leave its value
+--   passes p c e q     a move that adds e to a column, which is then c, does what it has to, against the measure q
+--   measureAt, rankedAt, passesAt, largerAt   the same of a problem's columns
 --   improves ..        a move improves a column
---   ranking part C v   the columns in the order in which they are tried
+--   ranking part C v   the columns in the order in which they are tried; `insert` and rankFrom sort them
+--   firstMove, firstColumn   the first good move, and the first column with a step; orElse, the one step or else the other
+--   stepAt, stepOf     the step of a column, and of a part
 --   Step               the column and its move, or that no move improves (declared in src/)
 --   nextStep C N v     "A step takes the first column with an improving move, and its first such move, once."
 --   Turn               a step with the part that it belongs to (declared in src/)
@@ -55,7 +60,6 @@ abbrev pub isAllowed : Part → Cell → Bool
 isAllowed Bounds c = not (beyond (c .value))
 isAllowed Goals c = eqb (distance c) 0
 
--- a move adds e to a column, which is then c, where it has to come below q
 unfoldable pub passes : Part → Cell → ℤ → Measure → Bool
 passes p c e q = isAllowed p c && (not (not (isZero e) && isCompared p c) || below (measure p c) q)
 

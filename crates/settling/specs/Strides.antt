@@ -1,6 +1,6 @@
 -- Document 01, "Moves and settling", **Stride** of a column, its own term: by how much the basis can change it.
 --   stride N j         "the greatest common divisor of its entries' magnitudes in the basis, 0 if all are 0"
---   strides n N        of the columns 0 to n − 1
+--   strides n N        of the columns 0 to n − 1; stridesFrom N k j, of k columns from j on
 --   GreatestOf N j d   d divides the magnitude of entry j of every row of N, whatever divides all of these divides d, and d is 0 if all are 0
 --   StrideGreatest     the stride of a column is that
 -- Assumes nothing.
@@ -16,7 +16,6 @@ unfoldable pub stride : List (List ℤ) → ℕ → ℕ
 stride [] j = 0
 stride (r ∷ N) j = divisor (natAbs (entry j r)) (stride N j)
 
--- of k columns from j on
 unfoldable pub stridesFrom : List (List ℤ) → ℕ → ℕ → List ℕ
 stridesFrom N zero j = []
 stridesFrom N (suc k) j = stride N j ∷ stridesFrom N k (suc j)

@@ -45,7 +45,7 @@ pub fn cell_at(columns: &[i64], values: &[i64], j: usize) -> Cell
 }
 
 // The wish of column j.
-pub fn wish_at(columns: &[i64], j: usize) -> Wish
+pub(crate) fn wish_at(columns: &[i64], j: usize) -> Wish
     requires { ⌜ width * j + width ≤ length (now columns) ⌝ }
     ensures { λ r. ⌜ r ≡ columnAt (now (columns .entry)) j .wish ⌝ }
 {

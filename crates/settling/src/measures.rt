@@ -31,7 +31,7 @@ fn gap(a: i64, b: i64) -> u64
 }
 
 // How far a column lies outside its bounds.
-pub fn distance(c: Cell) -> u64
+fn distance(c: Cell) -> u64
     requires { ⌜ FitCell Bounds c ⌝ }
     ensures { λ r. ⌜ r ≡ Measures.distance c ⌝ }
 {

@@ -22,6 +22,7 @@ use lib.IntN.{ℤ, pos}
 use lib.ListN.{length, take, replicate, length-append, length-map}
 use lib.Seq.{take-at}
 use Rattle.whole.specs.Lists.{zeros}
+use Rattle.whole.proofs.Never.{never}
 use Rattle.problem.specs.Checks.{Posed}
 use Rattle.problem.specs.declared.Refusal.{Refusal}
 use Rattle.problem.specs.declared.Refusal.the-variants.{Size}
@@ -135,9 +136,6 @@ columnsRead (TurnedBack why) = 0
 abbrev rowsRead : Reading → ℕ
 rowsRead (Read n m) = m
 rowsRead (TurnedBack why) = 0
-
-never : {A : Type 0} → _≡_ {A = ℕ} 0 1 → A
-never e = absurd (omega arith)
 
 pub refused-into : (o s : List ℕ) (B D : DeckBuffers) (why : Refusal) → lengthsFit B ≡ true → readDone (TurnedBack why) D ≡ read s B
     → placedIn o (listing (Refused why) [] []) ≡ printInto o s

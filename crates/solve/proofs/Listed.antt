@@ -23,7 +23,7 @@ use Rattle.sections.specs.Rules.{Outcome, ok, no}
 use Rattle.deck.specs.Posing.{Deck, readDeck, posed}
 use Rattle.engine.specs.Assign.{Buffers, Done, assign}
 use Rattle.engine.proofs.Leaving.{Leaves, assign-leaves}
-use Rattle.settling.proofs.Keeping.{never}
+use Rattle.whole.proofs.Never.{never}
 use Rattle.settling.proofs.Leaving.{total}
 use Rattle.report.specs.Listing.{listing, ListingDone, listingDone}
 use Rattle.report.specs.declared.Written.{Written}

@@ -4,4 +4,5 @@ pub mod Lists
 pub mod Signed
 pub mod Euclid
 pub mod Counted
+pub mod Never
 pub mod Integers

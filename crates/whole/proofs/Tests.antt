@@ -1,5 +1,5 @@
 -- Laws of tests.
---   both-true, all-true        where two or three tests hold together, each of them holds
+--   both-true, all-true        where two or all-true tests hold together, each of them holds
 --   neither                    where neither of two marks is set
 --   passed, failed             what a test t is, where the code turned its result r round
 --   not-less                   "at most", by the test that the code makes

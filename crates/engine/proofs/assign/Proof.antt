@@ -2,7 +2,6 @@
 use mathlib.Core.Path.{_≡_, refl, sym, _∙_, ap, subst}
 use mathlib.Core.Bool.{Bool, false, cond}
 use mathlib.Core.List.{List, _++_}
-use Prim.Native.Nat.{ℕ, _*_}
 use native.Mathlib.Omega.{arith}
 use borrow.Author.Needs.{needs}
 use lib.Seq.{length-take-le}
@@ -17,12 +16,11 @@ use Rattle.problem.specs.declared.Refusal.the-variants.{Elimination, NoWholeNum
 use Rattle.rightside.specs.Solutions.{solutionOf}
 use Rattle.rightside.specs.declared.Solution.the-variants.{Over, None, Found}
 use Rattle.rightside.proofs.Answers.{solution-over, solution-none, solution-found, start-found}
-use Rattle.settling.specs.Columns.{Columns, width, listed, columnsIn, packed}
+use Rattle.settling.specs.Columns.{Columns, columnsIn}
 use Rattle.settling.proofs.Fronts.{part-length, part-back, part-fits}
-use Rattle.settling.proofs.Packing.{packed-length}
 use Rattle.engine.specs.Assign.{Buffers, posedBy, buffers, columns, lentOf, refused, solved, assign}
 use Rattle.engine.specs.Finish.{finished, Finishable}
-use Rattle.engine.proofs.Readiness.{table, table-columns}
+use Rattle.engine.proofs.Readiness.{table, table-columns, cells, PackedIn, packable, packed-in, packed-fits, packed-back, packed-long}
 use Rattle.engine.proofs.Forming.{solvable, Laid}
 use Rattle.engine.proofs.Assigning.{doneWith, Some, some-is, solved-form, solved-kept, assign-over, assign-none, assign-found, finishable, assign-failed, assign-passed}
 use Rattle.engine.proofs.assign.Statement.{statement}
@@ -54,15 +52,8 @@ module _ (k : tie.After-pack) where
   abbrev by : tie.Start
   by = at (k .before .before)
 
-  is : k .pack .last .0 ≡ table (P by)
-  is = k .pack .ensures ∙ ap (λ (n : ℕ). packed (listed n (by .args .lower .now) (by .args .upper .now) (by .args .goals .now))) (f (k .before .before) .lower-long)
-
-  wide : length (k .pack .last .0) ≡ width * by .args .p .columns
-  wide = ap length is ∙ packed-length (columns (P by) .column) (by .args .p .columns) 0
-
-  -- lent again
-  lent : (t : List ℤ) → take (width * by .args .p .columns) (k .pack .last .0 ++ drop (width * by .args .p .columns) t) ≡ table (P by)
-  lent t = part-back (width * by .args .p .columns) (k .pack .last .0) t wide ∙ is
+  packed : PackedIn (P by) (k .pack .last .0)
+  packed = packed-in (P by) (lentOf (B by)) (f (k .before .before)) (k .pack .last .0) (k .pack .ensures)
 
 -- what is left in the tableau, that it is the form where the problem is not past the limit, and the starting list
 module _ (v : tie.After-solve) where
@@ -120,18 +111,13 @@ array-borrow-prefix-columns : tie.Need-array-borrow-prefix-columns
 array-borrow-prefix-columns c = omega (arith, f c .few-columns)
 
 slice-aggregate-pack : tie.Need-slice-aggregate-pack
-slice-aggregate-pack c = part-length (width * at (c .before) .args .p .columns) _ (omega (arith, f (c .before) .few-columns))
+slice-aggregate-pack c = part-length (cells (P (at (c .before)))) _ (omega (arith, f (c .before) .few-columns))
 
 pack-requires : tie.Need-pack-requires
 pack-requires c κs =
     let s = at (c .before) in
     let g = f (c .before) in
-    record {
-      room = sym (part-length (width * s .args .p .columns) _ (omega (arith, g .few-columns))) ∙ ap (λ (n : ℕ). width * n) (sym (g .lower-long));
-      upper-long = g .upper-long ∙ sym (g .lower-long);
-      goals-long = g .goals-long ∙ sym (g .lower-long);
-      goals-small = g .goals-small;
-    }
+    packable (P s) (lentOf (B s)) g _ (part-length (cells (P s)) _ (omega (arith, g .few-columns)))
 
 array-borrow-prefix-start : tie.Need-array-borrow-prefix-start
 array-borrow-prefix-start c = f (c .before .before .before .before) .few-columns
@@ -155,10 +141,10 @@ enum-told-4 : tie.Need-enum-told-4
 enum-told-4 c = search needs
 
 array-share-prefix-columns : tie.Need-array-share-prefix-columns
-array-share-prefix-columns c = let k = c .before .before .before .before .before .before .before .before in part-fits (width * by k .args .p .columns) (k .pack .last .0) _ (wide k)
+array-share-prefix-columns c = let k = c .before .before .before .before .before .before .before .before in packed-fits (packed k) _
 
 slice-aggregate-finish : tie.Need-slice-aggregate-finish
-slice-aggregate-finish c = let k = c .before .before .before .before .before .before .before .before .before in sym (ap length (part-back (width * by k .args .p .columns) (k .pack .last .0) _ (wide k)) ∙ wide k)
+slice-aggregate-finish c = let k = c .before .before .before .before .before .before .before .before .before in packed-long (packed k) _
 
 array-borrow-prefix-start-2 : tie.Need-array-borrow-prefix-start-2
 array-borrow-prefix-start-2 c = let v = c .before .before .before .before .before .before in part-fits (from v .args .p .columns) (v .solve .last .1 .1 .1 .1 .0) _ (long v)
@@ -171,7 +157,7 @@ finish-requires c κs =
     let v = c .before .before .before .before .before .before .before .before .before in
     let r : Found ≡ solutionOf (solved (P (from v))) = sym (c .before .before .before .before .before .enum-told4 .given .1) ∙ v .solve .ensures .0 in
     let x = some-is (solved (P (from v))) r in
-    finishing v r x _ _ (begins v r x _) (lent (c .before .before .before .before .before .before .before .before .before .before .before .before .before) _)
+    finishing v r x _ _ (begins v r x _) (packed-back (packed (c .before .before .before .before .before .before .before .before .before .before .before .before .before)) _)
 
 same-length : tie.Need-same-length
 same-length c = search needs
@@ -207,7 +193,7 @@ returns-4 c =
     let v = c .before .before .before .before .before .before .before .before .before .before .before .before .before .before in
     let r : Found ≡ solutionOf (solved (P (from v))) = sym (c .before .before .before .before .before .before .before .before .before .before .enum-told4 .given .1) ∙ v .solve .ensures .0 in
     let x = some-is (solved (P (from v))) r in
-    ap (doneWith (v .solve .last .0)) (c .before .before .before .before .finish .ensures) ∙ ending v r x _ _ (begins v r x _) (lent (c .before .before .before .before .before .before .before .before .before .before .before .before .before .before .before .before .before .before) _)
+    ap (doneWith (v .solve .last .0)) (c .before .before .before .before .finish .ensures) ∙ ending v r x _ _ (begins v r x _) (packed-back (packed (c .before .before .before .before .before .before .before .before .before .before .before .before .before .before .before .before .before .before)) _)
 
 pub assign-spec : {M : Type 1} → statement M
 assign-spec =

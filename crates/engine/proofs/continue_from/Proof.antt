@@ -1,13 +1,12 @@
 -- `engine::continue_from` meets its contract: what the checks find decides, and then 10, 7 and settling are the definition's cases. Assumes nothing.
 use mathlib.Core.Path.{_≡_, refl, sym, _∙_, ap, subst}
 use mathlib.Core.Bool.{Bool, true, false, not, cond}
-use mathlib.Core.List.{List, _++_}
-use Prim.Native.Nat.{ℕ, _*_}
+use mathlib.Core.List.{List}
 use native.Mathlib.Omega.{arith}
 use borrow.Author.Needs.{needs}
 use borrow.Author.Tests.{not-true, not-false}
 use lib.IntN.{ℤ}
-use lib.ListN.{length, take, drop}
+use lib.ListN.{length}
 use Rattle.whole.specs.Lists.{zeros}
 use Rattle.lattice.specs.Rows.{flat}
 use Rattle.problem.specs.Limits.{anyBeyond}
@@ -17,13 +16,12 @@ use Rattle.problem.proofs.CheckLaws.{Passes, passes, Fits, fits}
 use Rattle.problem.specs.declared.Check.the-variants.{Passed}
 use Rattle.problem.specs.declared.Refusal.the-variants.{Elimination}
 use Rattle.tableau.proofs.Within.{within-entry}
-use Rattle.settling.specs.Columns.{Columns, width, listed, columnsIn, packed}
-use Rattle.settling.proofs.Fronts.{part-length, part-back, part-fits}
-use Rattle.settling.proofs.Packing.{packed-length}
+use Rattle.settling.specs.Columns.{Columns, columnsIn}
+use Rattle.settling.proofs.Fronts.{part-length}
 use Rattle.engine.specs.Assign.{Buffers, posedBy, buffers, columns, lentOf, refused, stands, formed}
 use Rattle.engine.specs.Finish.{settledOver}
 use Rattle.engine.specs.Placed.{Placed}
-use Rattle.engine.proofs.Readiness.{table, table-columns}
+use Rattle.engine.proofs.Readiness.{table, table-columns, cells, PackedIn, packable, packed-in, packed-fits, packed-back, packed-long}
 use Rattle.engine.proofs.Forming.{formable, Laid, laid-placed}
 use Rattle.engine.proofs.Keeping.{stands-in, standable}
 use Rattle.engine.proofs.Assigning.{doneWith, continue-failed, continue-passed, continue-off, continue-over, continue-settled}
@@ -56,15 +54,8 @@ module _ (k : tie.After-pack) where
   abbrev by : tie.Start
   by = at (k .before .before)
 
-  is : k .pack .last .0 ≡ table (P by)
-  is = k .pack .ensures ∙ ap (λ (n : ℕ). packed (listed n (by .args .lower .now) (by .args .upper .now) (by .args .goals .now))) (f (k .before .before) .lower-long)
-
-  wide : length (k .pack .last .0) ≡ width * by .args .p .columns
-  wide = ap length is ∙ packed-length (columns (P by) .column) (by .args .p .columns) 0
-
-  -- lent again
-  lent : (t : List ℤ) → take (width * by .args .p .columns) (k .pack .last .0 ++ drop (width * by .args .p .columns) t) ≡ table (P by)
-  lent t = part-back (width * by .args .p .columns) (k .pack .last .0) t wide ∙ is
+  packed : PackedIn (P by) (k .pack .last .0)
+  packed = packed-in (P by) (lentOf (B by)) (f (k .before .before)) (k .pack .last .0) (k .pack .ensures)
 
 -- what the test of the list says
 module _ (w : tie.After-stands) where
@@ -106,18 +97,13 @@ array-borrow-prefix-columns : tie.Need-array-borrow-prefix-columns
 array-borrow-prefix-columns c = omega (arith, f c .few-columns)
 
 slice-aggregate-pack : tie.Need-slice-aggregate-pack
-slice-aggregate-pack c = part-length (width * at (c .before) .args .p .columns) _ (omega (arith, f (c .before) .few-columns))
+slice-aggregate-pack c = part-length (cells (P (at (c .before)))) _ (omega (arith, f (c .before) .few-columns))
 
 pack-requires : tie.Need-pack-requires
 pack-requires c κs =
     let s = at (c .before) in
     let g = f (c .before) in
-    record {
-      room = sym (part-length (width * s .args .p .columns) _ (omega (arith, g .few-columns))) ∙ ap (λ (n : ℕ). width * n) (sym (g .lower-long));
-      upper-long = g .upper-long ∙ sym (g .lower-long);
-      goals-long = g .goals-long ∙ sym (g .lower-long);
-      goals-small = g .goals-small;
-    }
+    packable (P s) (lentOf (B s)) g _ (part-length (cells (P s)) _ (omega (arith, g .few-columns)))
 
 stands-requires : tie.Need-stands-requires
 stands-requires c κs =
@@ -156,10 +142,10 @@ returns-3 c =
     ∙ sym (continue-passed (P s) (B s) (passed (w .before .before .before .before .before)))
 
 array-share-prefix-columns : tie.Need-array-share-prefix-columns
-array-share-prefix-columns c = let k = c .before .before .before .before .before .before .before .before in part-fits (width * by k .args .p .columns) (k .pack .last .0) _ (wide k)
+array-share-prefix-columns c = let k = c .before .before .before .before .before .before .before .before in packed-fits (packed k) _
 
 slice-aggregate-settle-over : tie.Need-slice-aggregate-settle-over
-slice-aggregate-settle-over c = let k = c .before .before .before .before .before .before .before .before .before in sym (ap length (part-back (width * by k .args .p .columns) (k .pack .last .0) _ (wide k)) ∙ wide k)
+slice-aggregate-settle-over c = let k = c .before .before .before .before .before .before .before .before .before in packed-long (packed k) _
 
 settle-over-requires : tie.Need-settle-over-requires
 settle-over-requires c κs =
@@ -169,7 +155,7 @@ settle-over-requires c κs =
     let s = from w in
     let e = standing w (not-false _ (c .before .before .before .before .before .before .before .before .if1 .left)) in
     let o : formed (P s) .over ≡ false = sym (g .form .ensures .0) ∙ c .before .before .before .before .if2 .left in (
-      subst (λ (l : List ℤ). Placed (s .args .p) (g .form .last .0) (s .args .values .now) l) (sym (lent k _))
+      subst (λ (l : List ℤ). Placed (s .args .p) (g .form .last .0) (s .args .values .now) l) (sym (packed-back (packed k) _))
           (laid-placed (P s) (lentOf (B s)) (q (w .before .before .before .before .before)) (laid g o) (s .args .values .now) (f (w .before .before .before .before .before) .values-long)
           (λ j. within-entry (s .args .values .now) j (not-true _ (both-true (not (anyBeyond (s .args .values .now))) _ e .0)))),
       record { long = f (w .before .before .before .before .before) .strides-long },
@@ -193,7 +179,7 @@ returns-4 c =
     let o : formed (P s) .over ≡ false = sym (g .form .ensures .0) ∙ c .before .before .before .before .before .before .before .before .if2 .left in
     ap (doneWith (g .form .last .0))
     (c .before .before .before .settle-over .ensures
-    ∙ ap (λ (C : Columns). settledOver (s .args .p) C (g .form .last .0) (s .args .values .now)) (ap (columnsIn (s .args .p .columns)) (lent k _) ∙ table-columns (P s) (lentOf (B s)) (f (w .before .before .before .before .before))))
+    ∙ ap (λ (C : Columns). settledOver (s .args .p) C (g .form .last .0) (s .args .values .now)) (ap (columnsIn (s .args .p .columns)) (packed-back (packed k) _) ∙ table-columns (P s) (lentOf (B s)) (f (w .before .before .before .before .before))))
     ∙ sym (continue-settled (P s) (B s) (lentOf (B s)) (q (w .before .before .before .before .before)) (laid g o) (standing w (not-false _ (c .before .before .before .before .before .before .before .before .before .before .before .before .if1 .left))))
     ∙ sym (continue-passed (P s) (B s) (passed (w .before .before .before .before .before)))
 

@@ -1,7 +1,7 @@
 -- `search::places::first_changed` meets its contract: the move changes no column before place k. Assumes nothing.
 use mathlib.Core.Path.{_≡_, sym, _∙_}
 use mathlib.Core.Bool.{false}
-use Prim.Native.Nat.{ℕ, _-_, _<_, _≤_}
+use Prim.Native.Nat.{ℕ, _-_, _<_}
 use native.Mathlib.Omega.{arith}
 use borrow.Author.Count.{below-more}
 use lib.ListN.{length, getD}
@@ -12,14 +12,13 @@ use Rattle.search.proofs.places.first_changed.Tie as tie
 
 abbrev Inv-loop : tie.InvT-loop
 Inv-loop basis view order o from k₀ k =
-    (from ≤ k)
-    × ((x : ℕ) → x < k → x < length order → changes (vectors view basis) o (getD order x 0) ≡ false)
+    (x : ℕ) → x < k → x < length order → changes (vectors view basis) o (getD order x 0) ≡ false
 
 abbrev μ-loop : tie.MeasureT-loop
 μ-loop basis view order o from k₀ k = length order - k
 
 loop-holds : tie.Need-loop-holds Inv-loop μ-loop
-loop-holds c = (omega arith, c .before .pre .3)
+loop-holds c = c .before .pre .3
 
 mul-changes : tie.Need-mul-changes Inv-loop μ-loop
 mul-changes c = omega arith
@@ -35,9 +34,8 @@ changes-requires c κs =
 returns : tie.Need-returns Inv-loop μ-loop
 returns c =
     record {
-      still = c .before .before .before .before .loop .inv .1;
+      still = c .before .before .before .before .loop .inv;
       changed = λ _. sym (c .before .changes .ensures) ∙ c .if1 .taken;
-      since = c .before .before .before .before .loop .inv .0;
     }
 
 add-k : tie.Need-add-k Inv-loop μ-loop
@@ -47,17 +45,13 @@ loop-less : tie.Need-loop-less Inv-loop μ-loop
 loop-less c = omega arith
 
 loop-again : tie.Need-loop-again Inv-loop μ-loop
-loop-again c = (
-  omega arith,
-  below-more _ _ (c .before .before .before .before .loop .inv .1) (λ _. sym (c .before .changes .ensures) ∙ c .if1 .left),
-)
+loop-again c = below-more _ _ (c .before .before .before .before .loop .inv) (λ _. sym (c .before .changes .ensures) ∙ c .if1 .left)
 
 returns-2 : tie.Need-returns-2 Inv-loop μ-loop
 returns-2 c =
     record {
-      still = c .before .loop .inv .1;
+      still = c .before .loop .inv;
       changed = λ l. absurd (omega arith);
-      since = c .before .loop .inv .0;
     }
 
 pub first-changed-spec : {M : Type 1} → statement M

@@ -38,8 +38,8 @@ module _ {S : Search} {T v b : List ℤ} {L notes : List ℕ} {k z : ℕ} (q : S
 abbrev start : tie.At-loop Inv-loop μ-loop → tie.Start Inv-loop μ-loop
 start l = l .before .before .before .before .before .before .before .before .before
 
-unsee-requires : tie.Need-unsee-requires Inv-loop μ-loop
-unsee-requires c κs = let s = c .before .before .before .before .before in (s .pre .2, s .pre .0 .searchable .ready .few-vectors)
+clear-visits-requires : tie.Need-clear-visits-requires Inv-loop μ-loop
+clear-visits-requires c κs = let s = c .before .before .before .before .before in (s .pre .2, s .pre .0 .searchable .ready .few-vectors)
 
 mul-z : tie.Need-mul-z Inv-loop μ-loop
 mul-z c = omega (arith, c .before .before .before .before .before .before .before .before .pre .0 .order .few)
@@ -47,7 +47,7 @@ mul-z c = omega (arith, c .before .before .before .before .before .before .befor
 loop-holds : tie.Need-loop-holds Inv-loop μ-loop
 loop-holds c =
     let a = c .before .before .before .before .before .before .before .before .args in
-    let u = c .before .before .unsee .ensures in
+    let u = c .before .before .clear-visits .ensures in
     (u .0, omega arith, inr (before-none (a .search) (a .columns .now) (a .values .now) (a .basis .now) (a .order .now) _ (u .0) (u .1)))
 
 mul-if1 : tie.Need-mul-if1 Inv-loop μ-loop
@@ -105,7 +105,7 @@ first-step-spec =
     (tie.spec
     Inv-loop
     μ-loop
-    unsee-requires
+    clear-visits-requires
     mul-z
     loop-holds
     mul-if1

@@ -1,22 +1,22 @@
--- `search::places::pairs` meets its contract: the vectors seen first here whose pairs are left are in `set`. Assumes nothing.
+-- `search::places::pairs` meets its contract: the vectors visited here whose pairs are left are in `set`. Assumes nothing.
 use mathlib.Core.Path.{_≡_, sym, _∙_}
 use mathlib.Core.Logic.{⊎-elim}
 use Prim.Native.Nat.{_<_}
 use native.Mathlib.Omega.{arith}
 use Rattle.problem.specs.Limits.{maxColumns}
-use Rattle.search.specs.Notes.{topAt}
-use Rattle.search.specs.Progress.{Kept, both}
-use Rattle.search.proofs.Pairing.{AllBeaten, kept-same, kept-then, kept-beat, front, pairing, starting, paired-off}
+use Rattle.search.specs.Notes.{visitedAt}
+use Rattle.search.specs.Progress.{NoWorse, both}
+use Rattle.search.proofs.Pairing.{AllDominated, no-worse-same, no-worse-then, no-worse-dominated, leading, pairing, starting, paired-off}
 use Rattle.search.proofs.Setting.{Walk, walk-first, walk-less, walk-on, walk-end}
-use Rattle.search.proofs.Sighting.{here-column}
+use Rattle.search.proofs.Visiting.{here-column}
 use Rattle.search.proofs.places.pairs.Statement.{statement}
 use Rattle.search.proofs.places.pairs.Tie as tie
 
 abbrev Inv-loop : tie.InvT-loop
 Inv-loop here columns values basis order supports holders notes z best₀ i set₀ best set =
-    Kept (here .search) columns values basis order z best
-    × Walk (λ s. s < here .search .view .vectors) (λ s. (s < here .search .view .vectors) × (topAt notes s ≡ here .at))
-    (AllBeaten (here .search) columns values basis order notes (here .at) best) set
+    NoWorse (here .search) columns values basis order z best
+    × Walk (λ s. s < here .search .view .vectors) (λ s. (s < here .search .view .vectors) × (visitedAt notes s ≡ here .at))
+    (AllDominated (here .search) columns values basis order notes (here .at) best) set
 
 abbrev μ-loop : tie.MeasureT-loop
 μ-loop here columns values basis order supports holders notes z best₀ i set₀ best set = set
@@ -41,16 +41,16 @@ module _ (c : tie.Joined1 Inv-loop μ-loop) where
       let a = c .before .before .before .before .before .before .before .before .before .before .before .args in
       let l = c .before .before .before .before .before .loop in
       let s = c .before .before .before .first .result in
-      Kept (a .here .search) (a .columns .now) (a .values .now) (a .basis .now) (a .order .now) (l .best) (c .if1 .best)
-      × ((s < a .here .search .view .vectors) × (topAt (a .notes .now) s ≡ a .here .at)
-      → AllBeaten (a .here .search) (a .columns .now) (a .values .now) (a .basis .now) (a .order .now) (a .notes .now) (a .here .at) (c .if1 .best) s)
+      NoWorse (a .here .search) (a .columns .now) (a .values .now) (a .basis .now) (a .order .now) (l .best) (c .if1 .best)
+      × ((s < a .here .search .view .vectors) × (visitedAt (a .notes .now) s ≡ a .here .at)
+      → AllDominated (a .here .search) (a .columns .now) (a .values .now) (a .basis .now) (a .order .now) (a .notes .now) (a .here .at) (c .if1 .best) s)
   done =
       ⊎-elim
       (λ w. rw (w .2) (w .1 .ensures .0, λ _. w .1 .ensures .1))
       (λ w.
       rw (w .1) (
-        kept-same (c .before .before .before .before .before .loop .inv .0 .incumbent),
-        λ e. absurd (w .0 .left (c .before .before .top-at .ensures ∙ e .1)),
+        no-worse-same (c .before .before .before .before .before .loop .inv .0 .incumbent),
+        λ e. absurd (w .0 .left (c .before .before .visited-at .ensures ∙ e .1)),
       ))
       (c .if1 .came)
 
@@ -66,15 +66,15 @@ loop-holds : tie.Need-loop-holds Inv-loop μ-loop
 loop-holds c =
     let s = c .before .before .before .before .before in
     let p = s .pre in (
-      kept-same (p .3 .late (p .4)),
+      no-worse-same (p .3 .late (p .4)),
       starting (p .0) (p .1) (p .2) (p .3) (c .shared-slice-known5 .given (s .args .here .column) .fits),
     )
 
 first-requires : tie.Need-first-requires Inv-loop μ-loop
 first-requires c κs = c .loop-test .taken
 
-top-at-requires : tie.Need-top-at-requires Inv-loop μ-loop
-top-at-requires c κs =
+visited-at-requires : tie.Need-visited-at-requires Inv-loop μ-loop
+visited-at-requires c κs =
     let p = c .before .before .before .before .before .before .before .before .pre in
     (p .3 .room, omega (arith, inside c, p .0 .searchable .ready .few-vectors))
 
@@ -83,7 +83,7 @@ pairs-of-requires c κs =
     let p = c .before .before .before .before .before .before .before .before .before .before .before .pre in
     let d = pairing (p .0) (p .1) (p .2) (p .3) (p .4) in
     let l = inside (c .before .before .before) in
-    let f = front d (c .before .before .before .first .result) l (sym (c .before .before .top-at .ensures) ∙ c .if1 .taken) in
+    let f = leading d (c .before .before .before .first .result) l (sym (c .before .before .visited-at .ensures) ∙ c .if1 .taken) in
     (d, p .2, l, f, c .before .before .before .before .before .loop .inv .0 .incumbent)
 
 rest-requires : tie.Need-rest-requires Inv-loop μ-loop
@@ -99,8 +99,8 @@ loop-again c =
     let d = done (c .before) in
     let e = c .before .before .before .before .before in
     rw (c .rest .ensures) (
-      kept-then (e .before .loop .inv .0) (d .0),
-      walk-on (e .before .loop .inv .1) (e .loop-test .taken) (λ s f x l t o y m. kept-beat (d .0) (both s x t y) (f x l t o y m))
+      no-worse-then (e .before .loop .inv .0) (d .0),
+      walk-on (e .before .loop .inv .1) (e .loop-test .taken) (λ s f x l t o y m. no-worse-dominated (d .0) (both s x t y) (f x l t o y m))
           (rw (c .before .before .before .before .first .ensures) at (d .1)),
     )
 
@@ -120,7 +120,7 @@ pairs-spec =
     shared-slice-read-set
     loop-holds
     first-requires
-    top-at-requires
+    visited-at-requires
     pairs-of-requires
     rest-requires
     loop-less

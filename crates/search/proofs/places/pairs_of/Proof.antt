@@ -1,23 +1,23 @@
--- `search::places::pairs_of` meets its contract: the pairs with the signs before x are beaten. Assumes nothing.
+-- `search::places::pairs_of` meets its contract: the pairs with the signs before x are dominated. Assumes nothing.
 use Prim.Native.Nat.{ℕ, _-_, _<_}
 use native.Mathlib.Omega.{arith}
 use borrow.Author.Count.{below-more}
-use Rattle.search.specs.Progress.{Open, Kept, both}
-use Rattle.search.proofs.Pairing.{WithBeaten, kept-same, kept-then, kept-beat}
+use Rattle.search.specs.Progress.{Partner, NoWorse, both}
+use Rattle.search.proofs.Pairing.{WithDominated, no-worse-same, no-worse-then, no-worse-dominated}
 use Rattle.search.proofs.places.pairs_of.Statement.{statement}
 use Rattle.search.proofs.places.pairs_of.Tie as tie
 
 abbrev Inv-loop : tie.InvT-loop
 Inv-loop here columns values basis order supports holders notes s z best₀ x₀ best x =
-    Kept (here .search) columns values basis order z best
-    × ((i : ℕ) → i < x → (t : ℕ) → Open (here .search .view .vectors) notes (here .at) s t
-    → WithBeaten (here .search) columns values basis order s i best t)
+    NoWorse (here .search) columns values basis order z best
+    × ((i : ℕ) → i < x → (t : ℕ) → Partner (here .search .view .vectors) notes (here .at) s t
+    → WithDominated (here .search) columns values basis order s i best t)
 
 abbrev μ-loop : tie.MeasureT-loop
 μ-loop here columns values basis order supports holders notes s z best₀ x₀ best x = 2 - x
 
 loop-holds : tie.Need-loop-holds Inv-loop μ-loop
-loop-holds c = (kept-same (c .before .before .before .before .pre .4), λ i l. absurd (omega arith))
+loop-holds c = (no-worse-same (c .before .before .before .before .pre .4), λ i l. absurd (omega arith))
 
 pairs-with-requires : tie.Need-pairs-with-requires Inv-loop μ-loop
 pairs-with-requires c κs =
@@ -35,8 +35,8 @@ loop-again c =
     let a = c .before .before .before .before .before .before .before .args in
     let l = c .before .before .loop in
     let d = c .pairs-with .ensures in (
-      kept-then (l .inv .0) (d .0),
-      below-more _ (l .x) (λ i m t o y h. kept-beat (d .0) (both (a .s) i t y) (l .inv .1 i m t o y h)) (d .1),
+      no-worse-then (l .inv .0) (d .0),
+      below-more _ (l .x) (λ i m t o y h. no-worse-dominated (d .0) (both (a .s) i t y) (l .inv .1 i m t o y h)) (d .1),
     )
 
 returns : tie.Need-returns Inv-loop μ-loop

@@ -4,28 +4,28 @@ use mathlib.Core.Logic.{⊎-elim}
 use Prim.Native.Nat.{_<_}
 use native.Mathlib.Omega.{arith}
 use Rattle.problem.specs.Limits.{maxColumns}
-use Rattle.search.specs.Notes.{noteAt}
-use Rattle.search.specs.Progress.{Open, Kept, both}
-use Rattle.search.proofs.Pairing.{WithBeaten, kept-same, kept-then, kept-beat, open-is, open-not, meeting}
+use Rattle.search.specs.Notes.{blockingAt}
+use Rattle.search.specs.Progress.{Partner, NoWorse, both}
+use Rattle.search.proofs.Pairing.{WithDominated, no-worse-same, no-worse-then, no-worse-dominated, partner-is, partner-not, meeting}
 use Rattle.search.proofs.Setting.{Walk, walk-first, walk-less, walk-on, walk-end}
 use Rattle.search.proofs.places.pairs_with.Statement.{statement}
 use Rattle.search.proofs.places.pairs_with.Tie as tie
 
 abbrev Inv-loop : tie.InvT-loop
 Inv-loop here columns values basis order supports holders notes lead z s best₀ set₀ best set =
-    Kept (here .search) columns values basis order z best
-    × Walk (λ t. t < here .search .view .vectors) (Open (here .search .view .vectors) notes (here .at) (lead .s))
-    (WithBeaten (here .search) columns values basis order (lead .s) (lead .x) best) set
+    NoWorse (here .search) columns values basis order z best
+    × Walk (λ t. t < here .search .view .vectors) (Partner (here .search .view .vectors) notes (here .at) (lead .s))
+    (WithDominated (here .search) columns values basis order (lead .s) (lead .x) best) set
 
 abbrev μ-loop : tie.MeasureT-loop
 μ-loop here columns values basis order supports holders notes lead z s best₀ set₀ best set = set
 
--- the column that is noted
-noted : (c : tie.After-note-at Inv-loop μ-loop) → c .note-at .result < maxColumns
+-- the blocking column
+noted : (c : tie.After-blocking-at Inv-loop μ-loop) → c .blocking-at .result < maxColumns
 noted c =
     let s = c .before .before .before .before .before in
     let p = s .pre in
-    omega (arith, c .note-at .ensures, p .4 .stuck (s .args .lead .x) (p .3) .inside, p .0 .setup .searchable .ready .few)
+    omega (arith, c .blocking-at .ensures, p .4 .blocked (s .args .lead .x) (p .3) .inside, p .0 .setup .searchable .ready .few)
 
 -- the vector that is met
 module _ (c : tie.After-first Inv-loop μ-loop) where
@@ -40,21 +40,21 @@ module _ (c : tie.Joined1 Inv-loop μ-loop) where
       let a = c .before .before .before .before .before .before .before .before .before .before .before .args in
       let l = c .before .before .before .before .loop in
       let t = c .before .before .first .result in
-      Kept (a .here .search) (a .columns .now) (a .values .now) (a .basis .now) (a .order .now) (l .best) (c .if1 .best)
-      × (Open (a .here .search .view .vectors) (a .notes .now) (a .here .at) (a .lead .s) t
-      → WithBeaten (a .here .search) (a .columns .now) (a .values .now) (a .basis .now) (a .order .now) (a .lead .s) (a .lead .x) (c .if1 .best) t)
+      NoWorse (a .here .search) (a .columns .now) (a .values .now) (a .basis .now) (a .order .now) (l .best) (c .if1 .best)
+      × (Partner (a .here .search .view .vectors) (a .notes .now) (a .here .at) (a .lead .s) t
+      → WithDominated (a .here .search) (a .columns .now) (a .values .now) (a .basis .now) (a .order .now) (a .lead .s) (a .lead .x) (c .if1 .best) t)
   done =
       ⊎-elim
       (λ w. rw (w .2) (w .1 .ensures .0, λ _. w .1 .ensures .1))
       (λ w.
       rw (w .1) (
-        kept-same (c .before .before .before .before .loop .inv .0 .incumbent),
-        λ o. absurd (open-not (sym (c .before .is-open .ensures) ∙ w .0 .left) o),
+        no-worse-same (c .before .before .before .before .loop .inv .0 .incumbent),
+        λ o. absurd (partner-not (sym (c .before .is-partner .ensures) ∙ w .0 .left) o),
       ))
       (c .if1 .came)
 
-note-at-requires : tie.Need-note-at-requires Inv-loop μ-loop
-note-at-requires c κs =
+blocking-at-requires : tie.Need-blocking-at-requires Inv-loop μ-loop
+blocking-at-requires c κs =
     let p = c .before .before .before .before .pre in
     (p .0 .room, omega (arith, p .2, p .0 .setup .searchable .ready .few-vectors), p .3)
 
@@ -69,17 +69,17 @@ loop-holds c =
     let s = c .before .before .before .before .before .before in
     let a = s .args in
     let p = s .pre in
-    rw (c .before .note-at .ensures) (
-      kept-same (p .5),
+    rw (c .before .blocking-at .ensures) (
+      no-worse-same (p .5),
       meeting (p .0) (p .1) (a .lead .x) (a .z) (p .3) (p .4)
-          (c .shared-slice-known5 .given (noteAt (a .notes .now) (a .lead .s) (a .lead .x)) .fits),
+          (c .shared-slice-known5 .given (blockingAt (a .notes .now) (a .lead .s) (a .lead .x)) .fits),
     )
 
 first-requires : tie.Need-first-requires Inv-loop μ-loop
 first-requires c κs = c .loop-test .taken
 
-is-open-requires : tie.Need-is-open-requires Inv-loop μ-loop
-is-open-requires c κs =
+is-partner-requires : tie.Need-is-partner-requires Inv-loop μ-loop
+is-partner-requires c κs =
     let p = c .before .before .before .before .before .before .before .before .before .pre in
     (p .0 .room, omega (arith, inside c, p .0 .setup .searchable .ready .few-vectors))
 
@@ -89,8 +89,8 @@ with-signs-requires c κs =
     let a = s .args in
     let p = s .pre in
     let t = c .before .before .first .result in
-    let e = sym (c .before .is-open .ensures) ∙ c .if1 .taken in
-    let o = open-is (a .notes .now) (a .here .at) (a .here .search .view .vectors) (a .lead .s) t (p .4 .top) (inside (c .before .before)) e in
+    let e = sym (c .before .is-partner .ensures) ∙ c .if1 .taken in
+    let o = partner-is (a .notes .now) (a .here .at) (a .here .search .view .vectors) (a .lead .s) t (p .4 .visited) (inside (c .before .before)) e in
     (p .0, p .2, p .3, p .4, o, c .before .before .before .before .loop .inv .0 .incumbent)
 
 rest-requires : tie.Need-rest-requires Inv-loop μ-loop
@@ -106,9 +106,9 @@ loop-again c =
     let d = done (c .before) in
     let e = c .before .before .before .before in
     rw (c .rest .ensures) (
-      kept-then (e .before .loop .inv .0) (d .0),
+      no-worse-then (e .before .loop .inv .0) (d .0),
       walk-on (e .before .loop .inv .1) (e .loop-test .taken)
-          (λ t f y l. kept-beat (d .0) (both (a .lead .s) (a .lead .x) t y) (f y l)) (rw (c .before .before .before .first .ensures) at (d .1)),
+          (λ t f y l. no-worse-dominated (d .0) (both (a .lead .s) (a .lead .x) t y) (f y l)) (rw (c .before .before .before .first .ensures) at (d .1)),
     )
 
 returns : tie.Need-returns Inv-loop μ-loop
@@ -122,12 +122,12 @@ pairs-with-spec =
     (tie.spec
     Inv-loop
     μ-loop
-    note-at-requires
+    blocking-at-requires
     mul-set
     shared-slice-read-set
     loop-holds
     first-requires
-    is-open-requires
+    is-partner-requires
     with-signs-requires
     rest-requires
     loop-less

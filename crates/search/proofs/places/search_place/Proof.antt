@@ -1,4 +1,4 @@
--- `search::places::search_place` meets its contract: the vectors of the place are seen, then paired; where all were seen before, nothing is tried.
+-- `search::places::search_place` meets its contract: the vectors of the place are visited, then paired; where all were visited before, nothing is tried.
 -- Assumes nothing.
 use mathlib.Core.Path.{_≡_, refl, _∙_, ap}
 use mathlib.Core.Logic.{inl, inr}
@@ -50,8 +50,8 @@ shared-slice-read-members c =
     let s = c .before .before .before .before .before .before in
     omega (arith, inside s, s .pre .0 .searchable .ready .few, s .pre .1 .holders-long)
 
-any-unseen-requires : tie.Need-any-unseen-requires
-any-unseen-requires c κs =
+any-unvisited-requires : tie.Need-any-unvisited-requires
+any-unvisited-requires c κs =
     let s = c .before .before .before .before .before .before .before in
     (s .pre .2 .room, λ t e. omega (arith, holder-in (s .pre .1) (i s) (inside s) t e .0, s .pre .0 .searchable .ready .few-vectors))
 
@@ -64,7 +64,7 @@ returns c =
     inr
     (before-skip (s .args .search) (s .args .columns .now) (s .args .values .now) (s .args .basis .now) (s .args .order .now) (s .args .notes .now)
     (s .args .k) (s .args .z) (s .pre .2) (s .pre .3) (s .pre .0 .order .few)
-    (λ t h e. c .before .any-unseen .ensures (not-true _ (c .if1 .taken)) t (in-holder (s .pre .1) (i s) (inside s) t h e)))
+    (λ t h e. c .before .any-unvisited .ensures (not-true _ (c .if1 .taken)) t (in-holder (s .pre .1) (i s) (inside s) t h e)))
 
 cell-at-requires : tie.Need-cell-at-requires
 cell-at-requires c κs =
@@ -129,7 +129,7 @@ search-place-spec =
     shared-slice-read-i
     mul-members
     shared-slice-read-members
-    any-unseen-requires
+    any-unvisited-requires
     same-length
     returns
     cell-at-requires

@@ -1,4 +1,4 @@
--- `search::places::singles` meets its contract: the vectors that are still to be seen are in `set`. Assumes nothing.
+-- `search::places::singles` meets its contract: the vectors that are still to be visited are in `set`. Assumes nothing.
 use mathlib.Core.Path.{_≡_, sym, _∙_, ap, subst}
 use mathlib.Core.Logic.{⊎-elim}
 use mathlib.Core.Bool.{Bool, true}
@@ -11,17 +11,17 @@ use borrow.Author.Tests.{ltb-true}
 use Rattle.whole.proofs.Tests.{both-true}
 use Rattle.problem.specs.Limits.{maxColumns}
 use Rattle.search.specs.declared.places.Place.{Place}
-use Rattle.search.specs.Notes.{topAt}
-use Rattle.search.specs.Progress.{Saw, Sighting}
+use Rattle.search.specs.Notes.{visitedAt}
+use Rattle.search.specs.Progress.{Visited, Visiting}
 use Rattle.search.specs.Sets.{has, restOf, touches}
 use Rattle.search.proofs.Setting.{first-has, rest-in, rest-less}
-use Rattle.search.proofs.Sighting.{sight-starts, sight-quiet, sight-skip, sight-saw}
+use Rattle.search.proofs.Visiting.{visiting-starts, visiting-zero, visiting-skip, visiting-more}
 use Rattle.search.proofs.places.singles.Statement.{statement}
 use Rattle.search.proofs.places.singles.Tie as tie
 
 abbrev Inv-loop : tie.InvT-loop
 Inv-loop here columns values basis order supports notes₀ members z best₀ set₀ notes best set =
-    (set < 2 ^ 64) × ((t : ℕ) → has set t ≡ true → has members t ≡ true) × Sighting here columns values basis order set notes best
+    (set < 2 ^ 64) × ((t : ℕ) → has set t ≡ true → has members t ≡ true) × Visiting here columns values basis order set notes best
 
 abbrev μ-loop : tie.MeasureT-loop
 μ-loop here columns values basis order supports notes₀ members z best₀ set₀ notes best set = set
@@ -63,11 +63,11 @@ member c =
 few : (c : tie.After-first Inv-loop μ-loop) → c .first .result < maxColumns
 few c = omega (arith, member c .0, start (c .before .before) .pre .0 .searchable .ready .few-vectors)
 
--- it is seen here, or was seen before
+-- it is visited here, or was visited before
 seen : (c : tie.Joined1 Inv-loop μ-loop) →
     let l = c .before .before .before .before .before in
     let u = start l in
-    Sighting (h u) (T u) (v u) (b u) (L u) (restOf (l .loop .set)) (c .if1 .notes) (c .if1 .best)
+    Visiting (h u) (T u) (v u) (b u) (L u) (restOf (l .loop .set)) (c .if1 .notes) (c .if1 .best)
 seen c =
     let d = c .before .before .before .before in
     let u = start (d .before) in
@@ -78,12 +78,12 @@ seen c =
     (λ w.
     let m = w .2 .last .1 .1 .1 .1 .1 .1 .0 in
     rw (w .5, w .6)
-    (sight-saw (h u) (T u) (v u) (b u) (L u) (l .set) (l .notes) (l .best) (l .inv .2) g (l .inv .0) m (w .2 .result)
-    (subst (λ (s : ℕ). Saw (h u) (T u) (v u) (b u) (L u) s (l .notes) (l .best) m (w .2 .result)) f (w .2 .ensures))))
+    (visiting-more (h u) (T u) (v u) (b u) (L u) (l .set) (l .notes) (l .best) (l .inv .2) g (l .inv .0) m (w .2 .result)
+    (subst (λ (s : ℕ). Visited (h u) (T u) (v u) (b u) (L u) s (l .notes) (l .best) m (w .2 .result)) f (w .2 .ensures))))
     (λ w.
     rw (w .1, w .2)
-    (sight-skip (h u) (T u) (v u) (b u) (L u) (l .set) (l .notes) (l .best) (l .inv .2) g (l .inv .0)
-    (omega (arith, ap (topAt (l .notes)) f, c .before .top-at .ensures, w .0 .left))))
+    (visiting-skip (h u) (T u) (v u) (b u) (L u) (l .set) (l .notes) (l .best) (l .inv .2) g (l .inv .0)
+    (omega (arith, ap (visitedAt (l .notes)) f, c .before .visited-at .ensures, w .0 .left))))
     (c .if1 .came)
 
 loop-holds : tie.Need-loop-holds Inv-loop μ-loop
@@ -91,17 +91,17 @@ loop-holds c =
     let u = c .before .before .before in (
       u .fits .members .fits,
       λ t e. e,
-      sight-starts (h u) (T u) (v u) (b u) (L u) (u .args .members) (u .args .notes .now) (u .args .z) (u .pre .3) (u .pre .4),
+      visiting-starts (h u) (T u) (v u) (b u) (L u) (u .args .members) (u .args .notes .now) (u .args .z) (u .pre .3) (u .pre .4),
     )
 
 first-requires : tie.Need-first-requires Inv-loop μ-loop
 first-requires c κs = c .loop-test .taken
 
-top-at-requires : tie.Need-top-at-requires Inv-loop μ-loop
-top-at-requires c κs = (c .before .before .before .loop .inv .2 .room, few (c .before))
+visited-at-requires : tie.Need-visited-at-requires Inv-loop μ-loop
+visited-at-requires c κs = (c .before .before .before .loop .inv .2 .room, few (c .before))
 
-see-requires : tie.Need-see-requires Inv-loop μ-loop
-see-requires c κs =
+visit-requires : tie.Need-visit-requires Inv-loop μ-loop
+visit-requires c κs =
     let d = c .before .before .before .before in
     let u = start (d .before .before) in
     let l = d .before .before .loop in
@@ -112,10 +112,10 @@ see-requires c κs =
       l .inv .2 .room,
       m .0,
       m .1,
-      sight-quiet (h u) (T u) (v u) (b u) (L u) (l .set) (l .notes) (l .best) (l .inv .2)
+      visiting-zero (h u) (T u) (v u) (b u) (L u) (l .set) (l .notes) (l .best) (l .inv .2)
           (omega (arith, u .pre .1 .inside, u .pre .0 .order .few)) (d .first .result) (m .0)
-          (omega (arith, c .before .before .top-at .ensures, c .before .if1 .taken)),
-      l .inv .2 .stands,
+          (omega (arith, c .before .before .visited-at .ensures, c .before .if1 .taken)),
+      l .inv .2 .incumbent,
     )
 
 rest-requires : tie.Need-rest-requires Inv-loop μ-loop
@@ -141,7 +141,7 @@ returns c =
     let u = start (c .before) in
     let l = c .before .loop in
     let e : l .set ≡ 0 = omega (arith, c .loop-test .left) in
-    subst (λ (w : ℕ). Sighting (h u) (T u) (v u) (b u) (L u) w (l .notes) (l .best)) e (l .inv .2)
+    subst (λ (w : ℕ). Visiting (h u) (T u) (v u) (b u) (L u) w (l .notes) (l .best)) e (l .inv .2)
 
 pub singles-spec : {M : Type 1} → statement M
 singles-spec =
@@ -151,8 +151,8 @@ singles-spec =
     μ-loop
     loop-holds
     first-requires
-    top-at-requires
-    see-requires
+    visited-at-requires
+    visit-requires
     rest-requires
     loop-less
     loop-again

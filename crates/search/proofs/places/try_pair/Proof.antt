@@ -7,8 +7,8 @@ use Rattle.settling.specs.Columns.{cell}
 use Rattle.settling.proofs.Sizes.{measure-room}
 use Rattle.search.specs.Numbers.{numberAt}
 use Rattle.search.specs.Searches.{columnsOf, better}
-use Rattle.search.proofs.Beating.{still-beat, none-beat, blocked-beat}
-use Rattle.search.proofs.Pairing.{kept-same, better-is, paired-of, paired-still, paired-vectors, paired-hit}
+use Rattle.search.proofs.Dominance.{still-dominated, none-dominated, blocked-dominated}
+use Rattle.search.proofs.Pairing.{no-worse-same, better-is, paired-of, paired-still, paired-vectors, paired-improving}
 use Rattle.search.proofs.Reached.{search-sized}
 use Rattle.search.proofs.places.try_pair.Statement.{statement}
 use Rattle.search.proofs.places.try_pair.Tie as tie
@@ -24,8 +24,8 @@ returns : tie.Need-returns
 returns c =
     let a = c .before .before .before .before .before .args in
     let p = c .before .before .before .before .before .pre in (
-      kept-same (p .4),
-      still-beat (a .here .search) (a .columns .now) (a .values .now) (a .basis .now) (a .order .now) (a .p .o) (a .here .at) (a .z)
+      no-worse-same (p .4),
+      still-dominated (a .here .search) (a .columns .now) (a .values .now) (a .basis .now) (a .order .now) (a .p .o) (a .here .at) (a .z)
           (paired-still (p .3) (a .columns .now) (a .values .now)) (omega (arith, c .before .number-at .ensures, c .if1 .taken)),
     )
 
@@ -39,8 +39,8 @@ returns-2 : tie.Need-returns-2
 returns-2 c =
     let a = c .before .before .before .before .before .before .before .before .args in
     let f = c .before .first-changed in (
-      kept-same (c .before .before .before .before .before .before .before .before .pre .4),
-      none-beat (a .here .search) (a .columns .now) (a .values .now) (a .basis .now) (a .order .now) (a .p .o) (f .result) (a .z)
+      no-worse-same (c .before .before .before .before .before .before .before .before .pre .4),
+      none-dominated (a .here .search) (a .columns .now) (a .values .now) (a .basis .now) (a .order .now) (a .p .o) (f .result) (a .z)
           (f .ensures .still) (c .if2 .taken),
     )
 
@@ -55,8 +55,8 @@ returns-3 : tie.Need-returns-3
 returns-3 c =
     let a = c .before .before .before .before .before .before .before .before .before .before .args in
     let f = c .before .before .before .first-changed in (
-      kept-same (c .before .before .before .before .before .before .before .before .before .before .pre .4),
-      still-beat (a .here .search) (a .columns .now) (a .values .now) (a .basis .now) (a .order .now) (a .p .o) (f .result) (a .z)
+      no-worse-same (c .before .before .before .before .before .before .before .before .before .before .pre .4),
+      still-dominated (a .here .search) (a .columns .now) (a .values .now) (a .basis .now) (a .order .now) (a .p .o) (f .result) (a .z)
           (f .ensures .still) (omega (arith, c .before .number-at2 .ensures, c .if3 .taken)),
     )
 
@@ -105,10 +105,10 @@ returns-4 c =
     rw (n .ensures) (
       record {
         less = omega (arith, n .ensures, c .before .before .before .if3 .left);
-        incumbent = paired-hit (p .3) (a .columns .now) (a .values .now) (f .result) (p .0 .searchable .ready .few-vectors) l
+        incumbent = paired-improving (p .3) (a .columns .now) (a .values .now) (f .result) (p .0 .searchable .ready .few-vectors) l
             (tried (c .before) ∙ c .if4 .taken);
       },
-      still-beat (a .here .search) (a .columns .now) (a .values .now) (a .basis .now) (a .order .now) (a .p .o) (f .result)
+      still-dominated (a .here .search) (a .columns .now) (a .values .now) (a .basis .now) (a .order .now) (a .p .o) (f .result)
           (numberAt (f .result) (a .p .o)) (f .ensures .still) (omega arith),
     )
 
@@ -118,8 +118,8 @@ returns-5 c =
     let p = c .before .before .before .before .before .before .before .before .before .before .before .before .before .pre in
     let f = c .before .before .before .before .before .before .first-changed in
     let l = c .before .before .before .before .before .if2 .left in (
-      kept-same (p .4),
-      blocked-beat (a .here .search) (a .columns .now) (a .values .now) (a .basis .now) (a .order .now) (p .0) (a .p .o) (f .result) (a .z) l
+      no-worse-same (p .4),
+      blocked-dominated (a .here .search) (a .columns .now) (a .values .now) (a .basis .now) (a .order .now) (p .0) (a .p .o) (f .result) (a .z) l
           (f .ensures .still) (f .ensures .changed l) (tried (c .before) ∙ c .if4 .left),
     )
 

@@ -1,4 +1,4 @@
--- `search::places::with_signs` meets its contract: the pairs with the signs before y are beaten. Assumes nothing.
+-- `search::places::with_signs` meets its contract: the pairs with the signs before y are dominated. Assumes nothing.
 use mathlib.Core.Path.{sym, _∙_, subst}
 use mathlib.Core.Logic.{⊎-elim}
 use Prim.Native.Nat.{ℕ, _-_, _<_}
@@ -6,24 +6,24 @@ use native.Mathlib.Omega.{arith}
 use borrow.Author.Count.{below-more}
 use borrow.Author.Needs.{needs}
 use borrow.Author.Tests.{not-false}
-use Rattle.search.specs.Progress.{Beat, Kept, both}
-use Rattle.search.proofs.Pairing.{kept-same, kept-then, kept-beat, noted-inside, open-quiet, shut-by}
+use Rattle.search.specs.Progress.{Dominated, NoWorse, both}
+use Rattle.search.proofs.Pairing.{no-worse-same, no-worse-then, no-worse-dominated, blocking-inside, partner-zero, pruned-by}
 use Rattle.search.proofs.places.with_signs.Statement.{statement}
 use Rattle.search.proofs.places.with_signs.Tie as tie
 
 abbrev Inv-loop : tie.InvT-loop
 Inv-loop here columns values basis order supports notes t z s x best₀ y₀ best y =
-    Kept (here .search) columns values basis order z best
-    × ((j : ℕ) → j < y → Beat (here .search) columns values basis order best (both s x t j))
+    NoWorse (here .search) columns values basis order z best
+    × ((j : ℕ) → j < y → Dominated (here .search) columns values basis order best (both s x t j))
 
 abbrev μ-loop : tie.MeasureT-loop
 μ-loop here columns values basis order supports notes t z s x best₀ y₀ best y = 2 - y
 
 loop-holds : tie.Need-loop-holds Inv-loop μ-loop
-loop-holds c = (kept-same (c .before .before .before .pre .5), λ j l. absurd (omega arith))
+loop-holds c = (no-worse-same (c .before .before .before .pre .5), λ j l. absurd (omega arith))
 
-is-shut-requires : tie.Need-is-shut-requires Inv-loop μ-loop
-is-shut-requires c κs =
+is-pruned-requires : tie.Need-is-pruned-requires Inv-loop μ-loop
+is-pruned-requires c κs =
     let p = c .before .before .before .before .before .pre in
     let r = p .0 .setup .searchable .ready in (
       r .basis,
@@ -31,7 +31,7 @@ is-shut-requires c κs =
       p .1,
       omega (arith, p .4 .inside, r .few-vectors),
       c .loop-test .taken,
-      noted-inside (p .0) (p .4) (c .before .loop .y) (c .loop-test .taken),
+      blocking-inside (p .0) (p .4) (c .before .loop .y) (c .loop-test .taken),
     )
 
 both-requires : tie.Need-both-requires Inv-loop μ-loop
@@ -49,8 +49,8 @@ try-pair-requires c κs =
         t-inside = p .4 .inside;
         apart = p .4 .apart;
         marks = (s .args .lead .x, c .before .before .before .before .loop .y, c .both .ensures);
-        s-quiet = p .3 .quiet;
-        t-quiet = open-quiet (p .0) (p .4);
+        s-zero = p .3 .zero-before;
+        t-zero = partner-zero (p .0) (p .4);
       },
       c .before .before .before .before .loop .inv .0 .incumbent,
     )
@@ -66,24 +66,24 @@ module _ (c : tie.Joined1 Inv-loop μ-loop) where
   done :
       let a = c .before .before .before .before .before .before .before .args in
       let l = c .before .before .before .loop in
-      Kept (a .here .search) (a .columns .now) (a .values .now) (a .basis .now) (a .order .now) (l .best) (c .if1 .best)
-      × Beat (a .here .search) (a .columns .now) (a .values .now) (a .basis .now) (a .order .now) (c .if1 .best)
+      NoWorse (a .here .search) (a .columns .now) (a .values .now) (a .basis .now) (a .order .now) (l .best) (c .if1 .best)
+      × Dominated (a .here .search) (a .columns .now) (a .values .now) (a .basis .now) (a .order .now) (c .if1 .best)
       (both (a .lead .s) (a .lead .x) (a .t) (l .y))
   done =
       let s = c .before .before .before .before .before .before .before in
       let a = s .args in
       let p = s .pre in
       let l = c .before .before .before .loop in
-      let r = c .before .is-shut in
+      let r = c .before .is-pruned in
       ⊎-elim
       (λ w.
       let u = w .2 in
-      let B = Beat (a .here .search) (a .columns .now) (a .values .now) (a .basis .now) (a .order .now) (u .result) in
+      let B = Dominated (a .here .search) (a .columns .now) (a .values .now) (a .basis .now) (a .order .now) (u .result) in
       rw (w .3) (u .ensures .0, subst B (w .1 .ensures) (u .ensures .1)))
       (λ w.
       rw (w .1) (
-        kept-same (l .inv .0 .incumbent),
-        shut-by (p .0) (a .lead .x) (l .y) (l .best) (c .before .before .loop-test .taken) (p .3) (p .4)
+        no-worse-same (l .inv .0 .incumbent),
+        pruned-by (p .0) (a .lead .x) (l .y) (l .best) (c .before .before .loop-test .taken) (p .3) (p .4)
             (sym (r .ensures) ∙ not-false (r .result) (w .0 .left)),
       ))
       (c .if1 .came)
@@ -93,8 +93,8 @@ loop-again c =
     let a = c .before .before .before .before .before .before .before .args in
     let i = c .before .before .before .loop .inv in
     let d = done c in (
-      kept-then (i .0) (d .0),
-      below-more _ (c .before .before .before .loop .y) (λ j l. kept-beat (d .0) (both (a .lead .s) (a .lead .x) (a .t) j) (i .1 j l)) (d .1),
+      no-worse-then (i .0) (d .0),
+      below-more _ (c .before .before .before .loop .y) (λ j l. no-worse-dominated (d .0) (both (a .lead .s) (a .lead .x) (a .t) j) (i .1 j l)) (d .1),
     )
 
 returns : tie.Need-returns Inv-loop μ-loop
@@ -109,7 +109,7 @@ with-signs-spec =
     Inv-loop
     μ-loop
     loop-holds
-    is-shut-requires
+    is-pruned-requires
     both-requires
     try-pair-requires
     add-y

@@ -7,8 +7,8 @@ use borrow.Author.Tests.{leb-true, leb-false}
 use lib.Dec.{leb}
 use lib.ListN.{length}
 use Rattle.whole.specs.Tests.{every}
-use Rattle.settling.proofs.Blocking.{every-not}
-use Rattle.search.specs.Probes.{passesBy, FailingIn}
+use Rattle.whole.proofs.Counted.{every-not}
+use Rattle.search.specs.Probes.{passesBy, BlockingIn}
 use Rattle.search.proofs.Testing.{covered-pass}
 use Rattle.search.proofs.probes.all_pass.Statement.{statement}
 use Rattle.search.proofs.probes.all_pass.Tie as tie
@@ -23,7 +23,7 @@ module _ (c : tie.Start) where
   long : length (c .args .x .now) ≡ n
   long = c .pre .0 .x-long
 
-  told : (k l : ℕ) → FailingIn (c .args .one) n test k → n ≤ k → FailingIn (c .args .other) n test l
+  told : (k l : ℕ) → BlockingIn (c .args .one) n test k → n ≤ k → BlockingIn (c .args .other) n test l
       → leb (length (c .args .x .now)) l ≡ every n test
   told k l f h g = go (leb (length (c .args .x .now)) l) refl
     where
@@ -33,25 +33,25 @@ module _ (c : tie.Start) where
           (c .args .one) (c .args .other) (c .pre .1) (f .good h) (g .good (omega (arith, leb-true _ l e, long))))
       go false e = let m : l < n = omega (arith, leb-false _ l e, long) in sym (every-not n test l m (g .bad m))
 
-first-failing-requires : tie.Need-first-failing-requires
-first-failing-requires c κs = (c .pre .0, c .pre .1 .one)
+first-blocking-requires : tie.Need-first-blocking-requires
+first-blocking-requires c κs = (c .pre .0, c .pre .1 .one)
 
 returns : tie.Need-returns
 returns c =
     let s = c .before .before in
-    let f = c .before .first-failing in
+    let f = c .before .first-blocking in
     let m : f .result < n s = omega (arith, c .if1 .taken, long s) in
     sym (every-not (n s) (test s) (f .result) m (f .ensures .bad m))
 
-first-failing-requires-2 : tie.Need-first-failing-requires-2
-first-failing-requires-2 c κs = let p = c .before .before .pre in (p .0, p .1 .other)
+first-blocking-requires-2 : tie.Need-first-blocking-requires-2
+first-blocking-requires-2 c κs = let p = c .before .before .pre in (p .0, p .1 .other)
 
 returns-2 : tie.Need-returns-2
 returns-2 c =
-    let f = c .before .before .first-failing in
-    let g = c .first-failing2 in
+    let f = c .before .before .first-blocking in
+    let g = c .first-blocking2 in
     let s = c .before .before .before in
     told s (f .result) (g .result) (f .ensures) (omega (arith, c .before .if1 .left, long s)) (g .ensures)
 
 pub all-pass-spec : {M : Type 1} → statement M
-all-pass-spec = tie.close (tie.spec first-failing-requires returns first-failing-requires-2 returns-2)
+all-pass-spec = tie.close (tie.spec first-blocking-requires returns first-blocking-requires-2 returns-2)

@@ -1,9 +1,9 @@
--- `search::probes::find_failing` meets its contract: a column that is not in the set is not changed, and so passes. Assumes nothing.
+-- `search::probes::find_blocking` meets its contract: a column that is not in the set is not changed, and so passes. Assumes nothing.
 use native.Mathlib.Omega.{arith}
 use Rattle.whole.proofs.Tests.{failed}
 use Rattle.search.proofs.Testing.{covered-pass}
-use Rattle.search.proofs.probes.find_failing.Statement.{statement}
-use Rattle.search.proofs.probes.find_failing.Tie as tie
+use Rattle.search.proofs.probes.find_blocking.Statement.{statement}
+use Rattle.search.proofs.probes.find_blocking.Tie as tie
 
 passes-by-requires : tie.Need-passes-by-requires
 passes-by-requires c κs = (c .pre .0, c .pre .2)
@@ -24,14 +24,14 @@ returns-2 c =
       good = λ h. absurd (omega (arith, c .before .before .if2 .taken, p .0 .x-long));
     }
 
-first-failing-requires : tie.Need-first-failing-requires
-first-failing-requires c κs = let p = c .before .before .before .pre in (p .0, p .1 .one)
+first-blocking-requires : tie.Need-first-blocking-requires
+first-blocking-requires c κs = let p = c .before .before .before .pre in (p .0, p .1 .one)
 
 returns-3 : tie.Need-returns-3
 returns-3 c =
     let s = c .before .before .before .before in
     let a = s .args in
-    let f = c .first-failing .ensures in
+    let f = c .first-blocking .ensures in
     record {
       bad = f .bad;
       good = λ h.
@@ -39,13 +39,13 @@ returns-3 c =
           (f .good h) (f .good h);
     }
 
-pub find-failing-spec : {M : Type 1} → statement M
-find-failing-spec =
+pub find-blocking-spec : {M : Type 1} → statement M
+find-blocking-spec =
     tie.close
     (tie.spec
     passes-by-requires
     returns
     passes-by-requires-2
     returns-2
-    first-failing-requires
+    first-blocking-requires
     returns-3)

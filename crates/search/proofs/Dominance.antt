@@ -1,11 +1,11 @@
--- Moves that are no better than a number.
+-- Moves that a number dominates: they are no better than it.
 --   Still o k        the move o changes no column before place k
---   quiet-still      so it is where both its vectors are quiet before it
---   still-beat       it improves from place k on only, where its number is z or more
---   none-beat        it changes no column of the ranking
---   blocked-beat     it does not improve the first column that it changes, and so no later one
---   fails-beat       a column fails against the measure of place k, and so against those of later places
---   beat-less        what is no better than z is no better than what lies below
+--   zero-still       so it is where both its vectors change none
+--   still-dominated  it improves from place k on only, where its number is z or more
+--   none-dominated   it changes no column of the ranking
+--   blocked-dominated   it does not improve the first column that it changes, and so no later one
+--   fails-dominated  a column fails against the measure of place k, and so against those of later places
+--   dominated-less   what is no better than z is no better than what lies below
 -- Assumes nothing.
 use mathlib.Core.Path.{_≡_, refl, sym, _∙_, ap, ap₂}
 use mathlib.Core.Logic.{⊎-elim}
@@ -29,7 +29,7 @@ use Rattle.settling.specs.Views.{vectors}
 use Rattle.settling.proofs.Blocking.{unchanged, blocked, passes-up}
 use Rattle.search.specs.declared.Search.{Search}
 use Rattle.search.specs.Numbers.{numberAt}
-use Rattle.search.specs.Progress.{Quiet, Beat}
+use Rattle.search.specs.Progress.{ZeroBefore, Dominated}
 use Rattle.search.specs.Searches.{columnsOf, better, passing, Setup}
 use Rattle.search.specs.Sets.{touches}
 
@@ -40,7 +40,7 @@ module _ (S : Search) (T v b : List ℤ) (L : List ℕ) where
   abbrev pub Still : Move → ℕ → Type 0
   Still o k = (x : ℕ) → x < k → x < length L → changes N o (getD L x 0) ≡ false
 
-  -- ---- quiet vectors
+  -- ---- vectors that change no column before a place
   none : (s j : ℕ) → touches (S .view) b s j ≡ false → entry j (vector N s) ≡ pos 0
   none s j e = isZero-true (entry j (vector N s)) (back (isZero (entry j (vector N s))) e)
     where
@@ -54,8 +54,8 @@ module _ (S : Search) (T v b : List ℤ) (L : List ℕ) where
       nothing : a *ℤ pos 0 +ℤ c *ℤ pos 0 ≡ pos 0
       nothing = add-none c (a *ℤ pos 0) (pos 0) refl ∙ *ℤ-zero a
 
-  pub quiet-still : (o : Move) (k : ℕ) → Quiet (S .view) b L (o .s) k → Quiet (S .view) b L (o .t) k → Still o k
-  quiet-still o k p q x h l =
+  pub zero-still : (o : Move) (k : ℕ) → ZeroBefore (S .view) b L (o .s) k → ZeroBefore (S .view) b L (o .t) k → Still o k
+  zero-still o k p q x h l =
       ap not (zero-sum (o .a) (o .b) _ _ (none (o .s) (getD L x 0) (p .each x h l)) (none (o .t) (getD L x 0) (q .each x h l)))
 
   -- ---- where a move can improve
@@ -65,19 +65,19 @@ module _ (S : Search) (T v b : List ℤ) (L : List ℕ) where
       still : x < k → better S T v b o (getD L x 0) ≡ false
       still m = unchanged (S .part) (columnsOf S T) N v o (getD L x 0) (h x m l)
 
-  pub still-beat : (o : Move) (k z : ℕ) → Still o k → z ≤ numberAt k o → Beat S T v b L z o
-  still-beat o k z h e = record { each = λ x l g. omega (arith, improves-late o k h x l g) }
+  pub still-dominated : (o : Move) (k z : ℕ) → Still o k → z ≤ numberAt k o → Dominated S T v b L z o
+  still-dominated o k z h e = record { each = λ x l g. omega (arith, improves-late o k h x l g) }
 
-  pub none-beat : (o : Move) (k z : ℕ) → Still o k → length L ≤ k → Beat S T v b L z o
-  none-beat o k z h e = record { each = λ x l g. absurd (omega (arith, improves-late o k h x l g)) }
+  pub none-dominated : (o : Move) (k z : ℕ) → Still o k → length L ≤ k → Dominated S T v b L z o
+  none-dominated o k z h e = record { each = λ x l g. absurd (omega (arith, improves-late o k h x l g)) }
 
-  pub beat-less : (o : Move) (z y : ℕ) → y ≤ z → Beat S T v b L z o → Beat S T v b L y o
-  beat-less o z y h p = record { each = λ x l g. omega (arith, p .each x l g) }
+  pub dominated-less : (o : Move) (z y : ℕ) → y ≤ z → Dominated S T v b L z o → Dominated S T v b L y o
+  dominated-less o z y h p = record { each = λ x l g. omega (arith, p .each x l g) }
 
   module _ (u : Setup S T v b L) where
-    pub blocked-beat : (o : Move) (k z : ℕ) → k < length L → Still o k → changes N o (getD L k 0) ≡ true
-        → better S T v b o (getD L k 0) ≡ false → Beat S T v b L z o
-    blocked-beat o k z m h c e =
+    pub blocked-dominated : (o : Move) (k z : ℕ) → k < length L → Still o k → changes N o (getD L k 0) ≡ true
+        → better S T v b o (getD L k 0) ≡ false → Dominated S T v b L z o
+    blocked-dominated o k z m h c e =
         record { each = λ x l g. absurd (true≢false (sym g ∙ ⊎-elim (same x) (later x l) (eq-or-lt-of-le (improves-late o k h x l g)))) }
       where
         same : (x : ℕ) → k ≡ x → better S T v b o (getD L x 0) ≡ false
@@ -86,10 +86,10 @@ module _ (S : Search) (T v b : List ℤ) (L : List ℕ) where
         later : (x : ℕ) → x < length L → k < x → better S T v b o (getD L x 0) ≡ false
         later x l p = blocked (S .part) (columnsOf S T) N v o (getD L x 0) (getD L k 0) (u .order .proper k m) (u .order .falls k x p l) c e
 
-    pub fails-beat : (o : Move) (k z c : ℕ) → k < length L → Still o k → c < S .view .columns
-        → passing S T v b o (measureAt (S .part) (columnsOf S T) v (getD L k 0)) c ≡ false → Beat S T v b L z o
+    pub fails-dominated : (o : Move) (k z c : ℕ) → k < length L → Still o k → c < S .view .columns
+        → passing S T v b o (measureAt (S .part) (columnsOf S T) v (getD L k 0)) c ≡ false → Dominated S T v b L z o
     unfolding improves
-    fails-beat o k z c m h i e =
+    fails-dominated o k z c m h i e =
         record {
           each = λ x l g.
               let all = both-true (changes N o (getD L x 0)) (every (S .view .columns) (test x)) g .1 in

@@ -1,4 +1,4 @@
--- `search::places::blame` meets its contract: the row is the vector, and its set has the columns that it changes. Assumes nothing.
+-- `search::places::blocking_column` meets its contract: the row is the vector, and its set has the columns that it changes. Assumes nothing.
 use mathlib.Core.Path.{refl, _∙_}
 use mathlib.Core.Logic.{inl}
 use mathlib.Core.List.{List}
@@ -15,10 +15,10 @@ use Rattle.settling.proofs.Views.{vector-end, vector-part}
 use Rattle.search.specs.declared.places.Place.{Place}
 use Rattle.search.specs.declared.probes.Sum.{Sum}
 use Rattle.search.specs.Progress.{alone}
-use Rattle.search.proofs.Sighting.{alone-basis}
-use Rattle.search.proofs.Testing.{Tries, testable, failing-rows, covered}
-use Rattle.search.proofs.places.blame.Statement.{statement}
-use Rattle.search.proofs.places.blame.Tie as tie
+use Rattle.search.proofs.Visiting.{alone-basis}
+use Rattle.search.proofs.Testing.{Tries, testable, blocking-rows, covered}
+use Rattle.search.proofs.places.blocking_column.Statement.{statement}
+use Rattle.search.proofs.places.blocking_column.Tie as tie
 
 module _ (c : tie.Start) where
   abbrev h : Place
@@ -61,26 +61,26 @@ add-end c = let s = c .before .before .before in omega (arith, ends s, s .good)
 sign-of-requires : tie.Need-sign-of-requires
 sign-of-requires c κs = search needs
 
-mul-find-failing : tie.Need-mul-find-failing
-mul-find-failing c = let s = start c in omega (arith, ends s, s .good)
+mul-find-blocking : tie.Need-mul-find-blocking
+mul-find-blocking c = let s = start c in omega (arith, ends s, s .good)
 
-sub-find-failing : tie.Need-sub-find-failing
-sub-find-failing c = search needs
+sub-find-blocking : tie.Need-sub-find-blocking
+sub-find-blocking c = search needs
 
-part-find-failing-start : tie.Need-part-find-failing-start
-part-find-failing-start c = search needs
+part-find-blocking-start : tie.Need-part-find-blocking-start
+part-find-blocking-start c = search needs
 
-part-find-failing-end : tie.Need-part-find-failing-end
-part-find-failing-end c = ends (start c)
+part-find-blocking-end : tie.Need-part-find-blocking-end
+part-find-blocking-end c = ends (start c)
 
-mul-find-failing-2 : tie.Need-mul-find-failing-2
-mul-find-failing-2 c = let p = start (c .before) .pre in omega (arith, p .2, p .0 .ready .few-vectors, p .1 .long)
+mul-find-blocking-2 : tie.Need-mul-find-blocking-2
+mul-find-blocking-2 c = let p = start (c .before) .pre in omega (arith, p .2, p .0 .ready .few-vectors, p .1 .long)
 
-shared-slice-read-find-failing : tie.Need-shared-slice-read-find-failing
-shared-slice-read-find-failing c = let p = start (c .before .before) .pre in omega (arith, p .2, p .0 .ready .few-vectors, p .1 .long)
+shared-slice-read-find-blocking : tie.Need-shared-slice-read-find-blocking
+shared-slice-read-find-blocking c = let p = start (c .before .before) .pre in omega (arith, p .2, p .0 .ready .few-vectors, p .1 .long)
 
-find-failing-requires : tie.Need-find-failing-requires
-find-failing-requires c κs =
+find-blocking-requires : tie.Need-find-blocking-requires
+find-blocking-requires c κs =
     let d = c .before .before in
     let s = start d in
     let a = s .args in
@@ -97,21 +97,21 @@ returns c =
     let d = c .before .before .before in
     let s = start d in
     let a = s .args in
-    failing-rows (h s .search) (a .columns .now) (a .values .now) (b s) (alone (a .s) (a .x)) (h s .q) (s .pre .0) (of s) (sum d) (row s) (row s)
-    (tries d) (c .find-failing .result) (c .find-failing .ensures)
+    blocking-rows (h s .search) (a .columns .now) (a .values .now) (b s) (alone (a .s) (a .x)) (h s .q) (s .pre .0) (of s) (sum d) (row s) (row s)
+    (tries d) (c .find-blocking .result) (c .find-blocking .ensures)
 
-pub blame-spec : {M : Type 1} → statement M
-blame-spec =
+pub blocking-column-spec : {M : Type 1} → statement M
+blocking-column-spec =
     tie.close
     (tie.spec
     mul-at
     add-end
     sign-of-requires
-    mul-find-failing
-    sub-find-failing
-    part-find-failing-start
-    part-find-failing-end
-    mul-find-failing-2
-    shared-slice-read-find-failing
-    find-failing-requires
+    mul-find-blocking
+    sub-find-blocking
+    part-find-blocking-start
+    part-find-blocking-end
+    mul-find-blocking-2
+    shared-slice-read-find-blocking
+    find-blocking-requires
     returns)

@@ -1,19 +1,19 @@
--- `search::notes::unsee` meets its contract: the vectors before `s` are not seen. Assumes nothing.
+-- `search::notes::clear_visits` meets its contract: the vectors before `s` are not visited. Assumes nothing.
 use mathlib.Core.Path.{sym, _∙_}
 use Prim.Native.Nat.{_-_, _≤_}
 use native.Mathlib.Omega.{arith}
-use Rattle.search.proofs.Noting.{Unseen, unsee-more}
-use Rattle.search.proofs.notes.unsee.Statement.{statement}
-use Rattle.search.proofs.notes.unsee.Tie as tie
+use Rattle.search.proofs.Noting.{NoVisits, no-visits-more}
+use Rattle.search.proofs.notes.clear_visits.Statement.{statement}
+use Rattle.search.proofs.notes.clear_visits.Tie as tie
 
 abbrev Inv-loop : tie.InvT-loop
-Inv-loop notes₀ r s₀ notes s = (s ≤ r) × Unseen notes s
+Inv-loop notes₀ r s₀ notes s = (s ≤ r) × NoVisits notes s
 
 abbrev μ-loop : tie.MeasureT-loop
 μ-loop notes₀ r s₀ notes s = r - s
 
 loop-holds : tie.Need-loop-holds Inv-loop μ-loop
-loop-holds c = (omega arith, record { room = c .pre .0; tops = λ s h. absurd (omega arith) })
+loop-holds c = (omega arith, record { room = c .pre .0; visits = λ s h. absurd (omega arith) })
 
 mul-notes : tie.Need-mul-notes Inv-loop μ-loop
 mul-notes c = omega arith
@@ -31,16 +31,16 @@ loop-less : tie.Need-loop-less Inv-loop μ-loop
 loop-less c = omega arith
 
 loop-again : tie.Need-loop-again Inv-loop μ-loop
-loop-again c = (omega arith, unsee-more (c .before .loop .notes) (c .before .loop .s) (c .before .loop .inv .1) (omega arith))
+loop-again c = (omega arith, no-visits-more (c .before .loop .notes) (c .before .loop .s) (c .before .loop .inv .1) (omega arith))
 
 same-length : tie.Need-same-length Inv-loop μ-loop
 same-length c = c .before .loop .inv .1 .room ∙ sym (c .before .before .pre .0)
 
 returns : tie.Need-returns Inv-loop μ-loop
-returns c = let u = c .before .loop .inv .1 in (u .room, λ s h. u .tops s (omega arith))
+returns c = let u = c .before .loop .inv .1 in (u .room, λ s h. u .visits s (omega arith))
 
-pub unsee-spec : {M : Type 1} → statement M
-unsee-spec =
+pub clear-visits-spec : {M : Type 1} → statement M
+clear-visits-spec =
     tie.close
     (tie.spec
     Inv-loop

@@ -1,4 +1,4 @@
--- `search::places::see` meets its contract: the singles of the marks before `x` have failed, and their columns are noted. Assumes nothing.
+-- `search::places::visit` meets its contract: the singles of the marks before `x` have failed, and their blocking columns are noted. Assumes nothing.
 use mathlib.Core.Path.{_≡_, sym, _∙_, ap, subst}
 use mathlib.Core.List.{List}
 use Prim.Native.Nat.{ℕ, _+_, _-_, _<_, _≤_}
@@ -8,13 +8,13 @@ use borrow.Author.Needs.{needs}
 use Rattle.problem.specs.Limits.{maxColumns}
 use Rattle.search.specs.declared.places.Place.{Place}
 use Rattle.search.specs.Numbers.{numberAt}
-use Rattle.search.specs.Progress.{alone, Stand, Saw}
-use Rattle.search.proofs.Sighting.{here-column, here-room, Seeing, see-starts, see-begins, see-since, see-more, see-at, see-hit, see-ends}
-use Rattle.search.proofs.places.see.Statement.{statement}
-use Rattle.search.proofs.places.see.Tie as tie
+use Rattle.search.specs.Progress.{alone, Incumbent, Visited}
+use Rattle.search.proofs.Visiting.{here-column, here-room, Trying, try-starts, try-begins, try-since, try-more, try-at, try-improving, try-ends}
+use Rattle.search.proofs.places.visit.Statement.{statement}
+use Rattle.search.proofs.places.visit.Tie as tie
 
 abbrev Inv-loop : tie.InvT-loop
-Inv-loop here columns values basis order supports notes₀ s z n x₀ notes x = Seeing here columns values basis s notes₀ notes x
+Inv-loop here columns values basis order supports notes₀ s z n x₀ notes x = Trying here columns values basis s notes₀ notes x
 
 abbrev μ-loop : tie.MeasureT-loop
 μ-loop here columns values basis order supports notes₀ s z n x₀ notes x = 2 - x
@@ -49,42 +49,42 @@ module _ (u : tie.Start Inv-loop μ-loop) where
   few : s < maxColumns
   few = omega (arith, u .pre .4, u .pre .0 .searchable .ready .few-vectors)
 
-  stop : (m : List ℕ) (x y : ℕ) → Seeing h T v b s l m x → x < 2 → y ≤ u .args .z → y ≤ at x → Stand (h .search) T v b L y
-      → Saw h T v b L s l (u .args .z) m y
-  stop m x y = see-at h T v b L (u .pre .0) (u .pre .1) s (u .pre .4) (u .pre .5) (u .pre .6) l m x y (u .args .z)
+  stop : (m : List ℕ) (x y : ℕ) → Trying h T v b s l m x → x < 2 → y ≤ u .args .z → y ≤ at x → Incumbent (h .search) T v b L y
+      → Visited h T v b L s l (u .args .z) m y
+  stop m x y = try-at h T v b L (u .pre .0) (u .pre .1) s (u .pre .4) (u .pre .5) (u .pre .6) l m x y (u .args .z)
 
 abbrev start : tie.At-loop Inv-loop μ-loop → tie.Start Inv-loop μ-loop
 start c = c .before .before .before .before .before .before .before .before
 
 -- the notes that the loop begins with
-begun : (c : tie.After-put-top Inv-loop μ-loop) →
+begun : (c : tie.After-put-visited Inv-loop μ-loop) →
     let u = c .before .before .before .before .before in
-    Seeing (h u) (T u) (v u) (b u) (s u) (l u) (c .put-top .last .0) 0
+    Trying (h u) (T u) (v u) (b u) (s u) (l u) (c .put-visited .last .0) 0
 begun c =
     let u = c .before .before .before .before .before in
-    subst (λ (m : List ℕ). Seeing (h u) (T u) (v u) (b u) (s u) (l u) m 0) (sym (c .put-top .ensures))
-    (see-starts (h u) (T u) (v u) (b u) (s u) (l u) (few u) (u .pre .3))
+    subst (λ (m : List ℕ). Trying (h u) (T u) (v u) (b u) (s u) (l u) m 0) (sym (c .put-visited .ensures))
+    (try-starts (h u) (T u) (v u) (b u) (s u) (l u) (few u) (u .pre .3))
 
 since : (c : tie.At-loop Inv-loop μ-loop) →
     let u = start c in
-    Seeing (h u) (T u) (v u) (b u) (s u) (l u) (c .loop .notes) (c .loop .x)
+    Trying (h u) (T u) (v u) (b u) (s u) (l u) (c .loop .notes) (c .loop .x)
 since c =
     let u = start c in
     let p = c .before .before .before in
-    see-since (h u) (T u) (v u) (b u) (s u) (l u) (p .put-top .last .0) (c .loop .notes) (c .loop .x) (begun p) (c .loop .inv)
+    try-since (h u) (T u) (v u) (b u) (s u) (l u) (p .put-visited .last .0) (c .loop .notes) (c .loop .x) (begun p) (c .loop .inv)
 
 number : (c : tie.After-number-at Inv-loop μ-loop) →
     let a = c .before .before .before in
     c .number-at .result ≡ at (start a) (a .loop .x)
 number c = c .number-at .ensures ∙ ap (numberAt (h (start (c .before .before .before)) .at)) (c .before .alone .ensures)
 
-put-top-requires : tie.Need-put-top-requires Inv-loop μ-loop
-put-top-requires c κs = let u = c .before .before .before .before in (u .pre .3, few u)
+put-visited-requires : tie.Need-put-visited-requires Inv-loop μ-loop
+put-visited-requires c κs = let u = c .before .before .before .before in (u .pre .3, few u)
 
 loop-holds : tie.Need-loop-holds Inv-loop μ-loop
 loop-holds c =
     let u = c .before .before .before .before .before .before .before in
-    see-begins (h u) (T u) (v u) (b u) (s u) (l u) (c .before .before .put-top .last .0) (begun (c .before .before))
+    try-begins (h u) (T u) (v u) (b u) (s u) (l u) (c .before .before .put-visited .last .0) (begun (c .before .before))
 
 alone-requires : tie.Need-alone-requires Inv-loop μ-loop
 alone-requires c κs = search needs
@@ -104,13 +104,13 @@ returns c =
     stop u (a .loop .notes) (a .loop .x) (u .args .z) (since a) (c .before .before .before .loop-test .taken) (omega arith)
     (omega (arith, number (c .before), c .if1 .taken)) (u .pre .7)
 
-note-at-requires : tie.Need-note-at-requires Inv-loop μ-loop
-note-at-requires c κs =
+blocking-at-requires : tie.Need-blocking-at-requires Inv-loop μ-loop
+blocking-at-requires c κs =
     let a = c .before .before .before .before .before in
     (a .loop .inv .room, few (start a), c .before .before .before .before .loop-test .taken)
 
-blame-requires : tie.Need-blame-requires Inv-loop μ-loop
-blame-requires c κs =
+blocking-column-requires : tie.Need-blocking-column-requires Inv-loop μ-loop
+blocking-column-requires c κs =
     let a = c .before .before .before .before .before .before in
     let u = start a in (
       u .pre .0 .searchable,
@@ -128,14 +128,14 @@ returns-2 c =
     let a = c .before .before .before .before .before .before .before .before in
     let u = start a in
     let n = number (c .before .before .before .before .before) in
-    subst (Saw (h u) (T u) (v u) (b u) (L u) (s u) (l u) (u .args .z) (a .loop .notes)) (sym n)
+    subst (Visited (h u) (T u) (v u) (b u) (L u) (s u) (l u) (u .args .z) (a .loop .notes)) (sym n)
     (stop u (a .loop .notes) (a .loop .x) (at u (a .loop .x)) (since a) (c .before .before .before .before .before .before .before .loop-test .taken)
     (omega (arith, n, c .before .before .before .before .if1 .left)) (omega arith)
-    (see-hit (h u) (T u) (v u) (b u) (L u) (u .pre .0) (u .pre .1) (s u) (u .pre .4) (u .pre .5) (u .pre .6)
-    (a .loop .x) (c .before .blame .ensures .good (c .if2 .taken))))
+    (try-improving (h u) (T u) (v u) (b u) (L u) (u .pre .0) (u .pre .1) (s u) (u .pre .4) (u .pre .5) (u .pre .6)
+    (a .loop .x) (c .before .blocking-column .ensures .good (c .if2 .taken))))
 
-put-note-requires : tie.Need-put-note-requires Inv-loop μ-loop
-put-note-requires c κs =
+put-blocking-requires : tie.Need-put-blocking-requires Inv-loop μ-loop
+put-blocking-requires c κs =
     let a = c .before .before .before .before .before .before .before .before .before in
     (a .loop .inv .room, few (start a), c .before .before .before .before .before .before .before .before .loop-test .taken)
 
@@ -149,12 +149,12 @@ loop-again : tie.Need-loop-again Inv-loop μ-loop
 loop-again c =
     let a = c .before .before .before .before .before .before .before .before .before .before .before .before in
     let u = start a in
-    let k = a .before .before .before .put-top .last .0 in
+    let k = a .before .before .before .put-visited .last .0 in
     let d = c .before .before .before .before .before in
     let f = c .before .before .before .before .if2 .left in
-    subst (λ (m : List ℕ). Seeing (h u) (T u) (v u) (b u) (s u) k m (a .loop .x + 1)) (sym (c .before .before .put-note .ensures))
-    (see-more (h u) (T u) (v u) (b u) (s u) k (a .loop .notes) (a .loop .x) (d .blame .result) (few u) (a .loop .inv)
-    (c .before .before .before .before .before .before .before .before .before .before .before .loop-test .taken) f (d .blame .ensures .bad f))
+    subst (λ (m : List ℕ). Trying (h u) (T u) (v u) (b u) (s u) k m (a .loop .x + 1)) (sym (c .before .before .put-blocking .ensures))
+    (try-more (h u) (T u) (v u) (b u) (s u) k (a .loop .notes) (a .loop .x) (d .blocking-column .result) (few u) (a .loop .inv)
+    (c .before .before .before .before .before .before .before .before .before .before .before .loop-test .taken) f (d .blocking-column .ensures .bad f))
 
 same-length-3 : tie.Need-same-length-3 Inv-loop μ-loop
 same-length-3 c = c .before .loop .inv .room ∙ sym (start (c .before) .pre .3)
@@ -164,26 +164,26 @@ returns-3 c =
     let a = c .before in
     let u = start a in
     let e : a .loop .x ≡ 2 = omega (arith, a .loop .inv .within, c .loop-test .left) in
-    see-ends (h u) (T u) (v u) (b u) (L u) (u .pre .0) (u .pre .1) (s u) (u .pre .4) (u .pre .5) (u .pre .6) (l u) (a .loop .notes) (u .args .z)
-    (subst (Seeing (h u) (T u) (v u) (b u) (s u) (l u) (a .loop .notes)) e (since a)) (u .pre .7)
+    try-ends (h u) (T u) (v u) (b u) (L u) (u .pre .0) (u .pre .1) (s u) (u .pre .4) (u .pre .5) (u .pre .6) (l u) (a .loop .notes) (u .args .z)
+    (subst (Trying (h u) (T u) (v u) (b u) (s u) (l u) (a .loop .notes)) e (since a)) (u .pre .7)
 
-pub see-spec : {M : Type 1} → statement M
-see-spec =
+pub visit-spec : {M : Type 1} → statement M
+visit-spec =
     tie.close
     (tie.spec
     Inv-loop
     μ-loop
-    put-top-requires
+    put-visited-requires
     loop-holds
     alone-requires
     number-at-requires
     same-length
     returns
-    note-at-requires
-    blame-requires
+    blocking-at-requires
+    blocking-column-requires
     same-length-2
     returns-2
-    put-note-requires
+    put-blocking-requires
     add-x
     loop-less
     loop-again
