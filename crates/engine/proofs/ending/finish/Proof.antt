@@ -109,25 +109,35 @@ copy-requires : tie.Need-copy-requires
 copy-requires c κs = let w = c .before .before .before .before in a w .pre .values ∙ sym (long w)
 
 mul-settle-on : tie.Need-mul-settle-on
-mul-settle-on c = omega (arith, inside (c .before .before .before .before .before .before .before .before .before .before), small (c .before .before .before .before .before .before .before .before .before .before))
+mul-settle-on c =
+    let after-copy = c .before in
+    let after-seat = after-copy .before .before .before .before .before in
+    omega (arith, inside (after-seat .before .before .before .before), small (after-seat .before .before .before .before))
 
 sub-settle-on : tie.Need-sub-settle-on
-sub-settle-on c = inside (c .before .before .before .before .before .before .before .before .before .before)
+sub-settle-on c =
+    let after-copy = c .before in
+    let after-seat = after-copy .before .before .before .before .before in
+    inside (after-seat .before .before .before .before)
 
 part-settle-on-start : tie.Need-part-settle-on-start
-part-settle-on-start c = omega (arith, inside (c .before .before .before .before .before .before .before .before .before .before))
+part-settle-on-start c =
+    let after-copy = c .before in
+    let after-seat = after-copy .before .before .before .before .before in
+    omega (arith, inside (after-seat .before .before .before .before))
 
 part-settle-on-end : tie.Need-part-settle-on-end
 part-settle-on-end c = search needs
 
 settle-on-requires : tie.Need-settle-on-requires
 settle-on-requires c κs =
-    let k = c .before .before .before .before .copy in
-    let w = c .before .before .before .before .before .before .before .before .before in
-    let d = c .before .before .before .before .before .before .before .before .before .before .before .before .before in
+    let after-copy = c .before .before .before .before in
+    let after-seat = after-copy .before .before .before .before .before in
+    let k = after-copy .copy in
+    let d = after-seat .before .before .before .before in
     let s = start d in (
       ready-with (place-ready (s .args .p) (s .args .tableau .now) (d .basis-place .result) (d .basis-place .ensures) (s .args .start .now) (s .args .columns .now) (s .pre .placed))
-          (k .last .0) (ap length (k .ensures) ∙ long w ∙ wide d) (λ j. rw (k .ensures) (near w j)),
+          (k .last .0) (ap length (k .ensures) ∙ long after-seat ∙ wide d) (λ j. rw (k .ensures) (near after-seat j)),
       s .pre .strides .long ∙ wide d,
     )
 
@@ -142,15 +152,17 @@ same-length-4 c = search needs
 
 returns-2 : tie.Need-returns-2
 returns-2 c =
-    let k = c .before .before .before .before .before .before .before .before .copy in
-    let i = c .before .before .before .before .before .before .before .before .before .before .before .if1 in
-    let w = c .before .before .before .before .before .before .before .before .before .before .before .before .before in
-    let d = c .before .before .before .before .before .before .before .before .before .before .before .before .before .before .before .before .before in
+    let after-settle-on = c .before .before .before in
+    let after-copy = after-settle-on .before .before .before .before .before in
+    let after-seat = after-copy .before .before .before .before .before in
+    let k = after-copy .copy in
+    let i = after-copy .before .before .before .if1 in
+    let d = after-seat .before .before .before .before in
     let s = start d in
-    c .before .before .before .settle-on .ensures
+    after-settle-on .settle-on .ensures
     ∙ place-over (s .args .p) (s .args .tableau .now) (d .basis-place .result) (d .basis-place .ensures) (s .pre .placed .parted) (λ C N. settledBy (s .args .p .limit) C N (k .last .0)) (s .args .columns .now)
-    ∙ ap (settledBy (s .args .p .limit) (C w) (N w)) (k .ensures ∙ after w)
-    ∙ sym (finished-seated (s .args .p .limit) (C w) (N w) (s .args .values .now) (s .args .strides .now) (Seating.seat (C w) (N w) (s .args .start .now)) (s .args .start .now) (sits w (not-false _ (i .left))))
+    ∙ ap (settledBy (s .args .p .limit) (C after-seat) (N after-seat)) (k .ensures ∙ after after-seat)
+    ∙ sym (finished-seated (s .args .p .limit) (C after-seat) (N after-seat) (s .args .values .now) (s .args .strides .now) (Seating.seat (C after-seat) (N after-seat) (s .args .start .now)) (s .args .start .now) (sits after-seat (not-false _ (i .left))))
 
 pub finish-spec : {M : Type 1} → statement M
 finish-spec =

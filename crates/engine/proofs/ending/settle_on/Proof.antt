@@ -8,7 +8,9 @@ strides-requires : tie.Need-strides-requires
 strides-requires c κs = search needs
 
 settle-requires : tie.Need-settle-requires
-settle-requires c κs = c .before .before .before .before .before .before .pre .0
+settle-requires c κs =
+    let after-strides = c .before .before .before in
+    after-strides .before .before .before .pre .0
 
 same-length : tie.Need-same-length
 same-length c = search needs

@@ -53,9 +53,10 @@ same-length-2 c = search needs
 
 returns : tie.Need-returns
 returns c =
-    let d = c .before .before .before .before .before .before .before .before in
+    let after-settle-on = c .before .before .before in
+    let d = after-settle-on .before .before .before .before .before in
     let s = start d in
-    c .before .before .before .settle-on .ensures
+    after-settle-on .settle-on .ensures
     ∙ place-over (s .args .p) (s .args .tableau .now) (d .basis-place .result) (d .basis-place .ensures) (s .pre .0 .parted) (λ C N. settledBy (s .args .p .limit) C N (s .args .values .now)) (s .args .columns .now)
 
 pub settle-over-spec : {M : Type 1} → statement M
