@@ -1,4 +1,5 @@
--- `engine::assign` meets its contract: what the checks find decides, and then each answer of the tableau is a case of the definition. Assumes nothing.
+-- `engine::assign` meets its contract: what the checks find decides, and then each answer of the tableau is a case of the definition.
+-- Assumes nothing.
 use mathlib.Core.Path.{_≡_, refl, sym, _∙_, ap, subst}
 use mathlib.Core.Bool.{Bool, false, cond}
 use mathlib.Core.List.{List, _++_}
@@ -22,7 +23,8 @@ use Rattle.engine.specs.Assign.{Buffers, posedBy, buffers, columns, lent
 use Rattle.engine.specs.Finish.{finished, Finishable}
 use Rattle.engine.proofs.Readiness.{table, table-columns, cells, PackedIn, packable, packed-in, packed-fits, packed-back, packed-long}
 use Rattle.engine.proofs.Forming.{solvable, Laid}
-use Rattle.engine.proofs.Assigning.{doneWith, Some, some-is, solved-form, solved-kept, assign-over, assign-none, assign-found, finishable, assign-failed, assign-passed}
+use Rattle.engine.proofs.Assigning.{doneWith, Some, some-is, solved-form, solved-kept, assign-over}
+use Rattle.engine.proofs.Assigning.{assign-none, assign-found, finishable, assign-failed, assign-passed}
 use Rattle.engine.proofs.assign.Statement.{statement}
 use Rattle.engine.proofs.assign.Tie as tie
 
@@ -66,7 +68,8 @@ module _ (v : tie.After-solve) where
   abbrev from : tie.Start
   from = at checked
 
-  holds : {o : Bool} → solved (P from) .over ≡ o → v .solve .last .0 ≡ cond o (zeros (length (from .args .tableau .now))) (flat (solved (P from) .form))
+  holds :
+      {o : Bool} → solved (P from) .over ≡ o → v .solve .last .0 ≡ cond o (zeros (length (from .args .tableau .now))) (flat (solved (P from) .form))
   holds e = v .solve .ensures .1 .0 ∙ ap (λ (o : Bool). cond o (zeros (length (from .args .tableau .now))) (flat (solved (P from) .form))) e
 
   laid : solved (P from) .over ≡ false → Laid (P from) (lentOf (B from)) (q checked) (v .solve .last .0)
@@ -86,14 +89,19 @@ module _ (v : tie.After-solve) where
     finishing : Finishable (from .args .p) (v .solve .last .0) s l (from .args .values .now) (from .args .strides .now)
     finishing =
         subst (λ (y : List ℤ). Finishable (from .args .p) (v .solve .last .0) s y (from .args .values .now) (from .args .strides .now)) (sym g)
-        (finishable (P from) (B from) (record { passed = passed checked }) (laid (solution-found (solved (P from)) r)) x s e (solution-found (solved (P from)) r))
+        (finishable (P from) (B from) (record { passed = passed checked }) (laid (solution-found (solved (P from)) r)) x s e
+        (solution-found (solved (P from)) r))
 
-    ending : doneWith (v .solve .last .0) (finished (from .args .p) (columnsIn (from .args .p .columns) l) (v .solve .last .0) s (from .args .values .now) (from .args .strides .now))
+    ending :
+        doneWith (v .solve .last .0)
+        (finished (from .args .p) (columnsIn (from .args .p .columns) l) (v .solve .last .0) s (from .args .values .now) (from .args .strides .now))
         ≡ assign (P from) (B from)
     ending =
-        ap (λ (C : Columns). doneWith (v .solve .last .0) (finished (from .args .p) C (v .solve .last .0) s (from .args .values .now) (from .args .strides .now)))
+        ap (λ (C : Columns). doneWith (v .solve .last .0)
+        (finished (from .args .p) C (v .solve .last .0) s (from .args .values .now) (from .args .strides .now)))
         (ap (columnsIn (from .args .p .columns)) g ∙ table-columns (P from) (lentOf (B from)) (f checked))
-        ∙ sym (assign-found (P from) (B from) (record { passed = passed checked }) (laid (solution-found (solved (P from)) r)) x s e (solution-found (solved (P from)) r))
+        ∙ sym (assign-found (P from) (B from) (record { passed = passed checked }) (laid (solution-found (solved (P from)) r)) x s e
+        (solution-found (solved (P from)) r))
         ∙ sym (assign-passed (P from) (B from) (passed checked))
 
 first-cause-requires : tie.Need-first-cause-requires
@@ -184,7 +192,8 @@ returns-2 c =
     let v = c .before .before .before .before in
     let s = from v in
     let r : Over ≡ solutionOf (solved (P s)) = sym (c .enum-told2 .given .1) ∙ v .solve .ensures .0 in
-    ap (λ (t : List ℤ). refused Elimination t (B s)) (holds v (solution-over (solved (P s)) r)) ∙ sym (assign-over (P s) (B s) r) ∙ sym (assign-passed (P s) (B s) (passed (checked v)))
+    ap (λ (t : List ℤ). refused Elimination t (B s)) (holds v (solution-over (solved (P s)) r)) ∙ sym (assign-over (P s) (B s) r)
+    ∙ sym (assign-passed (P s) (B s) (passed (checked v)))
 
 same-length-2 : tie.Need-same-length-2
 same-length-2 c = search needs
@@ -194,7 +203,8 @@ returns-3 c =
     let v = c .before .before .before .before in
     let s = from v in
     let r : None ≡ solutionOf (solved (P s)) = sym (c .enum-told3 .given .1) ∙ v .solve .ensures .0 in
-    ap (λ (t : List ℤ). refused NoWholeNumbers t (B s)) (holds v (solution-none (solved (P s)) r)) ∙ sym (assign-none (P s) (B s) r) ∙ sym (assign-passed (P s) (B s) (passed (checked v)))
+    ap (λ (t : List ℤ). refused NoWholeNumbers t (B s)) (holds v (solution-none (solved (P s)) r)) ∙ sym (assign-none (P s) (B s) r)
+    ∙ sym (assign-passed (P s) (B s) (passed (checked v)))
 
 same-length-3 : tie.Need-same-length-3
 same-length-3 c = search needs
@@ -212,7 +222,8 @@ returns-4 c =
     let after-solve = before-finish .before .before .before .before .before in
     let r : Found ≡ solutionOf (solved (P (from after-solve))) = sym (before-finish .before .enum-told4 .given .1) ∙ after-solve .solve .ensures .0 in
     let x = some-is (solved (P (from after-solve))) r in
-    ap (doneWith (after-solve .solve .last .0)) (after-finish .finish .ensures) ∙ ending after-solve r x _ _ (begins after-solve r x _) (packed-back (packed (after-pack after-solve)) _)
+    ap (doneWith (after-solve .solve .last .0)) (after-finish .finish .ensures)
+    ∙ ending after-solve r x _ _ (begins after-solve r x _) (packed-back (packed (after-pack after-solve)) _)
 
 pub assign-spec : {M : Type 1} → statement M
 assign-spec =

@@ -78,7 +78,9 @@ module _ (g : tie.After-form) where
   abbrev behind : tie.Start
   behind = from after-stands
 
-  left : {o : Bool} → formed (P behind) .over ≡ o → g .form .last .0 ≡ cond o (zeros (length (behind .args .tableau .now))) (flat (formed (P behind) .table))
+  left :
+      {o : Bool} → formed (P behind) .over ≡ o
+      → g .form .last .0 ≡ cond o (zeros (length (behind .args .tableau .now))) (flat (formed (P behind) .table))
   left e = g .form .ensures .1 ∙ ap (λ (t : Bool). cond t (zeros (length (behind .args .tableau .now))) (flat (formed (P behind) .table))) e
 
   laid : formed (P behind) .over ≡ false → Laid (P behind) (lentOf (B behind)) (q (checked after-stands)) (g .form .last .0)
@@ -147,7 +149,8 @@ returns-3 c =
     let w = c .before .before .before .before .before in
     let s = from w in
     let o : formed (P s) .over ≡ true = sym (g .form .ensures .0) ∙ c .if2 .taken in
-    ap (λ (u : List ℤ). refused Elimination u (B s)) (left g o) ∙ sym (continue-over (P s) (B s) (standing w (not-false _ (c .before .before .before .before .if1 .left))) o)
+    ap (λ (u : List ℤ). refused Elimination u (B s)) (left g o)
+    ∙ sym (continue-over (P s) (B s) (standing w (not-false _ (c .before .before .before .before .if1 .left))) o)
     ∙ sym (continue-passed (P s) (B s) (passed (checked w)))
 
 array-share-prefix-columns : tie.Need-array-share-prefix-columns
@@ -196,8 +199,10 @@ returns-4 c =
     let o : formed (P s) .over ≡ false = sym (g .form .ensures .0) ∙ not-over .if2 .left in
     ap (doneWith (g .form .last .0))
     (after-settle-over .settle-over .ensures
-    ∙ ap (λ (C : Columns). settledOver (s .args .p) C (g .form .last .0) (s .args .values .now)) (ap (columnsIn (s .args .p .columns)) (packed-back (packed k) _) ∙ table-columns (P s) (lentOf (B s)) (f (checked after-stands))))
-    ∙ sym (continue-settled (P s) (B s) (lentOf (B s)) (q (checked after-stands)) (laid g o) (standing after-stands (not-false _ (not-over .before .before .before .before .if1 .left))))
+    ∙ ap (λ (C : Columns). settledOver (s .args .p) C (g .form .last .0) (s .args .values .now))
+    (ap (columnsIn (s .args .p .columns)) (packed-back (packed k) _) ∙ table-columns (P s) (lentOf (B s)) (f (checked after-stands))))
+    ∙ sym (continue-settled (P s) (B s) (lentOf (B s)) (q (checked after-stands)) (laid g o)
+    (standing after-stands (not-false _ (not-over .before .before .before .before .if1 .left))))
     ∙ sym (continue-passed (P s) (B s) (passed (checked after-stands)))
 
 pub continue-from-spec : {M : Type 1} → statement M

@@ -19,7 +19,9 @@ same-length-2 : tie.Need-same-length-2
 same-length-2 c = search needs
 
 returns : tie.Need-returns
-returns c = (λ i. finishedWith (c .before .settle .ensures i .answer) (c .before .settle .ensures i .values) (c .before .before .before .before .before .strides .ensures i))
+returns c =
+    (λ i. finishedWith (c .before .settle .ensures i .answer) (c .before .settle .ensures i .values)
+    (c .before .before .before .before .before .strides .ensures i))
 
 pub settle-on-spec : {M : Type 1} → statement M
 settle-on-spec =

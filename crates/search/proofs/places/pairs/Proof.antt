@@ -43,7 +43,8 @@ module _ (c : tie.Joined1 Inv-loop μ-loop) where
       let s = c .before .before .before .first .result in
       NoWorse (a .here .search) (a .columns .now) (a .values .now) (a .basis .now) (a .order .now) (l .best) (c .if1 .best)
       × ((s < a .here .search .view .vectors) × (visitedAt (a .notes .now) s ≡ a .here .at)
-      → AllDominated (a .here .search) (a .columns .now) (a .values .now) (a .basis .now) (a .order .now) (a .notes .now) (a .here .at) (c .if1 .best) s)
+      → AllDominated (a .here .search) (a .columns .now) (a .values .now) (a .basis .now) (a .order .now) (a .notes .now) (a .here .at)
+      (c .if1 .best) s)
   done =
       ⊎-elim
       (λ w. rw (w .2) (w .1 .ensures .0, λ _. w .1 .ensures .1))

@@ -1,4 +1,4 @@
--- `search::places::search_place` meets its contract: the vectors of the place are visited, then paired; where all were visited before, nothing is tried.
+-- `search::places::search_place` meets its contract: the vectors of the place are visited, then paired; where all were visited, none is tried.
 -- Assumes nothing.
 use mathlib.Core.Path.{_≡_, refl, _∙_, ap}
 use mathlib.Core.Logic.{inl, inr}

@@ -9,7 +9,8 @@ use Rattle.problem.specs.Limits.{maxColumns}
 use Rattle.search.specs.declared.places.Place.{Place}
 use Rattle.search.specs.Numbers.{numberAt}
 use Rattle.search.specs.Progress.{alone, Incumbent, Visited}
-use Rattle.search.proofs.Visiting.{here-column, here-room, Trying, try-starts, try-begins, try-since, try-more, try-at, try-improving, try-ends}
+use Rattle.search.proofs.Visiting.{here-column, here-room, Trying, try-starts, try-begins}
+use Rattle.search.proofs.Visiting.{try-since, try-more, try-at, try-improving, try-ends}
 use Rattle.search.proofs.places.visit.Statement.{statement}
 use Rattle.search.proofs.places.visit.Tie as tie
 

@@ -66,7 +66,8 @@ returns-2 c =
     let e = after-magnitude .before .before .enum-told2 .given .1 in
     let v = ap natAbs (read (s .args .c .value) (omega (arith, goal s e))) in
     c .ratio .ensures
-    ∙ (λ i. Measures.ratio ((after-magnitude .magnitude .ensures ∙ ap natAbs (low s)) i) ((c .before .before .before .magnitude2 .ensures ∙ ap natAbs (high s)) i) ((c .before .magnitude3 .ensures ∙ v) i))
+    ∙ (λ i. Measures.ratio ((after-magnitude .magnitude .ensures ∙ ap natAbs (low s)) i)
+    ((c .before .before .before .magnitude2 .ensures ∙ ap natAbs (high s)) i) ((c .before .magnitude3 .ensures ∙ v) i))
     ∙ ap (λ (p : Part). Measures.measure p (s .args .c)) (sym e)
 
 pub measure-spec : {M : Type 1} → statement M

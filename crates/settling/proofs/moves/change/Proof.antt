@@ -66,8 +66,13 @@ combine-requires : tie.Need-combine-requires
 combine-requires c κs =
     let entered = c .before .before .before .before .before in
     let s = entered .before .before .before in
-    rw (read-a s, read-b s, read-s s, read-t s)
-    (s .pre .1 .a, s .pre .1 .b, s .pre .0 .small (s .args .o .s * s .args .view .stride + s .args .j), s .pre .0 .small (s .args .o .t * s .args .view .stride + s .args .j))
+    rw (read-a s, read-b s, read-s s, read-t s) (
+      s .pre .1 .a,
+      s .pre .1 .b,
+      s .pre .0 .small (s .args .o .s * s .args .view .stride + s .args .j),
+      s .pre .0 .small
+          (s .args .o .t * s .args .view .stride + s .args .j),
+    )
 
 returns : tie.Need-returns
 returns c =

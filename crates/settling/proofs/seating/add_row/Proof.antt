@@ -29,7 +29,9 @@ abbrev Q : (s : tie.Start Inv-loop μ-loop) → ℤ
 Q s = toZ w64 (ofZ w64 (s .args .q))
 
 -- the column of a turn
-at : (c : tie.In-loop Inv-loop μ-loop) → let s = c .before .before in c .before .loop .j < length (plus (Q s) (s .args .row .now) (s .args .values .now))
+at :
+    (c : tie.In-loop Inv-loop μ-loop) → let s = c .before .before in
+    c .before .loop .j < length (plus (Q s) (s .args .row .now) (s .args .values .now))
 at c = let s = c .before .before in omega (arith, length-plus (Q s) (s .args .row .now) (s .args .values .now), s .pre .0 .long, c .loop-test .taken)
 
 here : (c : tie.In-loop Inv-loop μ-loop) → c .before .loop .j < length (c .before .loop .values)
@@ -54,13 +56,15 @@ share c = back _ (c .plus-product-arg2 .given)
 stored :
     (c : tie.After-plus-product Inv-loop μ-loop) →
     let s = c .before .before .before .before .before in
-    toZ w64 (ofZ w64 (c .plus-product .result)) ≡ entry (c .before .before .before .before .loop .j) (plus (Q s) (s .args .row .now) (s .args .values .now))
+    toZ w64 (ofZ w64 (c .plus-product .result)) ≡ entry (c .before .before .before .before .loop .j)
+    (plus (Q s) (s .args .row .now) (s .args .values .now))
 stored c =
     let s = c .before .before .before .before .before in
     let l = c .before .before .before .before .loop in
     back (c .plus-product .result) (c .plus-product .ok) ∙ c .plus-product .ensures
     ∙ (λ i. value (c .before .before) i +ℤ Q s *ℤ share (c .before) i)
-    ∙ sym (entry-plus (l .j) (Q s) (s .args .row .now) (s .args .values .now) (omega (arith, s .pre .0 .long, c .before .before .before .loop-test .taken)))
+    ∙ sym (entry-plus (l .j) (Q s) (s .args .row .now) (s .args .values .now)
+    (omega (arith, s .pre .0 .long, c .before .before .before .loop-test .taken)))
 
 -- its magnitude
 size :

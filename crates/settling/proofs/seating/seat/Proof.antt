@@ -35,7 +35,9 @@ module _ (c : tie.After-copy) where
   copy-long = ap length copied ∙ begin .pre .ready .values-long
 
 -- what is lent to be seated
-held : (c : tie.After-held2) → let s = c .before .before .before .before in (t : List ℤ) → take (n s) (c .before .copy .last .0 ++ drop (n s) t) ≡ s .args .values .now
+held :
+    (c : tie.After-held2) → let s = c .before .before .before .before in (t : List ℤ)
+    → take (n s) (c .before .copy .last .0 ++ drop (n s) t) ≡ s .args .values .now
 held c t = let s = c .before .before .before .before in part-back (n s) (c .before .copy .last .0) t (copy-long (c .before)) ∙ copied (c .before)
 
 module _ (c : tie.After-seat-all) where
@@ -95,14 +97,16 @@ slice-aggregate-copy-2 : tie.Need-slice-aggregate-copy-2
 slice-aggregate-copy-2 c =
     let after-seat-all = c .before .before .before .before in
     let after-copy = after-seat-all .before .before .before in
-    sym (ap length (part-back (n (after-copy .before .before .before)) (after-seat-all .seat-all .last .0) _ (seated-long (after-seat-all))) ∙ seated-long (after-seat-all))
+    sym (ap length (part-back (n (after-copy .before .before .before)) (after-seat-all .seat-all .last .0) _ (seated-long (after-seat-all)))
+    ∙ seated-long (after-seat-all))
 
 copy-requires-2 : tie.Need-copy-requires-2
 copy-requires-2 c κs =
     let after-seat-all = c .before .before .before .before in
     let after-copy = after-seat-all .before .before .before in
     let s = after-copy .before .before .before in
-    s .pre .ready .values-long ∙ sym (ap length (part-back (n s) (after-seat-all .seat-all .last .0) _ (seated-long (after-seat-all))) ∙ seated-long (after-seat-all))
+    s .pre .ready .values-long ∙ sym (ap length (part-back (n s) (after-seat-all .seat-all .last .0) _ (seated-long (after-seat-all)))
+    ∙ seated-long (after-seat-all))
 
 same-length-2 : tie.Need-same-length-2
 same-length-2 c = search needs
