@@ -32,7 +32,8 @@ use Rattle.rightside.specs.declared.Solution.the-variants.{Over, None, Found as
 use Rattle.rightside.proofs.Answers.{solution-over, solution-none}
 use Rattle.settling.specs.Seating.{Seated, seated, far, seat}
 use Rattle.whole.proofs.Never.{never}
-use Rattle.engine.specs.Assign.{Buffers, Done, done, n, m, matrix, columns, lentOf, refused, overLimit, settleOn, onSeated, solved, assignFit, assign, stands, formed, continueFit, continue}
+use Rattle.engine.specs.Assign.{Buffers, Done, done, n, m, matrix, columns, lentOf, refused, overLimit}
+use Rattle.engine.specs.Assign.{settleOn, onSeated, solved, assignFit, assign, stands, formed, continueFit, continue}
 use Rattle.engine.specs.Demand.{WithinLimits, Starts}
 use Rattle.engine.specs.Outcomes.{basisLeft}
 use Rattle.engine.specs.BasisPlace.{basisOf}
@@ -114,7 +115,9 @@ module _ (P : Posed) where
     pub assign-none : None ≡ solutionOf (solved P) → assignFit P B ≡ refused NoWholeNumbers (flat (solved P .form)) B
     assign-none e = rw (solution-none (solved P) e, none-is (solved P) e) refl
 
-    seated-done : (T N : List (List ℤ)) (z : Seated) → onSeated P T N B z ≡ doneWith (flat T) (onSeat (P .problem .limit) (columns P) N (B .values) (B .strides) z)
+    seated-done :
+        (T N : List (List ℤ)) (z : Seated) → onSeated P T N B z ≡ doneWith (flat T)
+        (onSeat (P .problem .limit) (columns P) N (B .values) (B .strides) z)
     unfolding settleOn
     seated-done T N far = refl
     seated-done T N (seated v) = refl
@@ -132,9 +135,12 @@ module _ (P : Posed) (B : Buffers) (w : WithinLimits P B) where
         → assignFit P B ≡ doneWith t (finished (P .problem) (columns P) t s (B .values) (B .strides))
     assign-found s e o =
         rw (o, x .is) (seated-done P B (solved P .form) (x .vectors) (seat (columns P) (x .vectors) (x .start)))
-        ∙ ap (λ (T : List (List ℤ)). doneWith (flat T) (onSeat (P .problem .limit) (columns P) (x .vectors) (B .values) (B .strides) (seat (columns P) (x .vectors) (x .start)))) (solved-form P)
-        ∙ ap (λ (u : List ℤ). doneWith u (onSeat (P .problem .limit) (columns P) (x .vectors) (B .values) (B .strides) (seat (columns P) (x .vectors) (x .start)))) (sym (a .is))
-        ∙ ap₂ (λ (N : List (List ℤ)) (v : List ℤ). doneWith t (onSeat (P .problem .limit) (columns P) N (B .values) (B .strides) (seat (columns P) N v))) same-basis (sym e)
+        ∙ ap (λ (T : List (List ℤ)). doneWith (flat T)
+        (onSeat (P .problem .limit) (columns P) (x .vectors) (B .values) (B .strides) (seat (columns P) (x .vectors) (x .start)))) (solved-form P)
+        ∙ ap (λ (u : List ℤ). doneWith u (onSeat (P .problem .limit) (columns P) (x .vectors) (B .values) (B .strides)
+        (seat (columns P) (x .vectors) (x .start)))) (sym (a .is))
+        ∙ ap₂ (λ (N : List (List ℤ)) (v : List ℤ). doneWith t
+        (onSeat (P .problem .limit) (columns P) N (B .values) (B .strides) (seat (columns P) N v))) same-basis (sym e)
 
     start-long : length (x .start) ≡ n P
     start-long = (rw (x .is) at (solve-tells (n P) (matrix P) (P .rights) (within-sized P B w))) .long
@@ -144,7 +150,8 @@ module _ (P : Posed) (B : Buffers) (w : WithinLimits P B) where
     finishable s e o = record {
       placed = laid-placed P (lentOf B) q a s (ap length e ∙ start-long) (λ j. rw e (start-small P (lentOf B) q (x .start) (x .vectors) o (x .is) j));
       led = record {
-        led = rw (laid-basis P (lentOf B) q a) (subst (λ (k : ℕ). All (Led (n P)) (basis k (formed P .table))) (length-chop (m P) (n P) (P .coefficients)) (problem-basis (n P) (matrix P)));
+        led = rw (laid-basis P (lentOf B) q a) (subst (λ (k : ℕ). All (Led (n P)) (basis k (formed P .table)))
+            (length-chop (m P) (n P) (P .coefficients)) (problem-basis (n P) (matrix P)));
         rises =
             rw (laid-basis P (lentOf B) q a)
             (subst (λ (k : ℕ). Rising 0 (basis k (formed P .table))) (length-chop (m P) (n P) (P .coefficients)) (basis-rising (n P) (matrix P)));
@@ -186,7 +193,9 @@ module _ (P : Posed) (B : Buffers) where
   abbrev pub settledIn : List ℤ → List (List ℤ) → Done
   settledIn t N = doneWith t (settledBy (P .problem .limit) (columns P) N (B .values))
 
-  pub continue-settled : (L : Lent) (q : Passes P L) {t : List ℤ} (a : Laid P L q t) → stands P (B .values) ≡ true → continueFit P B ≡ settledIn t (basisOf (P .problem) t)
+  pub continue-settled :
+      (L : Lent) (q : Passes P L) {t : List ℤ} (a : Laid P L q t) → stands P (B .values) ≡ true
+      → continueFit P B ≡ settledIn t (basisOf (P .problem) t)
   unfolding settleOn
   continue-settled L q {t} a e =
       continue-on e (a .kept)

@@ -70,12 +70,15 @@ module _ (p : Problem) (T : List (List ℤ)) (w : All (Len (width p)) T) (c : le
       none (suc k) e l X f = absurd (omega arith)
 
       go : (t : Bool) → ltb (length L) (p .columns) ≡ t
-          → rowsOf (p .columns - length L) (p .columns) (width p) (drop (cond (ltb (length L) (p .columns)) (length L * width p + p .rows) (p .columns * width p)) (flat T)) ≡ basis (p .rows) T
+          → rowsOf (p .columns - length L) (p .columns) (width p)
+          (drop (cond (ltb (length L) (p .columns)) (length L * width p + p .rows) (p .columns * width p)) (flat T)) ≡ basis (p .rows) T
       go true e = rw (e, r, behind) (rows-drop (p .rows) (p .columns) R (both-wide .1))
       go false e = none (p .columns - length L) (omega (arith, ltb-false (length L) (p .columns) e)) _ R (sym r)
 
 -- ---- in a list of the tableau's length
-pub basis-in : (p : Problem) (t : List ℤ) → Parted p t → vectors (basisView p (length (leading (p .rows) (tableOf p t)))) (drop (basisStart p (length (leading (p .rows) (tableOf p t)))) t) ≡ basisOf p t
+pub basis-in :
+    (p : Problem) (t : List ℤ) → Parted p t → vectors (basisView p (length (leading (p .rows) (tableOf p t))))
+    (drop (basisStart p (length (leading (p .rows) (tableOf p t)))) t) ≡ basisOf p t
 basis-in p t a =
     let T : List (List ℤ) = tableOf p t in
     let h : ℕ = length (leading (p .rows) T) in

@@ -51,14 +51,16 @@ summed-none a v = record {
   small = omega arith;
 }
 
-one-more : (a v : List ℤ) (i : ℕ) → i < length a → i < length v → dot (drop i a) (drop i v) ≡ dot (drop (suc i) a) (drop (suc i) v) +ℤ entry i v *ℤ entry i a
+one-more :
+    (a v : List ℤ) (i : ℕ) → i < length a → i < length v → dot (drop i a) (drop i v) ≡ dot (drop (suc i) a) (drop (suc i) v) +ℤ entry i v *ℤ entry i a
 unfolding dot
 one-more a v i h k = ap₂ dot (drop-cons a i (pos 0) h) (drop-cons v i (pos 0) k)
 
 pub product-small : (x y : ℤ) → natAbs x ≤ M → natAbs y ≤ maxCoefficient → natAbs (x *ℤ y) ≤ step
 product-small x y h k = subst (λ (n : ℕ). n ≤ step) (sym (abs-mul x y)) (mul-le-mul h k)
 
-pub summed-more : (a v : List ℤ) (j : ℕ) (s : ℤ) → Summable a v → 0 < j → Summed a v j s → Summed a v (j - 1) (s +ℤ entry (j - 1) v *ℤ entry (j - 1) a)
+pub summed-more :
+    (a v : List ℤ) (j : ℕ) (s : ℤ) → Summable a v → 0 < j → Summed a v j s → Summed a v (j - 1) (s +ℤ entry (j - 1) v *ℤ entry (j - 1) a)
 summed-more a v zero s q p z = absurd (omega arith)
 summed-more a v (suc i) s q p z =
     let e : suc i - 1 ≡ i = omega arith in
@@ -107,10 +109,12 @@ part-small k l n a f i = go (ltb i n) refl
 
 module _ {a b v : List ℤ} {i : ℕ} (q : RowStandable a b v i) where
   pub row-inside : i * length v + length v ≤ length a
-  row-inside = let h : (i + 1) * length v ≤ length b * length v = mul-le-mul-right (length v) (omega (arith, q .row)) in omega (arith, h, q .coefficients-long)
+  row-inside =
+      let h : (i + 1) * length v ≤ length b * length v = mul-le-mul-right (length v) (omega (arith, q .row)) in omega (arith, h, q .coefficients-long)
 
   pub table-small : length a ≤ maxRows * maxColumns
-  table-small = let h : length b * length v ≤ maxRows * maxColumns = mul-le-mul (q .few-rows) (q .few-columns) in omega (arith, h, q .coefficients-long)
+  table-small =
+      let h : length b * length v ≤ maxRows * maxColumns = mul-le-mul (q .few-rows) (q .few-columns) in omega (arith, h, q .coefficients-long)
 
   pub row-summable : (n : ℕ) → n ≡ length v → Summable (take n (drop (i * length v) a)) v
   row-summable n e =
@@ -135,4 +139,5 @@ all-within l = go (allSpan M l) (anyBeyond l) refl refl
     go : (s t : Bool) → allSpan M l ≡ s → anyBeyond l ≡ t → allSpan M l ≡ not (anyBeyond l)
     go true t e f = e ∙ ap not (sym (within-all l (all-small M l e)))
     go false true e f = e ∙ ap not (sym f)
-    go false false e f = absurd (true≢false (sym (every-all (length l) (λ i. spans M (entry i l)) (λ i h. le-leb (natAbs (entry i l)) M (within-entry l i f))) ∙ e))
+    go false false e f =
+        absurd (true≢false (sym (every-all (length l) (λ i. spans M (entry i l)) (λ i h. le-leb (natAbs (entry i l)) M (within-entry l i f))) ∙ e))

@@ -54,7 +54,12 @@ module _ (P : Posed) (L : Lent) (q : Passes P L) where
   }
 
   pub solvable : (t s : List ℤ) → length t ≡ L .tableau → length s ≡ n P → Solvable (P .problem) t (P .coefficients) (P .rights) s
-  solvable t s e g = record { form = formable t e; right = f .rights-long; start = g; small = both-true (allSpan maxCoefficient (P .coefficients)) (allSpan maxRight (P .rights)) (q .rows) .1 }
+  solvable t s e g = record {
+    form = formable t e;
+    right = f .rights-long;
+    start = g;
+    small = both-true (allSpan maxCoefficient (P .coefficients)) (allSpan maxRight (P .rights)) (q .rows) .1;
+  }
 
   count : length (matrix P) ≡ m P
   count = length-chop (m P) (n P) (P .coefficients)
@@ -63,7 +68,9 @@ module _ (P : Posed) (L : Lent) (q : Passes P L) where
   wide = subst (λ (k : ℕ). All (Len (k + n P)) (formed P .table)) count (problem-wide (n P) (matrix P))
 
   rows : chop (n P) (width (P .problem)) (flat (formed P .table)) ≡ formed P .table
-  rows = ap (λ (k : ℕ). chop k (width (P .problem)) (flat (formed P .table))) (sym (problem-count (n P) (matrix P))) ∙ chop-flat (width (P .problem)) (formed P .table) wide
+  rows =
+      ap (λ (k : ℕ). chop k (width (P .problem)) (flat (formed P .table))) (sym (problem-count (n P) (matrix P)))
+      ∙ chop-flat (width (P .problem)) (formed P .table) wide
 
   -- no number of a form that is not past the limit lies beyond ±M
   pub form-within : formed P .over ≡ false → All Within (formed P .table)
@@ -86,11 +93,22 @@ module _ (P : Posed) (L : Lent) (q : Passes P L) where
     laid-basis = ap (basis (m P)) laid-table
 
     laid-within : Within t
+<<<<<<< ours
     laid-within = subst Within (sym (a .is)) (flat-all (formed P .table) (form-within (a .kept)))
+=======
+    unfolding form
+    laid-within =
+        let z : length (zeros (L .tableau)) ≡ L .tableau = length-replicate (L .tableau) (pos 0) in
+        subst Within (sym (a .is))
+        (flat-all (formed P .table)
+        (eliminate-all (length (matrix P) + n P) (tableau (n P) (matrix P))
+        (all-flat (tableau (n P) (matrix P)) (table-within (formable (zeros (L .tableau)) z))) (a .kept)))
+>>>>>>> theirs
 
     pub laid-parted : Parted (P .problem) t
     laid-parted = record {
-      long = ap length (a .is) ∙ length-flat (width (P .problem)) (formed P .table) wide ∙ ap (λ (k : ℕ). k * width (P .problem)) (problem-count (n P) (matrix P));
+      long = ap length (a .is) ∙ length-flat (width (P .problem)) (formed P .table) wide
+          ∙ ap (λ (k : ℕ). k * width (P .problem)) (problem-count (n P) (matrix P));
       small = λ i. within-entry t i laid-within;
       rises = subst (Rising 0) (sym laid-table) (problem-rising (n P) (matrix P));
     }
@@ -106,7 +124,8 @@ module _ (P : Posed) (L : Lent) (q : Passes P L) where
   right-within : Within (neg (P .rights) ++ zeros (n P))
   right-within =
       within-append (neg (P .rights)) (zeros (n P))
-      (within-neg (P .rights) (span-within maxRight (P .rights) (lit≤ tt) (both-true (allSpan maxCoefficient (P .coefficients)) (allSpan maxRight (P .rights)) (q .rows) .1)))
+      (within-neg (P .rights) (span-within maxRight (P .rights) (lit≤ tt)
+      (both-true (allSpan maxCoefficient (P .coefficients)) (allSpan maxRight (P .rights)) (q .rows) .1)))
       (within-zeros (n P))
 
   pub start-small : (s : List ℤ) (N : List (List ℤ)) → solved P .over ≡ false → solved P .found ≡ some s N → (j : ℕ) → natAbs (entry j s) ≤ M
@@ -126,7 +145,9 @@ module _ (P : Posed) (L : Lent) (q : Passes P L) where
       z = sweep (remaining k T) (w .row)
 
       by : Bool → Solved
-      by t = cond t (record { form = T; found = some (drop k (z .row)) (basis k T); over = formed P .over || (w .over || z .over) }) (record { form = T; found = none; over = formed P .over || w .over })
+      by t =
+          cond t (record { form = T; found = some (drop k (z .row)) (basis k T); over = formed P .over || (w .over || z .over) })
+          (record { form = T; found = none; over = formed P .over || w .over })
 
       go : (t : Bool) → by t .over ≡ false → by t .found ≡ some s N → Within s
       go true e g =

@@ -45,7 +45,8 @@ view-lies p h t l a = record {
     go : (s j : ℕ) → s < p .columns - h → j < p .columns → s * width p + j < length (drop (basisStart p h) t)
     go s j x y =
         let e : basisStart p h ≡ h * width p + p .rows = rw (lt-ltb h (p .columns) (omega arith)) refl in
-        let i : h * width p + p .rows + (s * width p + j) < p .columns * width p = inside (p .columns) h (width p) (p .rows) s j (omega arith) (omega arith) in
+        let i : h * width p + p .rows + (s * width p + j) < p .columns * width p = inside (p .columns) h (width p) (p .rows) s j (omega arith)
+        (omega arith) in
         omega (arith, length-drop (basisStart p h) t, e, i)
 
 -- ---- the table of a problem's columns
@@ -96,7 +97,9 @@ fit-column P L f j = record {
   above = f .goal-above j;
 }
 
-pub ready : (P : Posed) (L : Lent) → Fits P L → (h : ℕ) (l v : List ℤ) → Viewed (basisView (P .problem) h) l → length v ≡ n P → ((j : ℕ) → natAbs (entry j v) ≤ M)
+pub ready :
+    (P : Posed) (L : Lent) → Fits P L → (h : ℕ) (l v : List ℤ) → Viewed (basisView (P .problem) h) l → length v ≡ n P
+    → ((j : ℕ) → natAbs (entry j v) ≤ M)
     → Ready (basisView (P .problem) h) v (table P) l
 ready P L f h l v b e a = record {
   few = f .few-columns;

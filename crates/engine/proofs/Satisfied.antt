@@ -50,7 +50,8 @@ span-rows : (T : List (List ℤ)) → All (Span T) T
 span-rows [] = tt
 span-rows (r ∷ T) = (span-row r T, all-map (Span T) (Span (r ∷ T)) (λ u s. span-under r T u s) T (span-rows T))
 
-pub describes-keeps : (n : ℕ) (Q : List ℤ → Type 0) (s : List ℤ) (N : List (List ℤ)) → ((x : List ℤ) → Q x → length x ≡ n) → Describes n Q s N → Keeps Q N
+pub describes-keeps :
+    (n : ℕ) (Q : List ℤ → Type 0) (s : List ℤ) (N : List (List ℤ)) → ((x : List ℤ) → Q x → length x ≡ n) → Describes n Q s N → Keeps Q N
 describes-keeps n Q s N long d = record {
   adds = λ c v q.
       all-both (Span N) (Len n) (λ (r : List ℤ). Q (plus c r v))

@@ -73,10 +73,13 @@ module _ (p : Problem) (t : List ℤ) (x : Place) (e : x ≡ placeOf p t) where
   place-ready v c q = rw (view, seen) (q .ready h)
 
   -- a vector that seating takes is one of the basis
-  pub place-led : Parted p t → LedBasis p t → (s : ℕ) → s < x .view .vectors → Seats.PositiveLead (vector (vectors (x .view) (take (length t - x .at) (drop (x .at) t))) s)
+  pub place-led :
+      Parted p t → LedBasis p t → (s : ℕ) → s < x .view .vectors
+      → Seats.PositiveLead (vector (vectors (x .view) (take (length t - x .at) (drop (x .at) t))) s)
   place-led q b s l =
       let k : length (basisOf p t) ≡ x .view .vectors =
-      ap length (sym (place-basis q)) ∙ rows-length (x .view .vectors) (x .view .columns) (x .view .stride) (take (length t - x .at) (drop (x .at) t)) in
+      ap length (sym (place-basis q)) ∙ rows-length (x .view .vectors) (x .view .columns) (x .view .stride)
+      (take (length t - x .at) (drop (x .at) t)) in
       let d : Led (p .columns) (vector (basisOf p t) s) = all-at (Led (p .columns)) (basisOf p t) s [] (omega (arith, k)) (b .led) in
       rw (place-basis q) (record { inside = omega (arith, d .wide, d .inside); above = positive-above (d .above) })
 

@@ -42,7 +42,9 @@ ratio-determinate low high v a = go (below (fraction (1000 * v) low) (fraction h
     some zero n h = absurd (omega (arith, h))
     some (suc k) n h = omega arith
 
-    go : (t : Bool) → below (fraction (1000 * v) low) (fraction high (1000 * v)) ≡ t → Determinate (cond t (fraction high (1000 * v)) (fraction (1000 * v) low))
+    go :
+        (t : Bool) → below (fraction (1000 * v) low) (fraction high (1000 * v)) ≡ t
+        → Determinate (cond t (fraction high (1000 * v)) (fraction (1000 * v) low))
     go true e = omega (arith, some high (1000 * v * (1000 * v)) (ltb-true (1000 * v * (1000 * v)) (high * low) e))
     go false e = omega arith
 
@@ -94,9 +96,11 @@ module _ (p : Part) (C : Columns) (N : List (List ℤ)) (v : List ℤ) (i : ℕ)
 
   -- one column more
   more : {b : Bool} (j : ℕ) (L K : List Measure) → j < C .count → Falls below old b L K
-      → Falls below old b (cond (isCompared p (cell C v j)) (measureAt p C v j ∷ L) L) (cond (isCompared p (cell C after j)) (measureAt p C after j ∷ K) K)
+      → Falls below old b (cond (isCompared p (cell C v j)) (measureAt p C v j ∷ L) L)
+      (cond (isCompared p (cell C after j)) (measureAt p C after j ∷ K) K)
   more {b} j L K l f =
-      subst (λ (s : Bool). Falls below old b (cond (isCompared p (cell C v j)) (measureAt p C v j ∷ L) L) (cond s (measureAt p C after j ∷ K) K)) (still j)
+      subst (λ (s : Bool). Falls below old b (cond (isCompared p (cell C v j)) (measureAt p C v j ∷ L) L) (cond s (measureAt p C after j ∷ K) K))
+      (still j)
       (go (isCompared p (cell C v j)) (isZero (change N o j)) refl refl)
     where
       same : isZero (change N o j) ≡ true → measureAt p C v j ≡ measureAt p C after j
@@ -113,7 +117,8 @@ module _ (p : Part) (C : Columns) (N : List (List ℤ)) (v : List ℤ) (i : ℕ)
       → Falls below old true (cond (isCompared p (cell C v i)) (old ∷ L) L) (cond (isCompared p (cell C after i)) (measureAt p C after i ∷ K) K)
   itself L K f =
       let e : isCompared p (cell C after i) ≡ true = sym (still i) ∙ compared in
-      subst (λ (s : Bool). Falls below old true (cond s (old ∷ L) L) (cond (isCompared p (cell C after i)) (measureAt p C after i ∷ K) K)) (sym compared)
+      subst (λ (s : Bool). Falls below old true (cond s (old ∷ L) L) (cond (isCompared p (cell C after i)) (measureAt p C after i ∷ K) K))
+      (sym compared)
       (subst (λ (s : Bool). Falls below old true (old ∷ L) (cond s (measureAt p C after i ∷ K) K)) (sym e)
       (first _ _ refl (taken-below p C N v i o t i (t .inside) e (not-true _ (taken-changes p C N v i o t))) f))
 

@@ -29,7 +29,8 @@ use Rattle.settling.specs.Moves.{single, pair, signPairs, singles, pairsWith, p
 use Rattle.settling.proofs.Fronts.{lt-or-ge}
 use Rattle.settling.specs.Steps.{firstMove, firstColumn}
 use Rattle.settling.specs.Verdicts.{Listed}
-use Rattle.search.specs.Numbers.{Sign, firstPair, span, mark, numberOf, numberAt, signOf, moveOf, stepIn, DominatedBy, ImprovingNumber, ImprovingOrNone}
+use Rattle.search.specs.Numbers.{Sign, firstPair, span, mark, numberOf, numberAt}
+use Rattle.search.specs.Numbers.{signOf, moveOf, stepIn, DominatedBy, ImprovingNumber, ImprovingOrNone}
 use Rattle.search.proofs.Listings.{Single, Double, listed-cases}
 
 -- ---- the number of a move

@@ -181,10 +181,18 @@ AllDominated S T v b L notes k z s = (x : ℕ) → x < 2 → (t : ℕ) → Partn
 pub partner-is : (notes : List ℕ) (k r s t : ℕ) → visitedAt notes s ≡ k → t < r → partnerBy notes k s t ≡ true → Partner r notes k s t
 partner-is notes k r s t p h e = go (ltb k (visitedAt notes t)) (ltb (visitedAt notes t) k) (ltb s t) refl refl refl e
   where
-    go : (c d f : Bool) → ltb k (visitedAt notes t) ≡ c → ltb (visitedAt notes t) k ≡ d → ltb s t ≡ f → c || (not d && f) ≡ true → Partner r notes k s t
+    go :
+        (c d f : Bool) → ltb k (visitedAt notes t) ≡ c → ltb (visitedAt notes t) k ≡ d → ltb s t ≡ f → c || (not d && f) ≡ true
+        → Partner r notes k s t
     go true d f i j l e =
         let m = ltb-true k (visitedAt notes t) i in
-        record { inside = h; apart = λ q. omega (arith, ap (λ (n : ℕ). visitedAt notes n) q); unvisited = omega arith; later = λ q. absurd (omega arith) }
+        record {
+          inside = h;
+          apart = λ q. omega (arith, ap (λ (n : ℕ). visitedAt notes n) q);
+          unvisited = omega arith;
+          later = λ q. absurd
+              (omega arith);
+        }
     go false false true i j l e =
         let m = ltb-true s t l in
         record { inside = h; apart = λ q. omega arith; unvisited = ltb-false (visitedAt notes t) k j; later = λ q. m }
@@ -342,7 +350,8 @@ module _
         two : (s : ℕ) (a : ℤ) (t : ℕ) (c : ℤ) → s < t → t < h .search .view .vectors → Sign a → Sign c → Done (pair s a t c)
         two s a t c r n d e l m =
             ⊎-elim (λ q. old (pair s a t c) l (inl q))
-            (λ i. ⊎-elim (λ q. old (pair s a t c) l (inr q)) (λ j. ⊎-elim (first j) (second j) (eq-or-lt-of-le i)) (lt-or-ge (visitedAt notes t) (h .at)))
+            (λ i. ⊎-elim (λ q. old (pair s a t c) l (inr q)) (λ j. ⊎-elim (first j) (second j) (eq-or-lt-of-le i))
+            (lt-or-ge (visitedAt notes t) (h .at)))
             (lt-or-ge (visitedAt notes s) (h .at))
           where
             signs : pair s (signOf (mark a)) t (signOf (mark c)) ≡ pair s a t c

@@ -34,7 +34,8 @@ use Rattle.settling.specs.Verdicts.{Listed}
 use Rattle.search.specs.declared.places.Place.{Place}
 use Rattle.search.specs.Notes.{noteWidth, notesLong, visitedAt, blockingAt}
 use Rattle.search.specs.Numbers.{firstPair, span, numberAt, signOf}
-use Rattle.search.specs.Progress.{Here, alone, ZeroBefore, Dominated, Incumbent, Before, PairIncumbent, Blocked, VisitedHere, Unvisited, Visiting, Visited}
+use Rattle.search.specs.Progress.{Here, alone, ZeroBefore, Dominated, Incumbent, Before}
+use Rattle.search.specs.Progress.{PairIncumbent, Blocked, VisitedHere, Unvisited, Visiting, Visited}
 use Rattle.search.specs.Searches.{columnsOf, passing, Setup}
 use Rattle.search.specs.Sets.{has, firstOf, restOf, touches}
 use Rattle.search.proofs.Dominance.{Still, zero-still, still-dominated, dominated-less, fails-dominated}
@@ -104,7 +105,8 @@ pub record Trying (h : Place) (T v b : List ℤ) (s : ℕ) (l m : List ℕ) (x :
   pub blocked : (y : ℕ) → y < x → Blocked h T v b m s y
 
 -- the same where the notes of a vector are the same
-blocked-over : (h : Place) (T v b : List ℤ) (l m : List ℕ) (s x : ℕ) → blockingAt m s x ≡ blockingAt l s x → Blocked h T v b l s x → Blocked h T v b m s x
+blocked-over :
+    (h : Place) (T v b : List ℤ) (l m : List ℕ) (s x : ℕ) → blockingAt m s x ≡ blockingAt l s x → Blocked h T v b l s x → Blocked h T v b m s x
 blocked-over h T v b l m s x e k = record {
   inside = omega (arith, k .inside);
   fails = ap (passing (h .search) T v b (alone s x) (h .q)) e ∙ k .fails;
@@ -262,7 +264,8 @@ module _ (h : Place) (T v b : List ℤ) (L : List ℕ) where
         explored = k .explored;
       }
     where
-      waiting : (s : ℕ) → s < h .search .view .vectors → maxColumns ≤ visitedAt l s → ZeroBefore (h .search .view) b L s (h .at) → Unvisited h b L w l s
+      waiting :
+          (s : ℕ) → s < h .search .view .vectors → maxColumns ≤ visitedAt l s → ZeroBefore (h .search .view) b L s (h .at) → Unvisited h b L w l s
       waiting s i visited zero-before = record {
         visited = visited;
         zero-before = zero-before;
@@ -271,7 +274,8 @@ module _ (h : Place) (T v b : List ℤ) (L : List ℕ) where
 
   -- a vector that is not visited changes no column so far
   pub visiting-zero :
-      (w : ℕ) (l : List ℕ) (z : ℕ) → Visiting h T v b L w l z → h .at < maxColumns → (s : ℕ) → s < h .search .view .vectors → maxColumns ≤ visitedAt l s
+      (w : ℕ) (l : List ℕ) (z : ℕ) → Visiting h T v b L w l z → h .at < maxColumns → (s : ℕ) → s < h .search .view .vectors
+      → maxColumns ≤ visitedAt l s
       → ZeroBefore (h .search .view) b L s (h .at)
   visiting-zero w l z k a s i p =
       ⊎-elim (λ q. absurd (omega arith)) (λ f. ⊎-elim (λ q. absurd (omega (arith, q .visited))) (λ q. q .zero-before) f) (k .each s i)

@@ -42,9 +42,12 @@ module _ (A : List ℤ) (at : ℕ) (e : at ≡ length A) where
       → set (set (set (set (set (set (A ++ (a ∷ b ∷ c ∷ d ∷ f ∷ g ∷ B)) (at + 0) x) (at + 1) y) (at + 2) z) (at + 3) u) (at + 4) v) (at + 5) w
       ≡ A ++ (x ∷ y ∷ z ∷ u ∷ v ∷ w ∷ B)
   six x y z u v w a b c d f g B =
-      ap (λ (t : List ℤ). set (set (set (set (set t (at + 1) y) (at + 2) z) (at + 3) u) (at + 4) v) (at + 5) w) (set-behind A (a ∷ b ∷ c ∷ d ∷ f ∷ g ∷ B) (at + 0) 0 x (omega (arith, e)))
-      ∙ ap (λ (t : List ℤ). set (set (set (set t (at + 2) z) (at + 3) u) (at + 4) v) (at + 5) w) (set-behind A (x ∷ b ∷ c ∷ d ∷ f ∷ g ∷ B) (at + 1) 1 y (omega (arith, e)))
-      ∙ ap (λ (t : List ℤ). set (set (set t (at + 3) u) (at + 4) v) (at + 5) w) (set-behind A (x ∷ y ∷ c ∷ d ∷ f ∷ g ∷ B) (at + 2) 2 z (omega (arith, e)))
+      ap (λ (t : List ℤ). set (set (set (set (set t (at + 1) y) (at + 2) z) (at + 3) u) (at + 4) v) (at + 5) w)
+      (set-behind A (a ∷ b ∷ c ∷ d ∷ f ∷ g ∷ B) (at + 0) 0 x (omega (arith, e)))
+      ∙ ap (λ (t : List ℤ). set (set (set (set t (at + 2) z) (at + 3) u) (at + 4) v) (at + 5) w)
+      (set-behind A (x ∷ b ∷ c ∷ d ∷ f ∷ g ∷ B) (at + 1) 1 y (omega (arith, e)))
+      ∙ ap (λ (t : List ℤ). set (set (set t (at + 3) u) (at + 4) v) (at + 5) w)
+      (set-behind A (x ∷ y ∷ c ∷ d ∷ f ∷ g ∷ B) (at + 2) 2 z (omega (arith, e)))
       ∙ ap (λ (t : List ℤ). set (set t (at + 4) v) (at + 5) w) (set-behind A (x ∷ y ∷ z ∷ d ∷ f ∷ g ∷ B) (at + 3) 3 u (omega (arith, e)))
       ∙ ap (λ (t : List ℤ). set t (at + 5) w) (set-behind A (x ∷ y ∷ z ∷ u ∷ f ∷ g ∷ B) (at + 4) 4 v (omega (arith, e)))
       ∙ set-behind A (x ∷ y ∷ z ∷ u ∷ v ∷ g ∷ B) (at + 5) 5 w (omega (arith, e))
@@ -151,5 +154,6 @@ packed-columns n lo hi gs a b d = (λ i. record { count = n; column = λ j. at j
     at : (j : ℕ) → columnAt (packedFrom f n 0) j ≡ f j
     at j =
         ⊎-elim (λ h. packed-at f n 0 j j h (omega arith))
-        (λ h. past (packedFrom f n 0) j (omega (arith, packed-length f n 0, h)) ∙ sym (λ i. withGoal (none lo j a h i) (none hi j b h i) (none gs j d h i)))
+        (λ h. past (packedFrom f n 0) j (omega (arith, packed-length f n 0, h))
+        ∙ sym (λ i. withGoal (none lo j a h i) (none hi j b h i) (none gs j d h i)))
         (lt-or-ge j n)

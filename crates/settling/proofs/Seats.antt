@@ -84,7 +84,8 @@ quotient-small d (pos (suc p)) h = go (pos 2 *ℤ d +ℤ pos (suc p)) refl
     go (negsuc a) f =
         omega (
           arith,
-          below-small (natAbs d) (suc p) (a / (2 * suc p)) (omega arith) (omega (arith, div-mul-le-self a (2 * suc p), sum-under (pos 2 *ℤ d) (suc p) a f, abs-mul (pos 2) d)),
+          below-small (natAbs d) (suc p) (a / (2 * suc p)) (omega arith)
+              (omega (arith, div-mul-le-self a (2 * suc p), sum-under (pos 2 *ℤ d) (suc p) a f, abs-mul (pos 2) d)),
         )
 
 pub twice-above : (p : ℤ) → pos 0 <ℤ p → pos 0 <ℤ (pos 2 *ℤ p)
@@ -92,7 +93,12 @@ twice-above p = rw (rep p) (simp diff-rel (omega arith))
 
 pub gap-small : (C : Columns) (v : List ℤ) (c : ℕ) → FitColumn (C .column c) → natAbs (entry c v) ≤ M → natAbs (gapAt C v c) ≤ M + maxBound
 gap-small C v c f h =
-    omega (arith, abs-less (idealAt C v c) (entry c v), ideal-small (C .column c .lower) (C .column c .upper) (C .column c .wish) (entry c v) (f .lower) (f .upper))
+    omega (
+      arith,
+      abs-less (idealAt C v c) (entry c v),
+      ideal-small (C .column c .lower) (C .column c .upper) (C .column c .wish) (entry c v)
+          (f .lower) (f .upper),
+    )
 
 pub product-small : (x q y : ℤ) → natAbs x ≤ 2 * M → natAbs q ≤ M + maxBound + 1 → natAbs y ≤ M
     → (natAbs (q *ℤ y) < 9223372036854775808) × (natAbs (x +ℤ q *ℤ y) < 9223372036854775808)
@@ -104,7 +110,9 @@ product-small x q y a b d =
 module _ (C : Columns) (B : Basis) (l v : List ℤ) (s : ℕ) where
   pub seat-end : B .vectors ≤ s → seat C (drop s (vectors B l)) v ≡ seated v
   unfolding seat
-  seat-end h = ap (λ (N : List (List ℤ)). seat C N v) (drop-of-length-le (vectors B l) {i = s} (omega (arith, rows-length (B .vectors) (B .columns) (B .stride) l)))
+  seat-end h =
+      ap (λ (N : List (List ℤ)). seat C N v) (drop-of-length-le (vectors B l) {i = s}
+      (omega (arith, rows-length (B .vectors) (B .columns) (B .stride) l)))
 
   step : s < B .vectors → seat C (drop s (vectors B l)) v ≡ seat C (vector (vectors B l) s ∷ drop (suc s) (vectors B l)) v
   step h = ap (λ (N : List (List ℤ)). seat C N v) (vectors-drop B l s h)
@@ -127,7 +135,9 @@ unfolding anyBeyond
 none-beyond [] e j = omega arith
 none-beyond (x ∷ r) e j = go (beyond x) refl e j (none-beyond r)
   where
-    go : (t : Bool) → beyond x ≡ t → (t || anyBeyond r) ≡ false → (j : ℕ) → (anyBeyond r ≡ false → (j : ℕ) → natAbs (entry j r) ≤ M) → natAbs (entry j (x ∷ r)) ≤ M
+    go :
+        (t : Bool) → beyond x ≡ t → (t || anyBeyond r) ≡ false → (j : ℕ) → (anyBeyond r ≡ false → (j : ℕ) → natAbs (entry j r) ≤ M)
+        → natAbs (entry j (x ∷ r)) ≤ M
     go true f g j ih = absurd (true≢false g)
     go false f g zero ih = ltb-false M (natAbs x) f
     go false f g (suc j) ih = ih g j

@@ -85,12 +85,14 @@ listed-singles r (suc k) s h = all-append r (signs s) (singles k (suc s)) (liste
 listed-with : (r k s t : ℕ) → s < r → t + k ≤ r → AllOf r (pairsWith k s t)
 unfolding pairsWith
 listed-with r zero s t l h = all-none r
-listed-with r (suc k) s t l h = all-append r (signPairs s t) (pairsWith k s (suc t)) (listed-pairs r s t l (omega arith)) (listed-with r k s (suc t) l (omega arith))
+listed-with r (suc k) s t l h = all-append r (signPairs s t) (pairsWith k s (suc t)) (listed-pairs r s t l (omega arith))
+    (listed-with r k s (suc t) l (omega arith))
 
 listed-all : (r k s : ℕ) → s + k ≤ r → AllOf r (pairs k s)
 unfolding pairs
 listed-all r zero s h = all-none r
-listed-all r (suc k) s h = all-append r (pairsWith k s (suc s)) (pairs k (suc s)) (listed-with r k s (suc s) (omega arith) (omega arith)) (listed-all r k (suc s) (omega arith))
+listed-all r (suc k) s h = all-append r (pairsWith k s (suc s)) (pairs k (suc s)) (listed-with r k s (suc s) (omega arith) (omega arith))
+    (listed-all r k (suc s) (omega arith))
 
 listed-moves : (r : ℕ) → AllOf r (moves r)
 unfolding moves
@@ -137,19 +139,35 @@ taken-ready B v t b i o r e =
         few = r .few;
         few-vectors = r .few-vectors;
         basis = r .basis;
+<<<<<<< ours
         values-long = u .long;
         values-small = u .small;
+=======
+        values-long = moved-length (vectors B b) o v ∙ r .values-long;
+        values-small = λ j. ⊎-elim
+            (λ h. allowed-near (partOf C v) (cell C (moved (vectors B b) o v) j) (r .columns j .lower) (r .columns j .upper) (m .1 j h)) (past j)
+            (lt-or-ge j (B .columns));
+>>>>>>> theirs
         table-long = r .table-long;
         columns = r .columns;
       },
     )
+<<<<<<< ours
+=======
+  where
+    past : (j : ℕ) → B .columns ≤ j → natAbs (entry j (moved (vectors B b) o v)) ≤ M
+    past j h =
+        rw (List·getD-eq-default (moved (vectors B b) o v) (pos 0) {n = j} (omega (arith, moved-length (vectors B b) o v, r .values-long)))
+        (omega arith)
+>>>>>>> theirs
 
 -- ---- by what the next step is
 module _ (C : Columns) (N : List (List ℤ)) (k : Counts) (v : List ℤ) where
   pub settle-rest : (g : ℕ) → nextStep C N v ≡ Rest → settleFrom g C N k v ≡ ended (atRest (partOf C v) k) v
   unfolding settleFrom
   settle-rest zero e = ap (λ (z : Step). onStep z (ended (atRest (partOf C v) k) v) (λ o. ended (Spent k) v)) e
-  settle-rest (suc g) e = ap (λ (z : Step). onStep z (ended (atRest (partOf C v) k) v) (λ o. settleFrom g C N (counted (partOf C v) k) (moved N o v))) e
+  settle-rest (suc g) e =
+      ap (λ (z : Step). onStep z (ended (atRest (partOf C v) k) v) (λ o. settleFrom g C N (counted (partOf C v) k) (moved N o v))) e
 
   pub settle-spent : (g i : ℕ) (o : Move) → g ≡ 0 → nextStep C N v ≡ Take i o → settleFrom g C N k v ≡ ended (Spent k) v
   unfolding settleFrom

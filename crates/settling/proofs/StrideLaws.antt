@@ -82,7 +82,8 @@ filled-on N d₀ d j y f h e =
     record {
       within = omega arith;
       long = length-set d j y ∙ f .long;
-      done = below-more (λ x. getD (set d j y) x 0 ≡ stride N x) j (λ x m. getD-set-other d j x y 0 (λ q. omega arith) ∙ f .done x m) (getD-set-same d j y 0 (omega (arith, f .long)) ∙ e);
+      done = below-more (λ x. getD (set d j y) x 0 ≡ stride N x) j (λ x m. getD-set-other d j x y 0 (λ q. omega arith) ∙ f .done x m)
+          (getD-set-same d j y 0 (omega (arith, f .long)) ∙ e);
     }
 
 strides-length : (N : List (List ℤ)) (k j : ℕ) → length (stridesFrom N k j) ≡ k

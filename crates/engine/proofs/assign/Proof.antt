@@ -1,4 +1,5 @@
--- `engine::assign` meets its contract: what the checks find decides, and then each answer of the tableau is a case of the definition. Assumes nothing.
+-- `engine::assign` meets its contract: what the checks find decides, and then each answer of the tableau is a case of the definition.
+-- Assumes nothing.
 use mathlib.Core.Path.{_≡_, refl, sym, _∙_, ap, subst}
 use mathlib.Core.Bool.{Bool, false, cond}
 use mathlib.Core.List.{List, _++_}
@@ -22,7 +23,8 @@ use Rattle.engine.specs.Assign.{Buffers, posedBy, buffers, columns, lent
 use Rattle.engine.specs.Finish.{finished, Finishable}
 use Rattle.engine.proofs.Readiness.{table, table-columns, cells, PackedIn, packable, packed-in, packed-fits, packed-back, packed-long}
 use Rattle.engine.proofs.Forming.{solvable, Laid}
-use Rattle.engine.proofs.Assigning.{doneWith, Some, some-is, solved-form, solved-kept, assign-over, assign-none, assign-found, finishable, assign-failed, assign-passed}
+use Rattle.engine.proofs.Assigning.{doneWith, Some, some-is, solved-form, solved-kept, assign-over}
+use Rattle.engine.proofs.Assigning.{assign-none, assign-found, finishable, assign-failed, assign-passed}
 use Rattle.engine.proofs.assign.Statement.{statement}
 use Rattle.engine.proofs.assign.Tie as tie
 
@@ -57,17 +59,24 @@ module _ (k : tie.After-pack) where
 
 -- what is left in the tableau, that it is the form where the problem is not past the limit, and the starting list
 module _ (v : tie.After-solve) where
-  abbrev from : tie.Start
-  from = at (v .before .before .before .before .before .before)
+  abbrev after-pack : tie.After-pack
+  after-pack = v .before .before .before .before
 
-  holds : {o : Bool} → solved (P from) .over ≡ o → v .solve .last .0 ≡ cond o (zeros (length (from .args .tableau .now))) (flat (solved (P from) .form))
+  abbrev checked : tie.After-enum-told
+  checked = after-pack .before .before
+
+  abbrev from : tie.Start
+  from = at checked
+
+  holds :
+      {o : Bool} → solved (P from) .over ≡ o → v .solve .last .0 ≡ cond o (zeros (length (from .args .tableau .now))) (flat (solved (P from) .form))
   holds e = v .solve .ensures .1 .0 ∙ ap (λ (o : Bool). cond o (zeros (length (from .args .tableau .now))) (flat (solved (P from) .form))) e
 
-  laid : solved (P from) .over ≡ false → Laid (P from) (lentOf (B from)) (q (v .before .before .before .before .before .before)) (v .solve .last .0)
+  laid : solved (P from) .over ≡ false → Laid (P from) (lentOf (B from)) (q checked) (v .solve .last .0)
   laid e = record { is = holds e ∙ ap flat (solved-form (P from)); kept = solved-kept (P from) e }
 
   long : length (v .solve .last .1 .1 .1 .1 .0) ≡ from .args .p .columns
-  long = v .solve .kept .1 .1 .1 .1 .0 ∙ length-take-le _ _ (f (v .before .before .before .before .before .before) .few-columns)
+  long = v .solve .kept .1 .1 .1 .1 .0 ∙ length-take-le _ _ (f checked .few-columns)
 
   begins : Found ≡ solutionOf (solved (P from)) → (x : Some (solved (P from))) (t : List ℤ)
       → take (from .args .p .columns) (v .solve .last .1 .1 .1 .1 .0 ++ drop (from .args .p .columns) t) ≡ x .start
@@ -80,15 +89,20 @@ module _ (v : tie.After-solve) where
     finishing : Finishable (from .args .p) (v .solve .last .0) s l (from .args .values .now) (from .args .strides .now)
     finishing =
         subst (λ (y : List ℤ). Finishable (from .args .p) (v .solve .last .0) s y (from .args .values .now) (from .args .strides .now)) (sym g)
-        (finishable (P from) (B from) (record { passed = passed (v .before .before .before .before .before .before) }) (laid (solution-found (solved (P from)) r)) x s e (solution-found (solved (P from)) r))
+        (finishable (P from) (B from) (record { passed = passed checked }) (laid (solution-found (solved (P from)) r)) x s e
+        (solution-found (solved (P from)) r))
 
-    ending : doneWith (v .solve .last .0) (finished (from .args .p) (columnsIn (from .args .p .columns) l) (v .solve .last .0) s (from .args .values .now) (from .args .strides .now))
+    ending :
+        doneWith (v .solve .last .0)
+        (finished (from .args .p) (columnsIn (from .args .p .columns) l) (v .solve .last .0) s (from .args .values .now) (from .args .strides .now))
         ≡ assign (P from) (B from)
     ending =
-        ap (λ (C : Columns). doneWith (v .solve .last .0) (finished (from .args .p) C (v .solve .last .0) s (from .args .values .now) (from .args .strides .now)))
-        (ap (columnsIn (from .args .p .columns)) g ∙ table-columns (P from) (lentOf (B from)) (f (v .before .before .before .before .before .before)))
-        ∙ sym (assign-found (P from) (B from) (record { passed = passed (v .before .before .before .before .before .before) }) (laid (solution-found (solved (P from)) r)) x s e (solution-found (solved (P from)) r))
-        ∙ sym (assign-passed (P from) (B from) (passed (v .before .before .before .before .before .before)))
+        ap (λ (C : Columns). doneWith (v .solve .last .0)
+        (finished (from .args .p) C (v .solve .last .0) s (from .args .values .now) (from .args .strides .now)))
+        (ap (columnsIn (from .args .p .columns)) g ∙ table-columns (P from) (lentOf (B from)) (f checked))
+        ∙ sym (assign-found (P from) (B from) (record { passed = passed checked }) (laid (solution-found (solved (P from)) r)) x s e
+        (solution-found (solved (P from)) r))
+        ∙ sym (assign-passed (P from) (B from) (passed checked))
 
 first-cause-requires : tie.Need-first-cause-requires
 first-cause-requires c κs = search needs
@@ -141,23 +155,34 @@ enum-told-4 : tie.Need-enum-told-4
 enum-told-4 c = search needs
 
 array-share-prefix-columns : tie.Need-array-share-prefix-columns
-array-share-prefix-columns c = let k = c .before .before .before .before .before .before .before .before in packed-fits (packed k) _
+array-share-prefix-columns c =
+    let after-solve = c .before .before .before .before in
+    packed-fits (packed (after-pack after-solve)) _
 
 slice-aggregate-finish : tie.Need-slice-aggregate-finish
-slice-aggregate-finish c = let k = c .before .before .before .before .before .before .before .before .before in packed-long (packed k) _
+slice-aggregate-finish c =
+    let after-solve = c .before .before .before .before .before in
+    packed-long (packed (after-pack after-solve)) _
 
 array-borrow-prefix-start-2 : tie.Need-array-borrow-prefix-start-2
-array-borrow-prefix-start-2 c = let v = c .before .before .before .before .before .before in part-fits (from v .args .p .columns) (v .solve .last .1 .1 .1 .1 .0) _ (long v)
+array-borrow-prefix-start-2 c =
+    let before-finish = c .before .before in
+    let v = before-finish .before .before .before .before in
+    part-fits (from v .args .p .columns) (v .solve .last .1 .1 .1 .1 .0) _ (long v)
 
 slice-aggregate-finish-2 : tie.Need-slice-aggregate-finish-2
-slice-aggregate-finish-2 c = let v = c .before .before .before .before .before .before .before in sym (ap length (part-back (from v .args .p .columns) (v .solve .last .1 .1 .1 .1 .0) _ (long v)) ∙ long v)
+slice-aggregate-finish-2 c =
+    let before-finish = c .before .before .before in
+    let v = before-finish .before .before .before .before in
+    sym (ap length (part-back (from v .args .p .columns) (v .solve .last .1 .1 .1 .1 .0) _ (long v)) ∙ long v)
 
 finish-requires : tie.Need-finish-requires
 finish-requires c κs =
-    let v = c .before .before .before .before .before .before .before .before .before in
-    let r : Found ≡ solutionOf (solved (P (from v))) = sym (c .before .before .before .before .before .enum-told4 .given .1) ∙ v .solve .ensures .0 in
-    let x = some-is (solved (P (from v))) r in
-    finishing v r x _ _ (begins v r x _) (packed-back (packed (c .before .before .before .before .before .before .before .before .before .before .before .before .before)) _)
+    let found = c .before .before .before .before .before in
+    let after-solve = found .before .before .before .before in
+    let r : Found ≡ solutionOf (solved (P (from after-solve))) = sym (found .enum-told4 .given .1) ∙ after-solve .solve .ensures .0 in
+    let x = some-is (solved (P (from after-solve))) r in
+    finishing after-solve r x _ _ (begins after-solve r x _) (packed-back (packed (after-pack after-solve)) _)
 
 same-length : tie.Need-same-length
 same-length c = search needs
@@ -167,7 +192,8 @@ returns-2 c =
     let v = c .before .before .before .before in
     let s = from v in
     let r : Over ≡ solutionOf (solved (P s)) = sym (c .enum-told2 .given .1) ∙ v .solve .ensures .0 in
-    ap (λ (t : List ℤ). refused Elimination t (B s)) (holds v (solution-over (solved (P s)) r)) ∙ sym (assign-over (P s) (B s) r) ∙ sym (assign-passed (P s) (B s) (passed (v .before .before .before .before .before .before)))
+    ap (λ (t : List ℤ). refused Elimination t (B s)) (holds v (solution-over (solved (P s)) r)) ∙ sym (assign-over (P s) (B s) r)
+    ∙ sym (assign-passed (P s) (B s) (passed (checked v)))
 
 same-length-2 : tie.Need-same-length-2
 same-length-2 c = search needs
@@ -177,7 +203,8 @@ returns-3 c =
     let v = c .before .before .before .before in
     let s = from v in
     let r : None ≡ solutionOf (solved (P s)) = sym (c .enum-told3 .given .1) ∙ v .solve .ensures .0 in
-    ap (λ (t : List ℤ). refused NoWholeNumbers t (B s)) (holds v (solution-none (solved (P s)) r)) ∙ sym (assign-none (P s) (B s) r) ∙ sym (assign-passed (P s) (B s) (passed (v .before .before .before .before .before .before)))
+    ap (λ (t : List ℤ). refused NoWholeNumbers t (B s)) (holds v (solution-none (solved (P s)) r)) ∙ sym (assign-none (P s) (B s) r)
+    ∙ sym (assign-passed (P s) (B s) (passed (checked v)))
 
 same-length-3 : tie.Need-same-length-3
 same-length-3 c = search needs
@@ -190,10 +217,13 @@ same-length-5 c = search needs
 
 returns-4 : tie.Need-returns-4
 returns-4 c =
-    let v = c .before .before .before .before .before .before .before .before .before .before .before .before .before .before in
-    let r : Found ≡ solutionOf (solved (P (from v))) = sym (c .before .before .before .before .before .before .before .before .before .before .enum-told4 .given .1) ∙ v .solve .ensures .0 in
-    let x = some-is (solved (P (from v))) r in
-    ap (doneWith (v .solve .last .0)) (c .before .before .before .before .finish .ensures) ∙ ending v r x _ _ (begins v r x _) (packed-back (packed (c .before .before .before .before .before .before .before .before .before .before .before .before .before .before .before .before .before .before)) _)
+    let after-finish = c .before .before .before .before in
+    let before-finish = after-finish .before .before .before .before .before in
+    let after-solve = before-finish .before .before .before .before .before in
+    let r : Found ≡ solutionOf (solved (P (from after-solve))) = sym (before-finish .before .enum-told4 .given .1) ∙ after-solve .solve .ensures .0 in
+    let x = some-is (solved (P (from after-solve))) r in
+    ap (doneWith (after-solve .solve .last .0)) (after-finish .finish .ensures)
+    ∙ ending after-solve r x _ _ (begins after-solve r x _) (packed-back (packed (after-pack after-solve)) _)
 
 pub assign-spec : {M : Type 1} → statement M
 assign-spec =

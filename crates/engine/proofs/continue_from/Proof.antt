@@ -59,21 +59,32 @@ module _ (k : tie.After-pack) where
 
 -- what the test of the list says
 module _ (w : tie.After-stands) where
+  abbrev after-pack : tie.After-pack
+  after-pack = w .before .before .before
+
+  abbrev checked : tie.After-enum-told
+  checked = after-pack .before .before
+
   abbrev from : tie.Start
-  from = at (w .before .before .before .before .before)
+  from = at checked
 
   standing : {t : Bool} → w .stands .result ≡ t → stands (P from) (from .args .values .now) ≡ t
   standing e = sym (stands-in (P from) (from .args .values .now)) ∙ sym (w .stands .ensures) ∙ e
 
 -- what is left in the tableau, and that it is the form where the problem is not past the limit
 module _ (g : tie.After-form) where
-  abbrev behind : tie.Start
-  behind = from (g .before .before .before)
+  abbrev after-stands : tie.After-stands
+  after-stands = g .before .before .before
 
-  left : {o : Bool} → formed (P behind) .over ≡ o → g .form .last .0 ≡ cond o (zeros (length (behind .args .tableau .now))) (flat (formed (P behind) .table))
+  abbrev behind : tie.Start
+  behind = from after-stands
+
+  left :
+      {o : Bool} → formed (P behind) .over ≡ o
+      → g .form .last .0 ≡ cond o (zeros (length (behind .args .tableau .now))) (flat (formed (P behind) .table))
   left e = g .form .ensures .1 ∙ ap (λ (t : Bool). cond t (zeros (length (behind .args .tableau .now))) (flat (formed (P behind) .table))) e
 
-  laid : formed (P behind) .over ≡ false → Laid (P behind) (lentOf (B behind)) (q (g .before .before .before .before .before .before .before .before)) (g .form .last .0)
+  laid : formed (P behind) .over ≡ false → Laid (P behind) (lentOf (B behind)) (q (checked after-stands)) (g .form .last .0)
   laid e = record { is = left e; kept = e }
 
 first-cause-requires : tie.Need-first-cause-requires
@@ -118,11 +129,12 @@ returns-2 : tie.Need-returns-2
 returns-2 c =
     let w = c .before in
     let s = from w in
-    sym (continue-off (P s) (B s) (standing w (not-true _ (c .if1 .taken)))) ∙ sym (continue-passed (P s) (B s) (passed (w .before .before .before .before .before)))
+    sym (continue-off (P s) (B s) (standing w (not-true _ (c .if1 .taken)))) ∙ sym (continue-passed (P s) (B s) (passed (checked w)))
 
 form-requires : tie.Need-form-requires
 form-requires c κs =
-    let w = c .before .before .before .before .before .before .before in
+    let after-pack = c .before .before .before .before .before in
+    let w = after-pack .before .before in
     let s = at w in
     formable (P s) (lentOf (B s)) (q w) (s .args .tableau .now) refl
 
@@ -138,27 +150,34 @@ returns-3 c =
     let w = c .before .before .before .before .before in
     let s = from w in
     let o : formed (P s) .over ≡ true = sym (g .form .ensures .0) ∙ c .if2 .taken in
-    ap (λ (u : List ℤ). refused Elimination u (B s)) (left g o) ∙ sym (continue-over (P s) (B s) (standing w (not-false _ (c .before .before .before .before .if1 .left))) o)
-    ∙ sym (continue-passed (P s) (B s) (passed (w .before .before .before .before .before)))
+    ap (λ (u : List ℤ). refused Elimination u (B s)) (left g o)
+    ∙ sym (continue-over (P s) (B s) (standing w (not-false _ (c .before .before .before .before .if1 .left))) o)
+    ∙ sym (continue-passed (P s) (B s) (passed (checked w)))
 
 array-share-prefix-columns : tie.Need-array-share-prefix-columns
-array-share-prefix-columns c = let k = c .before .before .before .before .before .before .before .before in packed-fits (packed k) _
+array-share-prefix-columns c =
+    let after-stands = c .before .before .before .before .before in
+    let k = after-stands .before .before .before in packed-fits (packed k) _
 
 slice-aggregate-settle-over : tie.Need-slice-aggregate-settle-over
-slice-aggregate-settle-over c = let k = c .before .before .before .before .before .before .before .before .before in packed-long (packed k) _
+slice-aggregate-settle-over c =
+    let after-form = c .before .before .before in
+    let after-stands = after-form .before .before .before in
+    let k = after-stands .before .before .before in packed-long (packed k) _
 
 settle-over-requires : tie.Need-settle-over-requires
 settle-over-requires c κs =
-    let g = c .before .before .before .before .before .before in
-    let w = c .before .before .before .before .before .before .before .before .before in
-    let k = c .before .before .before .before .before .before .before .before .before .before .before .before in
-    let s = from w in
-    let e = standing w (not-false _ (c .before .before .before .before .before .before .before .before .if1 .left)) in
-    let o : formed (P s) .over ≡ false = sym (g .form .ensures .0) ∙ c .before .before .before .before .if2 .left in (
+    let not-over = c .before .before .before .before in
+    let after-stands = not-over .before .before .before .before .before in
+    let g = not-over .before .before in
+    let k = after-stands .before .before .before in
+    let s = from after-stands in
+    let e = standing after-stands (not-false _ (not-over .before .before .before .before .if1 .left)) in
+    let o : formed (P s) .over ≡ false = sym (g .form .ensures .0) ∙ not-over .if2 .left in (
       subst (λ (l : List ℤ). Placed (s .args .p) (g .form .last .0) (s .args .values .now) l) (sym (packed-back (packed k) _))
-          (laid-placed (P s) (lentOf (B s)) (q (w .before .before .before .before .before)) (laid g o) (s .args .values .now) (f (w .before .before .before .before .before) .values-long)
+          (laid-placed (P s) (lentOf (B s)) (q (checked after-stands)) (laid g o) (s .args .values .now) (f (checked after-stands) .values-long)
           (λ j. within-entry (s .args .values .now) j (not-true _ (both-true (not (anyBeyond (s .args .values .now))) _ e .0)))),
-      record { long = f (w .before .before .before .before .before) .strides-long },
+      record { long = f (checked after-stands) .strides-long },
     )
 
 same-length-4 : tie.Need-same-length-4
@@ -172,16 +191,20 @@ same-length-6 c = search needs
 
 returns-4 : tie.Need-returns-4
 returns-4 c =
-    let g = c .before .before .before .before .before .before .before .before .before .before in
-    let w = c .before .before .before .before .before .before .before .before .before .before .before .before .before in
-    let k = c .before .before .before .before .before .before .before .before .before .before .before .before .before .before .before .before in
-    let s = from w in
-    let o : formed (P s) .over ≡ false = sym (g .form .ensures .0) ∙ c .before .before .before .before .before .before .before .before .if2 .left in
+    let after-settle-over = c .before .before .before in
+    let not-over = after-settle-over .before .before .before .before .before in
+    let after-stands = not-over .before .before .before .before .before in
+    let g = not-over .before .before in
+    let k = after-stands .before .before .before in
+    let s = from after-stands in
+    let o : formed (P s) .over ≡ false = sym (g .form .ensures .0) ∙ not-over .if2 .left in
     ap (doneWith (g .form .last .0))
-    (c .before .before .before .settle-over .ensures
-    ∙ ap (λ (C : Columns). settledOver (s .args .p) C (g .form .last .0) (s .args .values .now)) (ap (columnsIn (s .args .p .columns)) (packed-back (packed k) _) ∙ table-columns (P s) (lentOf (B s)) (f (w .before .before .before .before .before))))
-    ∙ sym (continue-settled (P s) (B s) (lentOf (B s)) (q (w .before .before .before .before .before)) (laid g o) (standing w (not-false _ (c .before .before .before .before .before .before .before .before .before .before .before .before .if1 .left))))
-    ∙ sym (continue-passed (P s) (B s) (passed (w .before .before .before .before .before)))
+    (after-settle-over .settle-over .ensures
+    ∙ ap (λ (C : Columns). settledOver (s .args .p) C (g .form .last .0) (s .args .values .now))
+    (ap (columnsIn (s .args .p .columns)) (packed-back (packed k) _) ∙ table-columns (P s) (lentOf (B s)) (f (checked after-stands))))
+    ∙ sym (continue-settled (P s) (B s) (lentOf (B s)) (q (checked after-stands)) (laid g o)
+    (standing after-stands (not-false _ (not-over .before .before .before .before .if1 .left))))
+    ∙ sym (continue-passed (P s) (B s) (passed (checked after-stands)))
 
 pub continue-from-spec : {M : Type 1} → statement M
 continue-from-spec =

@@ -29,7 +29,8 @@ slice-aggregate-rank-next-2 c = search needs
 rank-next-requires : tie.Need-rank-next-requires
 rank-next-requires c κs =
     let u = c .before .before in
-    let p = u .before .before .before .before .before .before .pre in
+    let after-find-sets = u .before .before .before in
+    let p = after-find-sets .before .before .before .pre in
     (ready-turnable p, omega (arith, p .few, p .values-long), omega (arith, p .few, p .values-long), arranged-none _ _ _ _ (u .unranked .ensures))
 
 -- what was ranked
@@ -58,12 +59,16 @@ slice-aggregate-first-step-4 c = search needs
 
 first-step-requires : tie.Need-first-step-requires
 first-step-requires c κs =
-    let k = c .before .before .before .before .before .before in
-    (ranked-setup (start k .pre) (k .rank-next .ensures), k .before .before .before .before .before .before .find-sets .ensures, refl)
+    let after-sizes2 = c .before .before .before .before .before in
+    let k = after-sizes2 .before in
+    let after-unranked = k .before .before .before in
+    (ranked-setup (start k .pre) (k .rank-next .ensures), after-unranked .before .before .before .find-sets .ensures, refl)
 
 returns : tie.Need-returns
 returns c =
-    let k = c .before .before .before .before .before .before .before .before in
+    let after-first-step = c .before in
+    let after-order2 = after-first-step .before .before .before .before .before in
+    let k = after-order2 .before .before in
     let part = ranked-part (start k .pre) (k .rank-next .ensures) in
     let step = c .before .first-step .ensures ∙ turned (start k .pre) (k .rank-next .ensures) in
     (λ i. record { part = part i; step = step i })

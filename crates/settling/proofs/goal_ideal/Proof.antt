@@ -1,4 +1,5 @@
--- `settling::goal_ideal` meets its contract: its branches are the definition's cases, and a goal within the limit keeps the products small. Assumes nothing.
+-- `settling::goal_ideal` meets its contract: its branches are the definition's cases, and a goal within the limit keeps the products small.
+-- Assumes nothing.
 use mathlib.Core.Path.{sym}
 use Prim.Native.Nat.{_≤_, _*_}
 use native.Mathlib.Omega.{arith}

@@ -25,7 +25,15 @@ returns : tie.Need-returns
 unfolding Ideals.ideal
 returns c =
     let s = c .before .before .before in
-    cc (back (c .into-bounds .result) (c .into-bounds .ok), c .into-bounds .ensures, toZ-ofZ (s .fits .lower), toZ-ofZ (s .fits .upper), toZ-ofZ (s .fits .x), c .before .enum-told .given .1)
+    cc (
+      back (c .into-bounds .result) (c .into-bounds .ok),
+      c .into-bounds .ensures,
+      toZ-ofZ (s .fits .lower),
+      toZ-ofZ (s .fits .upper),
+      toZ-ofZ
+          (s .fits .x),
+      c .before .enum-told .given .1,
+    )
 
 returns-2 : tie.Need-returns-2
 unfolding Ideals.ideal
@@ -34,7 +42,14 @@ returns-2 c =
     let y = c .before .before .wish .given .0 .0 in
     let told = c .before .known-told .given in
     let e : toZ w64 (ofZ w64 y) ≡ y = search needs in
-    cc (back (c .into-bounds2 .result) (c .into-bounds2 .ok), c .into-bounds2 .ensures, toZ-ofZ (s .fits .lower), toZ-ofZ (s .fits .upper), c .before .before .wish .given .1)
+    cc (
+      back (c .into-bounds2 .result) (c .into-bounds2 .ok),
+      c .into-bounds2 .ensures,
+      toZ-ofZ (s .fits .lower),
+      toZ-ofZ
+          (s .fits .upper),
+      c .before .before .wish .given .1,
+    )
 
 pub ideal-spec : {M : Type 1} → statement M
 ideal-spec =

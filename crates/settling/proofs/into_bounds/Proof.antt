@@ -10,7 +10,8 @@ use Rattle.settling.proofs.into_bounds.Tie as tie
 returns : tie.Need-returns
 returns c =
     let s = c .before in
-    rw (toZ-ofZ (s .fits .lower)) (sym (into-below (s .args .lower) (s .args .upper) (s .args .x) (rw (toZ-ofZ (s .fits .x), toZ-ofZ (s .fits .lower)) at (c .if1 .taken))))
+    rw (toZ-ofZ (s .fits .lower)) (sym (into-below (s .args .lower) (s .args .upper) (s .args .x)
+    (rw (toZ-ofZ (s .fits .x), toZ-ofZ (s .fits .lower)) at (c .if1 .taken))))
 
 returns-2 : tie.Need-returns-2
 returns-2 c =

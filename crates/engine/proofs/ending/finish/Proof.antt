@@ -31,7 +31,9 @@ module _ (d : tie.After-basis-place) where
   inside = place-inside (start .args .p) (start .args .tableau .now) (d .basis-place .result) (d .basis-place .ensures) (start .pre .placed .parted)
 
   small : length (start .args .tableau .now) ≤ maxTableau
-  small = tableau-small (start .args .p) (start .args .tableau .now) (start .pre .placed .parted) (start .pre .placed .ready 0 .few) (start .pre .placed .few-rows)
+  small =
+      tableau-small (start .args .p) (start .args .tableau .now) (start .pre .placed .parted) (start .pre .placed .ready 0 .few)
+      (start .pre .placed .few-rows)
 
   wide : start .args .p .columns ≡ d .basis-place .result .view .columns
   wide = sym (ap (λ (x : Place). x .view .columns) (d .basis-place .ensures))
@@ -53,7 +55,8 @@ module _ (w : tie.After-seat) where
   told : Seating.seatDone (w .seat .result) (w .seat .last .0) ≡ left
   told =
       w .seat .ensures
-      ∙ place-over (a .args .p) (a .args .tableau .now) (w .before .before .before .before .basis-place .result) (w .before .before .before .before .basis-place .ensures) (a .pre .placed .parted)
+      ∙ place-over (a .args .p) (a .args .tableau .now) (w .before .before .before .before .basis-place .result)
+      (w .before .before .before .before .basis-place .ensures) (a .pre .placed .parted)
       (λ C N. leaves (Seating.seat C N (a .args .start .now)) (a .args .start .now)) (a .args .columns .now)
 
   sits : {b : Bool} → w .seat .result ≡ b → left .ok ≡ b
@@ -67,7 +70,9 @@ module _ (w : tie.After-seat) where
   long = ap length after ∙ seated-long C N (a .args .start .now) (a .args .start .now) refl ∙ a .pre .placed .ready 0 .values-long
 
   near : (j : ℕ) → natAbs (entry j (w .seat .last .0)) ≤ M
-  near j = rw after (seated-small C N (a .args .start .now) (a .args .start .now) (a .pre .placed .ready 0 .values-small) (a .pre .placed .ready 0 .values-small) j)
+  near j =
+      rw after (seated-small C N (a .args .start .now) (a .args .start .now) (a .pre .placed .ready 0 .values-small)
+      (a .pre .placed .ready 0 .values-small) j)
 
 basis-place-requires : tie.Need-basis-place-requires
 basis-place-requires c κs = let q = c .before .pre .placed in (q .ready 0 .few, q .few-rows, q .parted)
@@ -103,31 +108,43 @@ returns : tie.Need-returns
 returns c =
     let w = c .before .before in
     let s = a w in
-    sym (finished-far (s .args .p .limit) (C w) (N w) (s .args .values .now) (s .args .strides .now) (Seating.seat (C w) (N w) (s .args .start .now)) (s .args .start .now) (sits w (not-true _ (c .if1 .taken))))
+    sym (finished-far (s .args .p .limit) (C w) (N w) (s .args .values .now) (s .args .strides .now) (Seating.seat (C w) (N w) (s .args .start .now))
+    (s .args .start .now) (sits w (not-true _ (c .if1 .taken))))
 
 copy-requires : tie.Need-copy-requires
 copy-requires c κs = let w = c .before .before .before .before in a w .pre .values ∙ sym (long w)
 
 mul-settle-on : tie.Need-mul-settle-on
-mul-settle-on c = omega (arith, inside (c .before .before .before .before .before .before .before .before .before .before), small (c .before .before .before .before .before .before .before .before .before .before))
+mul-settle-on c =
+    let after-copy = c .before in
+    let after-seat = after-copy .before .before .before .before .before in
+    omega (arith, inside (after-seat .before .before .before .before), small (after-seat .before .before .before .before))
 
 sub-settle-on : tie.Need-sub-settle-on
-sub-settle-on c = inside (c .before .before .before .before .before .before .before .before .before .before)
+sub-settle-on c =
+    let after-copy = c .before in
+    let after-seat = after-copy .before .before .before .before .before in
+    inside (after-seat .before .before .before .before)
 
 part-settle-on-start : tie.Need-part-settle-on-start
-part-settle-on-start c = omega (arith, inside (c .before .before .before .before .before .before .before .before .before .before))
+part-settle-on-start c =
+    let after-copy = c .before in
+    let after-seat = after-copy .before .before .before .before .before in
+    omega (arith, inside (after-seat .before .before .before .before))
 
 part-settle-on-end : tie.Need-part-settle-on-end
 part-settle-on-end c = search needs
 
 settle-on-requires : tie.Need-settle-on-requires
 settle-on-requires c κs =
-    let k = c .before .before .before .before .copy in
-    let w = c .before .before .before .before .before .before .before .before .before in
-    let d = c .before .before .before .before .before .before .before .before .before .before .before .before .before in
+    let after-copy = c .before .before .before .before in
+    let after-seat = after-copy .before .before .before .before .before in
+    let k = after-copy .copy in
+    let d = after-seat .before .before .before .before in
     let s = start d in (
-      ready-with (place-ready (s .args .p) (s .args .tableau .now) (d .basis-place .result) (d .basis-place .ensures) (s .args .start .now) (s .args .columns .now) (s .pre .placed))
-          (k .last .0) (ap length (k .ensures) ∙ long w ∙ wide d) (λ j. rw (k .ensures) (near w j)),
+      ready-with (place-ready (s .args .p) (s .args .tableau .now) (d .basis-place .result) (d .basis-place .ensures) (s .args .start .now)
+          (s .args .columns .now) (s .pre .placed))
+          (k .last .0) (ap length (k .ensures) ∙ long after-seat ∙ wide d) (λ j. rw (k .ensures) (near after-seat j)),
       s .pre .strides .long ∙ wide d,
     )
 
@@ -142,15 +159,19 @@ same-length-4 c = search needs
 
 returns-2 : tie.Need-returns-2
 returns-2 c =
-    let k = c .before .before .before .before .before .before .before .before .copy in
-    let i = c .before .before .before .before .before .before .before .before .before .before .before .if1 in
-    let w = c .before .before .before .before .before .before .before .before .before .before .before .before .before in
-    let d = c .before .before .before .before .before .before .before .before .before .before .before .before .before .before .before .before .before in
+    let after-settle-on = c .before .before .before in
+    let after-copy = after-settle-on .before .before .before .before .before in
+    let after-seat = after-copy .before .before .before .before .before in
+    let k = after-copy .copy in
+    let i = after-copy .before .before .before .if1 in
+    let d = after-seat .before .before .before .before in
     let s = start d in
-    c .before .before .before .settle-on .ensures
-    ∙ place-over (s .args .p) (s .args .tableau .now) (d .basis-place .result) (d .basis-place .ensures) (s .pre .placed .parted) (λ C N. settledBy (s .args .p .limit) C N (k .last .0)) (s .args .columns .now)
-    ∙ ap (settledBy (s .args .p .limit) (C w) (N w)) (k .ensures ∙ after w)
-    ∙ sym (finished-seated (s .args .p .limit) (C w) (N w) (s .args .values .now) (s .args .strides .now) (Seating.seat (C w) (N w) (s .args .start .now)) (s .args .start .now) (sits w (not-false _ (i .left))))
+    after-settle-on .settle-on .ensures
+    ∙ place-over (s .args .p) (s .args .tableau .now) (d .basis-place .result) (d .basis-place .ensures) (s .pre .placed .parted)
+    (λ C N. settledBy (s .args .p .limit) C N (k .last .0)) (s .args .columns .now)
+    ∙ ap (settledBy (s .args .p .limit) (C after-seat) (N after-seat)) (k .ensures ∙ after after-seat)
+    ∙ sym (finished-seated (s .args .p .limit) (C after-seat) (N after-seat) (s .args .values .now) (s .args .strides .now)
+    (Seating.seat (C after-seat) (N after-seat) (s .args .start .now)) (s .args .start .now) (sits after-seat (not-false _ (i .left))))
 
 pub finish-spec : {M : Type 1} → statement M
 finish-spec =

@@ -41,7 +41,8 @@ settle-on-requires : tie.Need-settle-on-requires
 settle-on-requires c κs =
     let d = c .before .before .before .before in
     let s = start d in (
-      place-ready (s .args .p) (s .args .tableau .now) (d .basis-place .result) (d .basis-place .ensures) (s .args .values .now) (s .args .columns .now) (s .pre .0),
+      place-ready (s .args .p) (s .args .tableau .now) (d .basis-place .result) (d .basis-place .ensures) (s .args .values .now)
+          (s .args .columns .now) (s .pre .0),
       s .pre .1 .long ∙ sym (ap (λ (x : Place). x .view .columns) (d .basis-place .ensures)),
     )
 
@@ -53,10 +54,12 @@ same-length-2 c = search needs
 
 returns : tie.Need-returns
 returns c =
-    let d = c .before .before .before .before .before .before .before .before in
+    let after-settle-on = c .before .before .before in
+    let d = after-settle-on .before .before .before .before .before in
     let s = start d in
-    c .before .before .before .settle-on .ensures
-    ∙ place-over (s .args .p) (s .args .tableau .now) (d .basis-place .result) (d .basis-place .ensures) (s .pre .0 .parted) (λ C N. settledBy (s .args .p .limit) C N (s .args .values .now)) (s .args .columns .now)
+    after-settle-on .settle-on .ensures
+    ∙ place-over (s .args .p) (s .args .tableau .now) (d .basis-place .result) (d .basis-place .ensures) (s .pre .0 .parted)
+    (λ C N. settledBy (s .args .p .limit) C N (s .args .values .now)) (s .args .columns .now)
 
 pub settle-over-spec : {M : Type 1} → statement M
 settle-over-spec =

@@ -40,8 +40,12 @@ add-product-requires : tie.Need-add-product-requires Inv-loop μ-loop
 add-product-requires c κs =
     let q = c .before .before .before .before .pre in
     let l = c .before .before .before .loop in
-    let s = c .before .before .before .before in
-    (room (s .args .row .now) (s .args .values .now) (l .j) (toZ w64 (l .s)) q (l .inv), rw (small-back (entry (l .j - 1) (s .args .values .now)) (q .values (l .j - 1))) (q .values (l .j - 1)), rw (small-back (entry (l .j - 1) (s .args .row .now)) (omega (arith, q .coefficients (l .j - 1)))) (q .coefficients (l .j - 1)))
+    let s = c .before .before .before .before in (
+      room (s .args .row .now) (s .args .values .now) (l .j) (toZ w64 (l .s)) q (l .inv),
+      rw
+          (small-back (entry (l .j - 1) (s .args .values .now)) (q .values (l .j - 1))) (q .values (l .j - 1)),
+      rw (small-back (entry (l .j - 1) (s .args .row .now)) (omega (arith, q .coefficients (l .j - 1)))) (q .coefficients (l .j - 1)),
+    )
 
 loop-less : tie.Need-loop-less Inv-loop μ-loop
 loop-less c = omega arith
@@ -51,9 +55,17 @@ loop-again c =
     let s = c .before .before .before .before .before in
     let l = c .before .before .before .before .loop in
     let q = s .pre in
-    let e : toZ w64 (ofZ w64 (c .add-product .result)) ≡ toZ w64 (l .s) +ℤ entry (l .j - 1) (s .args .values .now) *ℤ entry (l .j - 1) (s .args .row .now) =
-    cc (back (c .add-product .result) (c .add-product .ok), c .add-product .ensures, small-back (entry (l .j - 1) (s .args .values .now)) (q .values (l .j - 1)), small-back (entry (l .j - 1) (s .args .row .now)) (omega (arith, q .coefficients (l .j - 1)))) in
-    subst (Summed (s .args .row .now) (s .args .values .now) (l .j - 1)) (sym e) (summed-more (s .args .row .now) (s .args .values .now) (l .j) (toZ w64 (l .s)) q (omega arith) (l .inv))
+    let e : toZ w64 (ofZ w64 (c .add-product .result)) ≡ toZ w64 (l .s) +ℤ entry (l .j - 1) (s .args .values .now) *ℤ entry (l .j - 1)
+    (s .args .row .now) =
+    cc (
+      back (c .add-product .result) (c .add-product .ok),
+      c .add-product .ensures,
+      small-back (entry (l .j - 1) (s .args .values .now))
+          (q .values (l .j - 1)),
+      small-back (entry (l .j - 1) (s .args .row .now)) (omega (arith, q .coefficients (l .j - 1))),
+    ) in
+    subst (Summed (s .args .row .now) (s .args .values .now) (l .j - 1)) (sym e)
+    (summed-more (s .args .row .now) (s .args .values .now) (l .j) (toZ w64 (l .s)) q (omega arith) (l .inv))
 
 returns : tie.Need-returns Inv-loop μ-loop
 returns c =

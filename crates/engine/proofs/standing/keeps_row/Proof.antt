@@ -46,7 +46,9 @@ shared-slice-copy-out-less-right c = search needs
 
 -- the sum is that of row i, and small
 sum-is : (c : tie.After-dot)
-    → c .dot .result ≡ dot (take (length (c .before .before .args .values .now)) (drop (c .before .before .args .i * length (c .before .before .args .values .now)) (c .before .before .args .coefficients .now))) (c .before .before .args .values .now)
+    → c .dot .result ≡ dot (take (length (c .before .before .args .values .now))
+    (drop (c .before .before .args .i * length (c .before .before .args .values .now)) (c .before .before .args .coefficients .now)))
+    (c .before .before .args .values .now)
 sum-is c =
     let s = c .before .before in
     let n = length (s .args .values .now) in
@@ -60,8 +62,12 @@ sum-small c =
 
 less-right-requires : tie.Need-less-right-requires
 less-right-requires c κs =
-    let s = c .before .before .before in
-    (rw (back (c .before .dot .result) (c .before .dot .ok)) (sum-small (c .before)), rw (small-back (entry (s .args .i) (s .args .rights .now)) (omega (arith, s .pre .rights-small (s .args .i)))) (s .pre .rights-small (s .args .i)))
+    let s = c .before .before .before in (
+      rw (back (c .before .dot .result) (c .before .dot .ok)) (sum-small (c .before)),
+      rw
+          (small-back (entry (s .args .i) (s .args .rights .now)) (omega (arith, s .pre .rights-small (s .args .i))))
+          (s .pre .rights-small (s .args .i)),
+    )
 
 magnitude-requires : tie.Need-magnitude-requires
 magnitude-requires c κs = search needs
@@ -70,8 +76,18 @@ returns : tie.Need-returns
 returns c =
     let d = c .before .before .before in
     let s = d .before .before in
-    let e : c .magnitude .result ≡ natAbs (dot (take (length (s .args .values .now)) (drop (s .args .i * length (s .args .values .now)) (s .args .coefficients .now))) (s .args .values .now) -ℤ entry (s .args .i) (s .args .rights .now)) =
-    cc (c .magnitude .ensures, back (c .before .less-right .result) (c .before .less-right .ok), c .before .less-right .ensures, back (d .dot .result) (d .dot .ok), small-back (entry (s .args .i) (s .args .rights .now)) (omega (arith, s .pre .rights-small (s .args .i))), sum-is d) in
+    let e : c .magnitude .result ≡ natAbs (dot
+    (take (length (s .args .values .now)) (drop (s .args .i * length (s .args .values .now)) (s .args .coefficients .now)))
+    (s .args .values .now) -ℤ entry (s .args .i) (s .args .rights .now)) =
+    cc (
+      c .magnitude .ensures,
+      back (c .before .less-right .result) (c .before .less-right .ok),
+      c .before .less-right .ensures,
+      back
+          (d .dot .result) (d .dot .ok),
+      small-back (entry (s .args .i) (s .args .rights .now)) (omega (arith, s .pre .rights-small (s .args .i))),
+      sum-is d,
+    ) in
     ap (λ (k : ℕ). eqb k 0) e
 
 pub keeps-row-spec : {M : Type 1} → statement M

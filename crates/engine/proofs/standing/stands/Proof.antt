@@ -33,13 +33,16 @@ within : (c : tie.Else1 Inv-loop μ-loop) → allSpan M (c .before .before .args
 within c = passed (c .before .all-span .ensures) (c .if1 .left)
 
 -- in the problem's terms
-shown : {p : Problem} {a b v : List ℤ} → Standable p a b v → every (length b) (keepsRow (length v) a b v) ≡ every (p .rows) (keepsRow (p .columns) a b v)
+shown :
+    {p : Problem} {a b v : List ℤ} → Standable p a b v → every (length b) (keepsRow (length v) a b v) ≡ every (p .rows) (keepsRow (p .columns) a b v)
 shown {p} {a} {b} {v} q = ap₂ (λ (k n : ℕ). every k (keepsRow n a b v)) (q .rights-long) (q .values-long)
 
 returns : tie.Need-returns Inv-loop μ-loop
 returns c =
     let s = c .before .before in
-    sym (ap (λ (t : Bool). t && every (s .args .p .rows) (keepsRow (s .args .p .columns) (s .args .coefficients .now) (s .args .rights .now) (s .args .values .now))) (sym (all-within (s .args .values .now)) ∙ failed (c .before .all-span .ensures) (c .if1 .taken)))
+    sym (ap (λ (t : Bool). t && every (s .args .p .rows)
+    (keepsRow (s .args .p .columns) (s .args .coefficients .now) (s .args .rights .now) (s .args .values .now)))
+    (sym (all-within (s .args .values .now)) ∙ failed (c .before .all-span .ensures) (c .if1 .taken)))
 
 loop-holds : tie.Need-loop-holds Inv-loop μ-loop
 loop-holds c = starts _ _
@@ -49,14 +52,24 @@ keeps-row-requires c κs =
     let e = c .before .before in
     let s = e .before .before in
     let q = s .pre in
-    record { few-columns = rw (q .values-long) (q .few-columns); few-rows = rw (q .rights-long) (q .few-rows); coefficients-long = rw (q .rights-long, q .values-long) (q .coefficients-long); row = omega arith; coefficients-small = q .coefficients-small; rights-small = q .rights-small; values-small = all-small M (s .args .values .now) (within e) }
+    record {
+      few-columns = rw (q .values-long) (q .few-columns);
+      few-rows = rw (q .rights-long) (q .few-rows);
+      coefficients-long = rw
+          (q .rights-long, q .values-long) (q .coefficients-long);
+      row = omega arith;
+      coefficients-small = q .coefficients-small;
+      rights-small = q .rights-small;
+      values-small = all-small M (s .args .values .now) (within e);
+    }
 
 returns-2 : tie.Need-returns-2 Inv-loop μ-loop
 returns-2 c =
     let l = c .before .before .before in
     let e = l .before in
     let s = e .before .before in
-    sym (ap₂ _&&_ (sym (all-within (s .args .values .now)) ∙ within e) (sym (shown (s .pre)) ∙ fails (l .loop .inv) (omega arith) (failed (c .before .keeps-row .ensures) (c .if2 .taken))))
+    sym (ap₂ _&&_ (sym (all-within (s .args .values .now)) ∙ within e)
+    (sym (shown (s .pre)) ∙ fails (l .loop .inv) (omega arith) (failed (c .before .keeps-row .ensures) (c .if2 .taken))))
 
 add-i : tie.Need-add-i Inv-loop μ-loop
 add-i c = omega arith

@@ -62,8 +62,9 @@ add-result-5 c = search needs
 returns-2 : tie.Need-returns-2
 unfolding numberOf
 returns-2 c =
-    let d = c .before .before .before .before .before .before in
-    let z = c .before .before .before .before .before .is-zero in
+    let after-is-zero = c .before .before .before .before .before in
+    let d = after-is-zero .before in
+    let z = after-is-zero .is-zero in
     let b = sym (z .ensures ∙ ap isZero (of-b d)) ∙ c .before .before .before .before .if1 .left in
     rw (of-a (d .before), b, c .mark2 .ensures .0 ∙ ap mark (of-b d))
 

@@ -42,11 +42,16 @@ clear-visits-requires : tie.Need-clear-visits-requires Inv-loop μ-loop
 clear-visits-requires c κs = let s = c .before .before .before .before .before in (s .pre .2, s .pre .0 .searchable .ready .few-vectors)
 
 mul-z : tie.Need-mul-z Inv-loop μ-loop
-mul-z c = omega (arith, c .before .before .before .before .before .before .before .before .pre .0 .order .few)
+mul-z c =
+    let after-clear-visits = c .before .before in
+    let entered = after-clear-visits .before .before .before .before .before in
+    omega (arith, entered .before .pre .0 .order .few)
 
 loop-holds : tie.Need-loop-holds Inv-loop μ-loop
 loop-holds c =
-    let a = c .before .before .before .before .before .before .before .before .args in
+    let after-clear-visits = c .before .before in
+    let entered = after-clear-visits .before .before .before .before .before in
+    let a = entered .before .args in
     let u = c .before .before .clear-visits .ensures in
     (u .0, omega arith, inr (before-none (a .search) (a .columns .now) (a .values .now) (a .basis .now) (a .order .now) _ (u .0) (u .1)))
 

@@ -30,8 +30,9 @@ holds-requires c κs =
 
 returns-2 : tie.Need-returns-2
 returns-2 c =
-    let a = c .before .before .before .before .before .before .args in
-    let e = c .before .before .before .before .visited-at .ensures in
+    let after-visited-at = c .before .before .before .before in
+    let a = after-visited-at .before .before .args in
+    let e = after-visited-at .visited-at .ensures in
     rw (le-ltb (a .here .at) (visitedAt (a .notes .now) (a .t)) (omega arith))
     (ap not (c .holds .ensures ∙ ap (λ (j : ℕ). touches (a .here .search .view) (a .basis .now) (a .s) j) (c .before .blocking-at .ensures)))
 

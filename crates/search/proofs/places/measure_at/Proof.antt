@@ -34,7 +34,8 @@ cell-at-requires c κs =
 
 measure-requires : tie.Need-measure-requires
 measure-requires c κs =
-    let s = c .before .before .before .before .before .before in
+    let else1 = c .before .before .before in
+    let s = else1 .before .before .before in
     let a = s .args in
     let p = s .pre in
     rw (c .cell-at .ensures)
@@ -43,7 +44,9 @@ measure-requires c κs =
 
 returns-2 : tie.Need-returns-2
 returns-2 c =
-    let a = c .before .before .before .before .before .before .before .args in
+    let after-cell-at = c .before in
+    let else1 = after-cell-at .before .before .before in
+    let a = else1 .before .before .before .args in
     c .measure .ensures ∙ ap (measure (a .here .search .part)) (c .before .cell-at .ensures)
 
 pub measure-at-spec : {M : Type 1} → statement M

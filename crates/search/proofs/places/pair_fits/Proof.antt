@@ -105,22 +105,26 @@ mul-all-pass-3 c =
 
 shared-slice-read-all-pass : tie.Need-shared-slice-read-all-pass
 shared-slice-read-all-pass c =
-    let s = c .before .before .before .before .before .before in
+    let entered = c .before .before .before .before .before in
+    let s = entered .before in
     omega (arith, t-in s, s .pre .0 .ready .few-vectors, s .pre .1 .long)
 
 mul-all-pass-4 : tie.Need-mul-all-pass-4
 mul-all-pass-4 c =
-    let s = c .before .before .before .before .before .before in
+    let entered = c .before .before .before .before .before in
+    let s = entered .before in
     omega (arith, s-in s, s .pre .0 .ready .few-vectors, s .pre .1 .long)
 
 shared-slice-read-all-pass-2 : tie.Need-shared-slice-read-all-pass-2
 shared-slice-read-all-pass-2 c =
-    let s = c .before .before .before .before .before .before .before in
+    let after-o = c .before .before .before .before .before in
+    let s = after-o .before .before in
     omega (arith, s-in s, s .pre .0 .ready .few-vectors, s .pre .1 .long)
 
 all-pass-requires : tie.Need-all-pass-requires
 all-pass-requires c κs =
-    let s = c .before .before .before .before .before .before .before in
+    let after-o = c .before .before .before .before .before in
+    let s = after-o .before .before in
     let a = s .args in
     let o = p s .o in (
       testable (S s) (a .columns .now) (a .values .now) (b s) o (a .q) (s .pre .0) (s .pre .2) (sum s) (row s (o .s)) (row s (o .t)) (tries s)
@@ -131,7 +135,8 @@ all-pass-requires c κs =
 
 returns : tie.Need-returns
 returns c =
-    let s = c .before .before .before .before .before .before .before .before in
+    let told = c .before .before .before .before .before in
+    let s = told .before .before .before in
     let a = s .args in
     let o = p s .o in
     c .all-pass .ensures

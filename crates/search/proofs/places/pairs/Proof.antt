@@ -43,7 +43,8 @@ module _ (c : tie.Joined1 Inv-loop μ-loop) where
       let s = c .before .before .before .first .result in
       NoWorse (a .here .search) (a .columns .now) (a .values .now) (a .basis .now) (a .order .now) (l .best) (c .if1 .best)
       × ((s < a .here .search .view .vectors) × (visitedAt (a .notes .now) s ≡ a .here .at)
-      → AllDominated (a .here .search) (a .columns .now) (a .values .now) (a .basis .now) (a .order .now) (a .notes .now) (a .here .at) (c .if1 .best) s)
+      → AllDominated (a .here .search) (a .columns .now) (a .values .now) (a .basis .now) (a .order .now) (a .notes .now) (a .here .at)
+      (c .if1 .best) s)
   done =
       ⊎-elim
       (λ w. rw (w .2) (w .1 .ensures .0, λ _. w .1 .ensures .1))
@@ -75,23 +76,29 @@ first-requires c κs = c .loop-test .taken
 
 visited-at-requires : tie.Need-visited-at-requires Inv-loop μ-loop
 visited-at-requires c κs =
-    let p = c .before .before .before .before .before .before .before .before .pre in
+    let at-loop = c .before .before in
+    let entered = at-loop .before .before .before .before .before in
+    let p = entered .before .pre in
     (p .3 .room, omega (arith, inside c, p .0 .searchable .ready .few-vectors))
 
 pairs-of-requires : tie.Need-pairs-of-requires Inv-loop μ-loop
 pairs-of-requires c κs =
-    let p = c .before .before .before .before .before .before .before .before .before .before .before .pre in
+    let after-first = c .before .before .before in
+    let at-loop = after-first .before .before in
+    let entered = at-loop .before .before .before .before .before in
+    let p = entered .before .pre in
     let d = pairing (p .0) (p .1) (p .2) (p .3) (p .4) in
-    let l = inside (c .before .before .before) in
-    let f = leading d (c .before .before .before .first .result) l (sym (c .before .before .visited-at .ensures) ∙ c .if1 .taken) in
-    (d, p .2, l, f, c .before .before .before .before .before .loop .inv .0 .incumbent)
+    let l = inside (after-first) in
+    let f = leading d (after-first .first .result) l (sym (c .before .before .visited-at .ensures) ∙ c .if1 .taken) in
+    (d, p .2, l, f, at-loop .loop .inv .0 .incumbent)
 
 rest-requires : tie.Need-rest-requires Inv-loop μ-loop
 rest-requires c κs = c .before .before .before .before .loop-test .taken
 
 loop-less : tie.Need-loop-less Inv-loop μ-loop
 loop-less c =
-    let l = c .before .before .before .before .before .before .loop in
+    let after-first = c .before .before .before .before in
+    let l = after-first .before .before .loop in
     rw (c .rest .ensures) (walk-less (l .inv .1) (c .before .before .before .before .before .loop-test .taken))
 
 loop-again : tie.Need-loop-again Inv-loop μ-loop
@@ -106,7 +113,9 @@ loop-again c =
 
 returns : tie.Need-returns Inv-loop μ-loop
 returns c =
-    let p = c .before .before .before .before .before .before .before .pre in
+    let at-loop = c .before in
+    let entered = at-loop .before .before .before .before .before in
+    let p = entered .before .pre in
     let i = c .before .loop .inv in
     paired-off (p .0) (p .1) (p .2) (p .3) (i .0) (walk-end (i .1) (omega (arith, c .loop-test .left)))
 

@@ -21,7 +21,8 @@ loop-holds c = (no-worse-same (c .before .before .before .before .pre .4), λ i 
 
 pairs-with-requires : tie.Need-pairs-with-requires Inv-loop μ-loop
 pairs-with-requires c κs =
-    let p = c .before .before .before .before .before .before .pre in
+    let at-loop = c .before in
+    let p = at-loop .before .before .before .before .before .pre in
     (p .0, p .1, p .2, c .loop-test .taken, p .3, c .before .loop .inv .0 .incumbent)
 
 add-x : tie.Need-add-x Inv-loop μ-loop
@@ -32,7 +33,8 @@ loop-less c = omega arith
 
 loop-again : tie.Need-loop-again Inv-loop μ-loop
 loop-again c =
-    let a = c .before .before .before .before .before .before .before .args in
+    let at-loop = c .before .before in
+    let a = at-loop .before .before .before .before .before .args in
     let l = c .before .before .loop in
     let d = c .pairs-with .ensures in (
       no-worse-then (l .inv .0) (d .0),

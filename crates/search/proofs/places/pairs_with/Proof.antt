@@ -62,11 +62,14 @@ mul-set : tie.Need-mul-set Inv-loop μ-loop
 mul-set c = omega (arith, noted c)
 
 shared-slice-read-set : tie.Need-shared-slice-read-set Inv-loop μ-loop
-shared-slice-read-set c = omega (arith, noted (c .before), c .before .before .before .before .before .before .pre .1 .holders-long)
+shared-slice-read-set c =
+    let after-blocking-at = c .before in
+    omega (arith, noted (c .before), after-blocking-at .before .before .before .before .before .pre .1 .holders-long)
 
 loop-holds : tie.Need-loop-holds Inv-loop μ-loop
 loop-holds c =
-    let s = c .before .before .before .before .before .before in
+    let after-blocking-at = c .before in
+    let s = after-blocking-at .before .before .before .before .before in
     let a = s .args in
     let p = s .pre in
     rw (c .before .blocking-at .ensures) (
@@ -80,12 +83,15 @@ first-requires c κs = c .loop-test .taken
 
 is-partner-requires : tie.Need-is-partner-requires Inv-loop μ-loop
 is-partner-requires c κs =
-    let p = c .before .before .before .before .before .before .before .before .before .pre in
+    let after-blocking-at = c .before .before .before .before in
+    let p = after-blocking-at .before .before .before .before .before .pre in
     (p .0 .room, omega (arith, inside c, p .0 .setup .searchable .ready .few-vectors))
 
 with-signs-requires : tie.Need-with-signs-requires Inv-loop μ-loop
 with-signs-requires c κs =
-    let s = c .before .before .before .before .before .before .before .before .before .before .before in
+    let after-first = c .before .before in
+    let after-blocking-at = after-first .before .before .before .before in
+    let s = after-blocking-at .before .before .before .before .before in
     let a = s .args in
     let p = s .pre in
     let t = c .before .before .first .result in
@@ -102,13 +108,15 @@ loop-less c =
 
 loop-again : tie.Need-loop-again Inv-loop μ-loop
 loop-again c =
-    let a = c .before .before .before .before .before .before .before .before .before .before .before .before .args in
+    let after-first = c .before .before .before in
+    let after-blocking-at = after-first .before .before .before .before in
+    let a = after-blocking-at .before .before .before .before .before .args in
     let d = done (c .before) in
     let e = c .before .before .before .before in
     rw (c .rest .ensures) (
       no-worse-then (e .before .loop .inv .0) (d .0),
       walk-on (e .before .loop .inv .1) (e .loop-test .taken)
-          (λ t f y l. no-worse-dominated (d .0) (both (a .lead .s) (a .lead .x) t y) (f y l)) (rw (c .before .before .before .first .ensures) at (d .1)),
+          (λ t f y l. no-worse-dominated (d .0) (both (a .lead .s) (a .lead .x) t y) (f y l)) (rw (after-first .first .ensures) at (d .1)),
     )
 
 returns : tie.Need-returns Inv-loop μ-loop

@@ -1,4 +1,4 @@
--- `search::places::search_place` meets its contract: the vectors of the place are visited, then paired; where all were visited before, nothing is tried.
+-- `search::places::search_place` meets its contract: the vectors of the place are visited, then paired; where all were visited, none is tried.
 -- Assumes nothing.
 use mathlib.Core.Path.{_≡_, refl, _∙_, ap}
 use mathlib.Core.Logic.{inl, inr}
@@ -47,12 +47,14 @@ mul-members c =
 
 shared-slice-read-members : tie.Need-shared-slice-read-members
 shared-slice-read-members c =
-    let s = c .before .before .before .before .before .before in
+    let entered = c .before .before .before .before .before in
+    let s = entered .before in
     omega (arith, inside s, s .pre .0 .searchable .ready .few, s .pre .1 .holders-long)
 
 any-unvisited-requires : tie.Need-any-unvisited-requires
 any-unvisited-requires c κs =
-    let s = c .before .before .before .before .before .before .before in
+    let entered = c .before .before .before .before .before in
+    let s = entered .before .before in
     (s .pre .2 .room, λ t e. omega (arith, holder-in (s .pre .1) (i s) (inside s) t e .0, s .pre .0 .searchable .ready .few-vectors))
 
 same-length : tie.Need-same-length
@@ -60,7 +62,9 @@ same-length c = search needs
 
 returns : tie.Need-returns
 returns c =
-    let s = c .before .before .before .before .before .before .before .before .before in
+    let after-any-unvisited = c .before in
+    let entered = after-any-unvisited .before .before .before .before .before in
+    let s = entered .before .before .before in
     inr
     (before-skip (s .args .search) (s .args .columns .now) (s .args .values .now) (s .args .basis .now) (s .args .order .now) (s .args .notes .now)
     (s .args .k) (s .args .z) (s .pre .2) (s .pre .3) (s .pre .0 .order .few)
@@ -68,13 +72,17 @@ returns c =
 
 cell-at-requires : tie.Need-cell-at-requires
 cell-at-requires c κs =
-    let s = c .before .before .before .before .before .before .before .before .before in
+    let after-any-unvisited = c .before in
+    let entered = after-any-unvisited .before .before .before .before .before in
+    let s = entered .before .before .before in
     let r = s .pre .0 .searchable .ready in
     (omega (arith, inside s, r .table-long), omega (arith, inside s, r .values-long))
 
 measure-requires : tie.Need-measure-requires
 measure-requires c κs =
-    let s = c .before .before .before .before .before .before .before .before .before .before in
+    let after-any-unvisited = c .before .before in
+    let entered = after-any-unvisited .before .before .before .before .before in
+    let s = entered .before .before .before in
     rw (c .cell-at .ensures)
     (search-sized (s .args .search) (s .args .columns .now) (s .args .values .now) (s .args .basis .now) (s .pre .0 .searchable) (i s) (inside s))
 

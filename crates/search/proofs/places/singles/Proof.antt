@@ -123,12 +123,14 @@ rest-requires c κs = c .before .before .before .before .loop-test .taken
 
 loop-less : tie.Need-loop-less Inv-loop μ-loop
 loop-less c =
-    let l = c .before .before .before .before .before .before .loop in
+    let after-first = c .before .before .before .before in
+    let l = after-first .before .before .loop in
     rw (c .rest .ensures) (rest-less (l .set) (c .before .before .before .before .before .loop-test .taken) (l .inv .0))
 
 loop-again : tie.Need-loop-again Inv-loop μ-loop
 loop-again c =
-    let l = c .before .before .before .before .before .before .loop in
+    let after-first = c .before .before .before .before in
+    let l = after-first .before .before .loop in
     let g = c .before .before .before .before .before .loop-test .taken in
     rw (c .rest .ensures)
     (omega (arith, rest-less (l .set) g (l .inv .0), l .inv .0), λ t e. l .inv .1 t (rest-in (l .set) g (l .inv .0) t e), seen (c .before))

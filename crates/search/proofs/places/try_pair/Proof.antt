@@ -31,31 +31,36 @@ returns c =
 
 first-changed-requires : tie.Need-first-changed-requires
 first-changed-requires c κs =
-    let a = c .before .before .before .before .before .before .args in
-    let p = c .before .before .before .before .before .before .pre in
+    let after-number-at = c .before .before in
+    let a = after-number-at .before .before .before .before .args in
+    let p = after-number-at .before .before .before .before .pre in
     (p .0 .searchable .ready .basis, paired-of (p .3), p .0 .order .below, paired-still (p .3) (a .columns .now) (a .values .now))
 
 returns-2 : tie.Need-returns-2
 returns-2 c =
-    let a = c .before .before .before .before .before .before .before .before .args in
+    let after-number-at = c .before .before .before .before in
+    let a = after-number-at .before .before .before .before .args in
     let f = c .before .first-changed in (
-      no-worse-same (c .before .before .before .before .before .before .before .before .pre .4),
+      no-worse-same (after-number-at .before .before .before .before .pre .4),
       none-dominated (a .here .search) (a .columns .now) (a .values .now) (a .basis .now) (a .order .now) (a .p .o) (f .result) (a .z)
           (f .ensures .still) (c .if2 .taken),
     )
 
 number-at-requires-2 : tie.Need-number-at-requires-2
 number-at-requires-2 c κs =
-    let p = c .before .before .before .before .before .before .before .before .pre in
+    let after-number-at = c .before .before .before .before in
+    let p = after-number-at .before .before .before .before .pre in
     let o = paired-of (p .3) in
     let r = p .0 .searchable .ready in
     (omega (arith, p .0 .order .few, c .if2 .left), omega (arith, o .s, r .few-vectors), omega (arith, o .t, r .few-vectors))
 
 returns-3 : tie.Need-returns-3
 returns-3 c =
-    let a = c .before .before .before .before .before .before .before .before .before .before .args in
-    let f = c .before .before .before .first-changed in (
-      no-worse-same (c .before .before .before .before .before .before .before .before .before .before .pre .4),
+    let after-first-changed = c .before .before .before in
+    let after-number-at = after-first-changed .before .before .before in
+    let a = after-number-at .before .before .before .before .args in
+    let f = after-first-changed .first-changed in (
+      no-worse-same (after-number-at .before .before .before .before .pre .4),
       still-dominated (a .here .search) (a .columns .now) (a .values .now) (a .basis .now) (a .order .now) (a .p .o) (f .result) (a .z)
           (f .ensures .still) (omega (arith, c .before .number-at2 .ensures, c .if3 .taken)),
     )
@@ -65,10 +70,12 @@ measure-at-requires c κs = search needs
 
 pair-fits-requires : tie.Need-pair-fits-requires
 pair-fits-requires c κs =
-    let a = c .before .before .before .before .before .before .before .before .before .before .before .args in
-    let p = c .before .before .before .before .before .before .before .before .before .before .before .pre in
+    let after-first-changed = c .before .before .before .before in
+    let after-number-at = after-first-changed .before .before .before in
+    let a = after-number-at .before .before .before .before .args in
+    let p = after-number-at .before .before .before .before .pre in
     let S = a .here .search in
-    let k = c .before .before .before .before .first-changed .result in
+    let k = after-first-changed .first-changed .result in
     let i = getD (a .order .now) k 0 in
     let l = p .0 .order .below k (omega (arith, c .before .before .before .if2 .left)) in (
       p .0 .searchable,
@@ -88,8 +95,10 @@ module _ (c : tie.After-pair-fits) where
       let i = getD (a .order .now) (c .before .before .before .before .before .first-changed .result) 0 in
       better (a .here .search) (a .columns .now) (a .values .now) (a .basis .now) (a .p .o) i ≡ c .pair-fits .result
   tried =
-      let a = c .before .before .before .before .before .before .before .before .before .before .before .before .args in
-      let f = c .before .before .before .before .before .first-changed in
+      let after-first-changed = c .before .before .before .before .before in
+      let after-number-at = after-first-changed .before .before .before in
+      let a = after-number-at .before .before .before .before .args in
+      let f = after-first-changed .first-changed in
       let m = c .before .measure-at in
       better-is (a .here .search) (a .columns .now) (a .values .now) (a .basis .now) (a .p .o) (getD (a .order .now) (f .result) 0) (m .result)
       (m .ensures) (f .ensures .changed (c .before .before .before .before .if2 .left))
@@ -97,10 +106,12 @@ module _ (c : tie.After-pair-fits) where
 
 returns-4 : tie.Need-returns-4
 returns-4 c =
-    let a = c .before .before .before .before .before .before .before .before .before .before .before .before .before .args in
-    let p = c .before .before .before .before .before .before .before .before .before .before .before .before .before .pre in
-    let f = c .before .before .before .before .before .before .first-changed in
-    let n = c .before .before .before .before .number-at2 in
+    let after-number-at2 = c .before .before .before .before in
+    let after-number-at = after-number-at2 .before .before .before .before .before in
+    let a = after-number-at .before .before .before .before .args in
+    let p = after-number-at .before .before .before .before .pre in
+    let f = after-number-at2 .before .before .first-changed in
+    let n = after-number-at2 .number-at2 in
     let l = c .before .before .before .before .before .if2 .left in
     rw (n .ensures) (
       record {
@@ -114,9 +125,11 @@ returns-4 c =
 
 returns-5 : tie.Need-returns-5
 returns-5 c =
-    let a = c .before .before .before .before .before .before .before .before .before .before .before .before .before .args in
-    let p = c .before .before .before .before .before .before .before .before .before .before .before .before .before .pre in
-    let f = c .before .before .before .before .before .before .first-changed in
+    let after-number-at2 = c .before .before .before .before in
+    let after-number-at = after-number-at2 .before .before .before .before .before in
+    let a = after-number-at .before .before .before .before .args in
+    let p = after-number-at .before .before .before .before .pre in
+    let f = after-number-at2 .before .before .first-changed in
     let l = c .before .before .before .before .before .if2 .left in (
       no-worse-same (p .4),
       blocked-dominated (a .here .search) (a .columns .now) (a .values .now) (a .basis .now) (a .order .now) (p .0) (a .p .o) (f .result) (a .z) l

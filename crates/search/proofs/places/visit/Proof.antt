@@ -9,7 +9,8 @@ use Rattle.problem.specs.Limits.{maxColumns}
 use Rattle.search.specs.declared.places.Place.{Place}
 use Rattle.search.specs.Numbers.{numberAt}
 use Rattle.search.specs.Progress.{alone, Incumbent, Visited}
-use Rattle.search.proofs.Visiting.{here-column, here-room, Trying, try-starts, try-begins, try-since, try-more, try-at, try-improving, try-ends}
+use Rattle.search.proofs.Visiting.{here-column, here-room, Trying, try-starts, try-begins}
+use Rattle.search.proofs.Visiting.{try-since, try-more, try-at, try-improving, try-ends}
 use Rattle.search.proofs.places.visit.Statement.{statement}
 use Rattle.search.proofs.places.visit.Tie as tie
 
@@ -83,7 +84,8 @@ put-visited-requires c κs = let u = c .before .before .before .before in (u .pr
 
 loop-holds : tie.Need-loop-holds Inv-loop μ-loop
 loop-holds c =
-    let u = c .before .before .before .before .before .before .before in
+    let after-put-visited = c .before .before in
+    let u = after-put-visited .before .before .before .before .before in
     try-begins (h u) (T u) (v u) (b u) (s u) (l u) (c .before .before .put-visited .last .0) (begun (c .before .before))
 
 alone-requires : tie.Need-alone-requires Inv-loop μ-loop
@@ -111,7 +113,8 @@ blocking-at-requires c κs =
 
 blocking-column-requires : tie.Need-blocking-column-requires Inv-loop μ-loop
 blocking-column-requires c κs =
-    let a = c .before .before .before .before .before .before in
+    let after-alone = c .before .before .before .before in
+    let a = after-alone .before .before in
     let u = start a in (
       u .pre .0 .searchable,
       u .pre .2,
@@ -121,40 +124,52 @@ blocking-column-requires c κs =
     )
 
 same-length-2 : tie.Need-same-length-2 Inv-loop μ-loop
-same-length-2 c = let a = c .before .before .before .before .before .before .before .before in a .loop .inv .room ∙ sym (start a .pre .3)
+same-length-2 c =
+    let after-number-at = c .before .before .before .before .before in
+    let a = after-number-at .before .before .before in a .loop .inv .room ∙ sym (start a .pre .3)
 
 returns-2 : tie.Need-returns-2 Inv-loop μ-loop
 returns-2 c =
-    let a = c .before .before .before .before .before .before .before .before in
+    let after-number-at = c .before .before .before .before .before in
+    let a = after-number-at .before .before .before in
     let u = start a in
-    let n = number (c .before .before .before .before .before) in
+    let n = number (after-number-at) in
     subst (Visited (h u) (T u) (v u) (b u) (L u) (s u) (l u) (u .args .z) (a .loop .notes)) (sym n)
-    (stop u (a .loop .notes) (a .loop .x) (at u (a .loop .x)) (since a) (c .before .before .before .before .before .before .before .loop-test .taken)
+    (stop u (a .loop .notes) (a .loop .x) (at u (a .loop .x)) (since a) (after-number-at .before .before .loop-test .taken)
     (omega (arith, n, c .before .before .before .before .if1 .left)) (omega arith)
     (try-improving (h u) (T u) (v u) (b u) (L u) (u .pre .0) (u .pre .1) (s u) (u .pre .4) (u .pre .5) (u .pre .6)
     (a .loop .x) (c .before .blocking-column .ensures .good (c .if2 .taken))))
 
 put-blocking-requires : tie.Need-put-blocking-requires Inv-loop μ-loop
 put-blocking-requires c κs =
-    let a = c .before .before .before .before .before .before .before .before .before in
-    (a .loop .inv .room, few (start a), c .before .before .before .before .before .before .before .before .loop-test .taken)
+    let after-blocking-at = c .before .before .before in
+    let after-alone = after-blocking-at .before .before .before .before in
+    let a = after-alone .before .before in
+    (a .loop .inv .room, few (start a), after-alone .before .loop-test .taken)
 
 add-x : tie.Need-add-x Inv-loop μ-loop
-add-x c = omega (arith, c .before .before .before .before .before .before .before .before .before .before .before .loop-test .taken)
+add-x c =
+    let after-blocking-column = c .before .before .before .before .before in
+    let after-alone = after-blocking-column .before .before .before .before .before in
+    omega (arith, after-alone .before .loop-test .taken)
 
 loop-less : tie.Need-loop-less Inv-loop μ-loop
-loop-less c = omega (arith, c .before .before .before .before .before .before .before .before .before .before .before .loop-test .taken)
+loop-less c =
+    let after-blocking-column = c .before .before .before .before .before in
+    let after-alone = after-blocking-column .before .before .before .before .before in
+    omega (arith, after-alone .before .loop-test .taken)
 
 loop-again : tie.Need-loop-again Inv-loop μ-loop
 loop-again c =
-    let a = c .before .before .before .before .before .before .before .before .before .before .before .before in
+    let after-blocking-column = c .before .before .before .before .before in
+    let after-alone = after-blocking-column .before .before .before .before .before in
+    let a = after-alone .before .before in
     let u = start a in
     let k = a .before .before .before .put-visited .last .0 in
-    let d = c .before .before .before .before .before in
     let f = c .before .before .before .before .if2 .left in
     subst (λ (m : List ℕ). Trying (h u) (T u) (v u) (b u) (s u) k m (a .loop .x + 1)) (sym (c .before .before .put-blocking .ensures))
-    (try-more (h u) (T u) (v u) (b u) (s u) k (a .loop .notes) (a .loop .x) (d .blocking-column .result) (few u) (a .loop .inv)
-    (c .before .before .before .before .before .before .before .before .before .before .before .loop-test .taken) f (d .blocking-column .ensures .bad f))
+    (try-more (h u) (T u) (v u) (b u) (s u) k (a .loop .notes) (a .loop .x) (after-blocking-column .blocking-column .result) (few u) (a .loop .inv)
+    (after-alone .before .loop-test .taken) f (after-blocking-column .blocking-column .ensures .bad f))
 
 same-length-3 : tie.Need-same-length-3 Inv-loop μ-loop
 same-length-3 c = c .before .loop .inv .room ∙ sym (start (c .before) .pre .3)

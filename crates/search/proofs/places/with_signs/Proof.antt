@@ -39,7 +39,9 @@ both-requires c κs = search needs
 
 try-pair-requires : tie.Need-try-pair-requires Inv-loop μ-loop
 try-pair-requires c κs =
-    let s = c .before .before .before .before .before .before .before .before in
+    let after-is-pruned = c .before .before in
+    let at-loop = after-is-pruned .before .before in
+    let s = at-loop .before .before .before .before in
     let p = s .pre in (
       p .0 .setup,
       p .0 .here,
@@ -48,11 +50,11 @@ try-pair-requires c κs =
         s-inside = p .1;
         t-inside = p .4 .inside;
         apart = p .4 .apart;
-        marks = (s .args .lead .x, c .before .before .before .before .loop .y, c .both .ensures);
+        marks = (s .args .lead .x, at-loop .loop .y, c .both .ensures);
         s-zero = p .3 .zero-before;
         t-zero = partner-zero (p .0) (p .4);
       },
-      c .before .before .before .before .loop .inv .0 .incumbent,
+      at-loop .loop .inv .0 .incumbent,
     )
 
 add-y : tie.Need-add-y Inv-loop μ-loop
@@ -70,10 +72,12 @@ module _ (c : tie.Joined1 Inv-loop μ-loop) where
       × Dominated (a .here .search) (a .columns .now) (a .values .now) (a .basis .now) (a .order .now) (c .if1 .best)
       (both (a .lead .s) (a .lead .x) (a .t) (l .y))
   done =
-      let s = c .before .before .before .before .before .before .before in
+      let after-is-pruned = c .before in
+      let at-loop = after-is-pruned .before .before in
+      let s = at-loop .before .before .before .before in
       let a = s .args in
       let p = s .pre in
-      let l = c .before .before .before .loop in
+      let l = at-loop .loop in
       let r = c .before .is-pruned in
       ⊎-elim
       (λ w.
@@ -90,11 +94,13 @@ module _ (c : tie.Joined1 Inv-loop μ-loop) where
 
 loop-again : tie.Need-loop-again Inv-loop μ-loop
 loop-again c =
-    let a = c .before .before .before .before .before .before .before .args in
-    let i = c .before .before .before .loop .inv in
+    let after-is-pruned = c .before in
+    let at-loop = after-is-pruned .before .before in
+    let a = at-loop .before .before .before .before .args in
+    let i = at-loop .loop .inv in
     let d = done c in (
       no-worse-then (i .0) (d .0),
-      below-more _ (c .before .before .before .loop .y) (λ j l. no-worse-dominated (d .0) (both (a .lead .s) (a .lead .x) (a .t) j) (i .1 j l)) (d .1),
+      below-more _ (at-loop .loop .y) (λ j l. no-worse-dominated (d .0) (both (a .lead .s) (a .lead .x) (a .t) j) (i .1 j l)) (d .1),
     )
 
 returns : tie.Need-returns Inv-loop μ-loop

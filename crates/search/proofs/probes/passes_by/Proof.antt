@@ -100,7 +100,8 @@ is-zero-requires c κs = search needs
 
 returns : tie.Need-returns
 returns c =
-    let s = c .before .before .before .before .before .before .before in
+    let after-combine = c .before .before in
+    let s = after-combine .before .before .before .before .before in
     let z = s .args in
     sym (sum-still (z .columns .now) (z .values .now) (z .p) (z .x .now) (z .y .now) (s .pre .0) (z .j) (s .pre .1)
     (ap isZero (sym (added (c .before .before))) ∙ sym (c .before .is-zero .ensures) ∙ c .if1 .taken))

@@ -66,7 +66,8 @@ loop-less c =
 
 loop-again : tie.Need-loop-again Inv-loop μ-loop
 loop-again c =
-    let a = c .before .before .before .before .before .before .args in
+    let after-first = c .before .before in
+    let a = after-first .before .before .before .before .args in
     let l = c .before .before .before .before .loop in
     let h = c .before .before .before .loop-test .taken in (
       omega (arith, rest-less (l .set) h (l .inv .0), c .rest .ensures, l .inv .0),

@@ -53,7 +53,8 @@ support-of-requires c κs = search needs
 
 returns-2 : tie.Need-returns-2
 returns-2 c =
-    let s = c .before .before .before .before .before .before in
+    let else1 = c .before .before .before .before in
+    let s = else1 .before .before in
     let a = s .args in
     let at = a .s * a .view .stride in
     let e : at + a .view .columns - at ≡ a .view .columns = omega arith in

@@ -55,7 +55,9 @@ reached k = ranked-part (turn k .loop .inv .0) (k .rank-next .ensures)
 
 -- what the search found
 abbrev ranked : tie.After-first-step Inv-loop μ-loop → tie.After-rank-next Inv-loop μ-loop
-ranked t = t .before .before .before .before .before .before .before .before
+ranked t =
+    let before-first-step = t .before .before .before .before .before in
+    before-first-step .before .before .before
 
 found :
     (t : tie.After-first-step Inv-loop μ-loop) →
@@ -127,11 +129,14 @@ slice-aggregate-first-step-3 : tie.Need-slice-aggregate-first-step-3 Inv-loop μ
 slice-aggregate-first-step-3 c = search needs
 
 slice-aggregate-first-step-4 : tie.Need-slice-aggregate-first-step-4 Inv-loop μ-loop
-slice-aggregate-first-step-4 c = sym (turn (c .before .before .before .before .before .before .before) .loop .inv .7)
+slice-aggregate-first-step-4 c =
+    let after-order2 = c .before .before .before .before .before in
+    sym (turn (after-order2 .before .before) .loop .inv .7)
 
 first-step-requires : tie.Need-first-step-requires Inv-loop μ-loop
 first-step-requires c κs =
-    let k = c .before .before .before .before .before .before .before in
+    let after-order2 = c .before .before .before .before .before in
+    let k = after-order2 .before .before in
     let i = turn k .loop .inv in
     (ranked-setup (i .0) (k .rank-next .ensures), i .4, i .7)
 
@@ -169,16 +174,18 @@ returns-2 c =
 
 take-move-requires : tie.Need-take-move-requires Inv-loop μ-loop
 take-move-requires c κs =
-    let t = c .before .before .before .before .before .before in
+    let after-step = c .before .before .before in
+    let t = after-step .before .before .before in
     let l = turn (ranked t) .loop in
     let s = start (turn (ranked t)) in
-    let e = found t ∙ c .before .before .before .step .given .1 in
+    let e = found t ∙ after-step .step .given .1 in
     let r = taken-ready (s .args .view) (l .values) (s .args .columns .now) (s .args .basis .now) _ _ (l .inv .0) e in
     ((l .inv .0 .basis, r .0, l .inv .0 .values-long), l .inv .0 .values-small)
 
 counted-requires : tie.Need-counted-requires Inv-loop μ-loop
 counted-requires c κs =
-    let l = turn (ranked (c .before .before .before .before .before .before .before .before)) in
+    let after-step = c .before .before .before .before .before in
+    let l = turn (ranked (after-step .before .before .before)) in
     let i = c .before .before .before .if1 in
     let m = start l .fits .limit in
     (omega (arith, l .loop .inv .2, i .left, m), omega (arith, l .loop .inv .2, i .left, m))
@@ -191,13 +198,15 @@ loop-less c = omega (arith, c .before .before .before .before .if1 .left)
 
 loop-again : tie.Need-loop-again Inv-loop μ-loop
 loop-again c =
+    let after-take-move = c .before .before in
+    let after-step = after-take-move .before .before .before .before in
     let m = c .before .before .take-move in
     let i = c .before .before .before .before .if1 in
-    let t = c .before .before .before .before .before .before .before .before .before in
+    let t = after-step .before .before .before in
     let k = ranked t .rank-next in
     let l = turn (ranked t) .loop in
     let s = start (turn (ranked t)) in
-    let e = found t ∙ c .before .before .before .before .before .before .step .given .1 in
+    let e = found t ∙ after-step .step .given .1 in
     let r = taken-ready (s .args .view) (l .values) (s .args .columns .now) (s .args .basis .now) _ _ (l .inv .0) e in
     let counts = c .counted .ensures ∙ ap (λ (p : Part). Settle.counted p (l .counts)) (reached (ranked t)) in (
       subst (λ (v : List ℤ). Ready (s .args .view) v (s .args .columns .now) (s .args .basis .now)) (sym (m .ensures)) (r .1),

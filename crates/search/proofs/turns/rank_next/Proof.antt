@@ -38,7 +38,9 @@ enum-told : tie.Need-enum-told
 enum-told c = search needs
 
 rank-requires : tie.Need-rank-requires
-rank-requires c κs = let s = c .before .before .before .before .before .before in (s .pre .0 .bounds, s .pre .1, s .pre .2)
+rank-requires c κs =
+    let entered = c .before .before .before .before .before in
+    let s = entered .before in (s .pre .0 .bounds, s .pre .1, s .pre .2)
 
 same-length : tie.Need-same-length
 same-length c = search needs
@@ -58,7 +60,8 @@ returns c =
 
 rank-requires-2 : tie.Need-rank-requires-2
 rank-requires-2 c κs =
-    let k = c .before .before .before .before .before .before .before in
+    let else1 = c .before .before in
+    let k = else1 .before .before .before .before .before in
     let p = start k .pre in (
       p .0 .goals (reached k (omega (arith, c .before .before .if1 .left))),
       omega (arith, p .1, k .rank .kept .1 .1 .1 .0),
@@ -75,12 +78,14 @@ slice-relend-prefix-rank-again c =
 
 slice-aggregate-rank-again : tie.Need-slice-aggregate-rank-again
 slice-aggregate-rank-again c =
-    let s = c .before .before .before .before .before .before in
+    let entered = c .before .before .before .before .before in
+    let s = entered .before in
     sym (length-take (s .args .last .len) (s .args .order .now) ∙ omega (arith, s .pre .3 .few (c .before .before .enum-told2 .given .1), s .pre .2))
 
 rank-again-requires : tie.Need-rank-again-requires
 rank-again-requires c κs =
-    let s = c .before .before .before .before .before .before in
+    let entered = c .before .before .before .before .before in
+    let s = entered .before in
     let e = c .before .before .enum-told2 .given .1 in
     (s .pre .0 .goals (s .pre .3 .part e), s .pre .1, s .pre .3 .columns e)
 
@@ -108,10 +113,11 @@ same-length-6 c = search needs
 
 returns-3 : tie.Need-returns-3
 returns-3 c =
-    let t = c .before .before .before .before .before .before .before in
+    let after-rank-again = c .before .before .before .before in
+    let t = after-rank-again .before .before .before in
     let s = t .before .before .before .before in
     let e = t .enum-told2 .given .1 in
-    let k = c .before .before .before .before .rank-again in
+    let k = after-rank-again .rank-again in
     let long : length (k .last .1 .1 .1 .1 .0) ≡ s .args .last .len =
     k .kept .1 .1 .1 .1 .0 ∙ length-take (s .args .last .len) (s .args .order .now) ∙ omega (arith, s .pre .3 .few e, s .pre .2) in
     record {

@@ -60,10 +60,20 @@ shared-slice-copy-out-put-column-3 c = search needs
 
 put-column-requires : tie.Need-put-column-requires Inv-loop μ-loop
 put-column-requires c κs =
-    let s = c .before .before .before .before .before .before in
-    let l = c .before .before .before .before .before .loop in
-    let g = c .before .before .before .before .loop-test .taken in
-    (omega (arith, ap length (l .inv .0), long (f (s .args .lower .now) (s .args .upper .now) (s .args .goals .now)) (l .j) (s .args .columns .now) (omega (arith, s .pre .room, g)), s .pre .room, g), rw (back _ (c .put-column-arg4 .given)) (s .pre .goals-small (l .j)))
+    let at-loop = c .before .before .before .before .before in
+    let s = at-loop .before in
+    let l = at-loop .loop in
+    let g = c .before .before .before .before .loop-test .taken in (
+      omega (
+        arith,
+        ap length (l .inv .0),
+        long (f (s .args .lower .now) (s .args .upper .now) (s .args .goals .now)) (l .j) (s .args .columns .now)
+            (omega (arith, s .pre .room, g)),
+        s .pre .room,
+        g,
+      ),
+      rw (back _ (c .put-column-arg4 .given)) (s .pre .goals-small (l .j)),
+    )
 
 add-j : tie.Need-add-j Inv-loop μ-loop
 add-j c = search needs
@@ -73,12 +83,18 @@ loop-less c = omega arith
 
 loop-again : tie.Need-loop-again Inv-loop μ-loop
 loop-again c =
-    let s = c .before .before .before .before .before .before .before .before in
-    let l = c .before .before .before .before .before .before .before .loop in
-    let g = c .before .before .before .before .before .before .loop-test .taken in (
+    let after-put-column = c .before in
+    let in-loop = after-put-column .before .before .before .before .before in
+    let s = in-loop .before .before in
+    let l = in-loop .before .loop in
+    let g = in-loop .loop-test .taken in (
       c .before .put-column .ensures
-          ∙ (λ i. put (width * l .j) (withGoal (back (entry (l .j) (s .args .lower .now)) (c .before .before .before .before .put-column-arg2 .given) i) (back (entry (l .j) (s .args .upper .now)) (c .before .before .before .put-column-arg3 .given) i) (back (entry (l .j) (s .args .goals .now)) (c .before .before .put-column-arg4 .given) i)) (l .inv .0 i))
-          ∙ packed-put (f (s .args .lower .now) (s .args .upper .now) (s .args .goals .now)) (l .j) (s .args .columns .now) (omega (arith, s .pre .room, g)),
+          ∙ (λ i. put (width * l .j) (withGoal (back (entry (l .j) (s .args .lower .now))
+          (c .before .before .before .before .put-column-arg2 .given) i)
+          (back (entry (l .j) (s .args .upper .now)) (c .before .before .before .put-column-arg3 .given) i)
+          (back (entry (l .j) (s .args .goals .now)) (c .before .before .put-column-arg4 .given) i)) (l .inv .0 i))
+          ∙ packed-put (f (s .args .lower .now) (s .args .upper .now) (s .args .goals .now)) (l .j) (s .args .columns .now)
+          (omega (arith, s .pre .room, g)),
       omega (arith, g),
     )
 
@@ -86,13 +102,15 @@ same-length : tie.Need-same-length Inv-loop μ-loop
 same-length c =
     let s = c .before .before in
     let l = c .before .loop in
-    ap length (l .inv .0) ∙ long (f (s .args .lower .now) (s .args .upper .now) (s .args .goals .now)) (l .j) (s .args .columns .now) (omega (arith, s .pre .room, l .inv .1))
+    ap length (l .inv .0) ∙ long (f (s .args .lower .now) (s .args .upper .now) (s .args .goals .now)) (l .j) (s .args .columns .now)
+    (omega (arith, s .pre .room, l .inv .1))
 
 returns : tie.Need-returns Inv-loop μ-loop
 returns c =
     let s = c .before .before in
     let l = c .before .loop in
-    l .inv .0 ∙ all (f (s .args .lower .now) (s .args .upper .now) (s .args .goals .now)) (l .j) (length (s .args .lower .now)) (s .args .columns .now) (s .pre .room) (omega (arith, l .inv .1, c .loop-test .left))
+    l .inv .0 ∙ all (f (s .args .lower .now) (s .args .upper .now) (s .args .goals .now)) (l .j) (length (s .args .lower .now))
+    (s .args .columns .now) (s .pre .room) (omega (arith, l .inv .1, c .loop-test .left))
 
 pub pack-spec : {M : Type 1} → statement M
 pack-spec =

@@ -66,14 +66,16 @@ same-length c =
     let s = c .before .before .before .before in
     let at = s .args .at in
     c .before .put-wish .kept .0
-    ∙ four (s .args .columns .now) (at + 0) (at + 1) (at + 2) (at + 3) (toZ w64 (ofZ w64 (s .args .lower))) (toZ w64 (ofZ w64 (s .args .upper))) (toZ w64 (ofZ w64 (s .args .goal))) (toZ w64 (ofZ w64 (s .args .goal)))
+    ∙ four (s .args .columns .now) (at + 0) (at + 1) (at + 2) (at + 3) (toZ w64 (ofZ w64 (s .args .lower))) (toZ w64 (ofZ w64 (s .args .upper)))
+    (toZ w64 (ofZ w64 (s .args .goal))) (toZ w64 (ofZ w64 (s .args .goal)))
 
 returns : tie.Need-returns
 returns c =
     let s = c .before .before .before .before in
     c .before .put-wish .ensures
     ∙ (λ i. putWish (s .args .at) ((c .before .before .goal-wish .ensures ∙ ap goalWish (toZ-ofZ (s .fits .goal))) i)
-    (set (set (set (set (s .args .columns .now) (s .args .at + 0) (toZ-ofZ (s .fits .lower) i)) (s .args .at + 1) (toZ-ofZ (s .fits .upper) i)) (s .args .at + 2) (toZ-ofZ (s .fits .goal) i)) (s .args .at + 3) (toZ-ofZ (s .fits .goal) i)))
+    (set (set (set (set (s .args .columns .now) (s .args .at + 0) (toZ-ofZ (s .fits .lower) i)) (s .args .at + 1) (toZ-ofZ (s .fits .upper) i))
+    (s .args .at + 2) (toZ-ofZ (s .fits .goal) i)) (s .args .at + 3) (toZ-ofZ (s .fits .goal) i)))
 
 pub put-column-spec : {M : Type 1} → statement M
 put-column-spec =

@@ -50,7 +50,8 @@ returns-2 : tie.Need-returns-2
 returns-2 c =
     let s = c .before .before .before .before in
     ap Set (back (entry (width * s .args .j + 5) (s .args .columns .now)) (c .t8 .given))
-    ∙ sym (ap (λ (t : Bool). cond t Unset (Set (entry (width * s .args .j + 5) (s .args .columns .now)))) (marked (c .before .before) ∙ c .before .if1 .left))
+    ∙ sym (ap (λ (t : Bool). cond t Unset (Set (entry (width * s .args .j + 5) (s .args .columns .now))))
+    (marked (c .before .before) ∙ c .before .if1 .left))
 
 pub wish-at-spec : {M : Type 1} → statement M
 wish-at-spec =

@@ -24,41 +24,54 @@ module _ (s : tie.Start) where
 under : (c : tie.After-less) → let s = c .before .before .before in ltZ (s .args .c .value) (s .args .c .lower) ≡ c .less .result
 under c = let s = c .before .before .before in sym (c .less .ensures ∙ ap₂ ltZ (value s) (lower s))
 
-over : (c : tie.After-less2) → let s = c .before .before .before .before .before .before .before in ltZ (s .args .c .upper) (s .args .c .value) ≡ c .less2 .result
-over c = let s = c .before .before .before .before .before .before .before in sym (c .less2 .ensures ∙ ap₂ ltZ (upper s) (value s))
+over : (c : tie.After-less2) → let s =
+    let after-less = c .before .before .before .before in
+    after-less .before .before .before in ltZ (s .args .c .upper) (s .args .c .value) ≡ c .less2 .result
+over c =
+    let after-less = c .before .before .before .before in
+    let s = after-less .before .before .before in sym (c .less2 .ensures ∙ ap₂ ltZ (upper s) (value s))
 
 less-requires : tie.Need-less-requires
 less-requires c κs = search needs
 
 gap-requires : tie.Need-gap-requires
-gap-requires c κs = let s = c .before .before .before .before .before .before in rw (lower s, value s) (omega (arith, s .pre .lower), s .pre .value)
+gap-requires c κs =
+    let after-less = c .before .before .before in
+    let s = after-less .before .before .before in rw (lower s, value s) (omega (arith, s .pre .lower), s .pre .value)
 
 returns : tie.Need-returns
 returns c =
-    let s = c .before .before .before .before .before .before .before in
-    cc (c .gap .ensures, lower s, value s, distance-under (s .args .c) (under (c .before .before .before .before) ∙ c .before .before .before .if1 .taken))
+    let after-less = c .before .before .before .before in
+    let s = after-less .before .before .before in
+    cc (c .gap .ensures, lower s, value s, distance-under (s .args .c) (under (after-less) ∙ c .before .before .before .if1 .taken))
 
 less-requires-2 : tie.Need-less-requires-2
 less-requires-2 c κs = search needs
 
 gap-requires-2 : tie.Need-gap-requires-2
-gap-requires-2 c κs = let s = c .before .before .before .before .before .before .before .before .before .before in rw (upper s, value s) (s .pre .value, omega (arith, s .pre .upper))
+gap-requires-2 c κs =
+    let after-less2 = c .before .before .before in
+    let after-less = after-less2 .before .before .before .before in
+    let s = after-less .before .before .before in rw (upper s, value s) (s .pre .value, omega (arith, s .pre .upper))
 
 returns-2 : tie.Need-returns-2
 returns-2 c =
-    let s = c .before .before .before .before .before .before .before .before .before .before .before in
+    let after-less2 = c .before .before .before .before in
+    let after-less = after-less2 .before .before .before .before in
+    let s = after-less .before .before .before in
     cc (
       c .gap2 .ensures,
       upper s,
       value s,
-      distance-over (s .args .c) (under (c .before .before .before .before .before .before .before .before) ∙ c .before .before .before .before .before .before .before .if1 .left)
-          (over (c .before .before .before .before) ∙ c .before .before .before .if2 .taken),
+      distance-over (s .args .c) (under (after-less) ∙ after-less2 .before .before .before .if1 .left)
+          (over (after-less2) ∙ c .before .before .before .if2 .taken),
     )
 
 returns-3 : tie.Need-returns-3
 returns-3 c =
-    let s = c .before .before .before .before .before .before .before .before in
-    sym (distance-inside (s .args .c) (under (c .before .before .before .before .before) ∙ c .before .before .before .before .if1 .left) (over (c .before) ∙ c .if2 .left))
+    let after-less = c .before .before .before .before .before in
+    let s = after-less .before .before .before in
+    sym (distance-inside (s .args .c) (under (after-less) ∙ c .before .before .before .before .if1 .left) (over (c .before) ∙ c .if2 .left))
 
 pub distance-spec : {M : Type 1} → statement M
 distance-spec =

@@ -35,7 +35,13 @@ distance-requires c κs = search needs
 returns : tie.Need-returns
 returns c =
     let s = c .before .before .before .before in
-    cc (c .magnitude .ensures, read (s .args .c .value) (omega (arith, s .pre .value)), c .before .before .enum-told .given .1, at-most (natAbs (s .args .c .value)))
+    cc (
+      c .magnitude .ensures,
+      read (s .args .c .value) (omega (arith, s .pre .value)),
+      c .before .before .enum-told .given .1,
+      at-most
+          (natAbs (s .args .c .value)),
+    )
 
 returns-2 : tie.Need-returns-2
 returns-2 c = let s = c .before .before .before in cc (c .distance .ensures, c .before .enum-told2 .given .1)

@@ -18,7 +18,9 @@ returns : tie.Need-returns
 returns c = search needs
 
 returns-2 : tie.Need-returns-2
-returns-2 c = let s = c .before .before .before .before in cc (c .is-zero .ensures, read (s .args .c .low) (omega (arith, s .pre .low)), c .before .before .enum-told2 .given .1)
+returns-2 c =
+    let s = c .before .before .before .before in
+    cc (c .is-zero .ensures, read (s .args .c .low) (omega (arith, s .pre .low)), c .before .before .enum-told2 .given .1)
 
 pub is-compared-spec : {M : Type 1} → statement M
 is-compared-spec = tie.close (tie.spec enum-told enum-told-2 is-zero-requires returns returns-2)

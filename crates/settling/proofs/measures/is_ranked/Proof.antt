@@ -24,7 +24,9 @@ returns c = let s = c .before .before .before in cc (c .distance .ensures, c .be
 
 returns-2 : tie.Need-returns-2
 unfolding isRanked
-returns-2 c = let s = c .before .before .before .before in cc (c .is-zero .ensures, read (s .args .c .low) (omega (arith, s .pre .low)), c .before .before .enum-told2 .given .1)
+returns-2 c =
+    let s = c .before .before .before .before in
+    cc (c .is-zero .ensures, read (s .args .c .low) (omega (arith, s .pre .low)), c .before .before .enum-told2 .given .1)
 
 pub is-ranked-spec : {M : Type 1} → statement M
 is-ranked-spec =

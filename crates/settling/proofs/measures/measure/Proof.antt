@@ -46,9 +46,10 @@ magnitude-requires-3 c κs = search needs
 
 ratio-requires : tie.Need-ratio-requires
 ratio-requires c κs =
-    let s = c .before .before .before .before .before .before .before .before in
-    let g = goal s (c .before .before .before .before .before .before .enum-told2 .given .1) in (
-      rw (c .before .before .before .before .magnitude .ensures, low s) (s .pre .low),
+    let after-magnitude = c .before .before .before .before in
+    let s = after-magnitude .before .before .before .before in
+    let g = goal s (after-magnitude .before .before .enum-told2 .given .1) in (
+      rw (after-magnitude .magnitude .ensures, low s) (s .pre .low),
       rw (c .before .before .magnitude2 .ensures, high s) (s .pre .high),
       rw (c .magnitude3 .ensures, read (s .args .c .value) (omega (arith, g))) g,
     )
@@ -60,11 +61,13 @@ returns c = cc (c .distance .ensures, c .before .enum-told .given .1)
 returns-2 : tie.Need-returns-2
 unfolding Measures.measure
 returns-2 c =
-    let s = c .before .before .before .before .before .before .before .before .before in
-    let e = c .before .before .before .before .before .before .before .enum-told2 .given .1 in
+    let after-magnitude = c .before .before .before .before .before in
+    let s = after-magnitude .before .before .before .before in
+    let e = after-magnitude .before .before .enum-told2 .given .1 in
     let v = ap natAbs (read (s .args .c .value) (omega (arith, goal s e))) in
     c .ratio .ensures
-    ∙ (λ i. Measures.ratio ((c .before .before .before .before .before .magnitude .ensures ∙ ap natAbs (low s)) i) ((c .before .before .before .magnitude2 .ensures ∙ ap natAbs (high s)) i) ((c .before .magnitude3 .ensures ∙ v) i))
+    ∙ (λ i. Measures.ratio ((after-magnitude .magnitude .ensures ∙ ap natAbs (low s)) i)
+    ((c .before .before .before .magnitude2 .ensures ∙ ap natAbs (high s)) i) ((c .before .magnitude3 .ensures ∙ v) i))
     ∙ ap (λ (p : Part). Measures.measure p (s .args .c)) (sym e)
 
 pub measure-spec : {M : Type 1} → statement M

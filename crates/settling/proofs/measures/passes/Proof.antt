@@ -34,7 +34,9 @@ is-allowed-requires : tie.Need-is-allowed-requires
 is-allowed-requires c κs = search needs
 
 returns : tie.Need-returns
-returns c = let s = c .before .before in sym (passes-far (s .args .part) (s .args .c) _ (s .args .q) (failed (c .before .is-allowed .ensures) (c .if1 .taken)))
+returns c =
+    let s = c .before .before in sym (passes-far (s .args .part) (s .args .c) _ (s .args .q)
+    (failed (c .before .is-allowed .ensures) (c .if1 .taken)))
 
 is-zero-requires : tie.Need-is-zero-requires
 is-zero-requires c κs = search needs
@@ -49,23 +51,29 @@ is-compared-requires c κs = search needs
 
 returns-3 : tie.Need-returns-3
 returns-3 c =
-    let s = c .before .before .before .before .before .before in
-    sym (passes-free (s .args .part) (s .args .c) _ (s .args .q) (allowed (c .before .before .before .before)) (changed (c .before .before .before) ∙ c .before .before .if2 .left) (failed (compared (c .before)) (c .if3 .taken)))
+    let after-is-allowed = c .before .before .before .before .before in
+    let s = after-is-allowed .before in
+    sym (passes-free (s .args .part) (s .args .c) _ (s .args .q) (allowed (c .before .before .before .before))
+    (changed (c .before .before .before) ∙ c .before .before .if2 .left) (failed (compared (c .before)) (c .if3 .taken)))
 
 measure-requires : tie.Need-measure-requires
 measure-requires c κs = sized (c .before .before .before .before)
 
 below-requires : tie.Need-below-requires
 below-requires c κs =
-    let s = c .before .before .before .before .before .before .before in
+    let after-is-zero = c .before .before .before .before in
+    let s = after-is-zero .before .before .before in
     (rw (c .measure .ensures) (measure-room (s .args .part) (s .args .c) (sized (c .before .before .before .before .before))), s .pre .1)
 
 returns-4 : tie.Need-returns-4
 returns-4 c =
-    let s = c .before .before .before .before .before .before .before .before in
+    let after-is-zero = c .before .before .before .before .before in
+    let s = after-is-zero .before .before .before in
     c .below .ensures
     ∙ ap (λ (q : Measure). Measures.below q (s .args .q)) (c .before .measure .ensures)
-    ∙ sym (passes-measured (s .args .part) (s .args .c) _ (s .args .q) (allowed (c .before .before .before .before .before .before)) (changed (c .before .before .before .before .before) ∙ c .before .before .before .before .if2 .left) (passed (compared (c .before .before .before)) (c .before .before .if3 .left)))
+    ∙ sym (passes-measured (s .args .part) (s .args .c) _ (s .args .q) (allowed (after-is-zero .before))
+    (changed (after-is-zero) ∙ c .before .before .before .before .if2 .left)
+    (passed (compared (c .before .before .before)) (c .before .before .if3 .left)))
 
 pub passes-spec : {M : Type 1} → statement M
 passes-spec =

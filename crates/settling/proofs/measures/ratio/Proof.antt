@@ -19,12 +19,14 @@ below-requires c κs = search needs
 returns : tie.Need-returns
 returns c =
     let a = c .before .before .args in
-    sym (ap (λ (t : Bool). cond t (fraction (a .high) (1000 * a .v)) (fraction (1000 * a .v) (a .low))) (sym (c .before .below .ensures) ∙ c .if1 .taken))
+    sym (ap (λ (t : Bool). cond t (fraction (a .high) (1000 * a .v)) (fraction (1000 * a .v) (a .low)))
+    (sym (c .before .below .ensures) ∙ c .if1 .taken))
 
 returns-2 : tie.Need-returns-2
 returns-2 c =
     let a = c .before .before .args in
-    sym (ap (λ (t : Bool). cond t (fraction (a .high) (1000 * a .v)) (fraction (1000 * a .v) (a .low))) (sym (c .before .below .ensures) ∙ c .if1 .left))
+    sym (ap (λ (t : Bool). cond t (fraction (a .high) (1000 * a .v)) (fraction (1000 * a .v) (a .low)))
+    (sym (c .before .below .ensures) ∙ c .if1 .left))
 
 pub ratio-spec : {M : Type 1} → statement M
 ratio-spec = tie.close (tie.spec mul-t6 mul-t6-2 below-requires returns returns-2)

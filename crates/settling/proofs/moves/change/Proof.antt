@@ -64,13 +64,20 @@ shared-slice-copy-out-combine-2 c = let s = c .before .before .before .before .b
 
 combine-requires : tie.Need-combine-requires
 combine-requires c κs =
-    let s = c .before .before .before .before .before .before .before .before in
-    rw (read-a s, read-b s, read-s s, read-t s)
-    (s .pre .1 .a, s .pre .1 .b, s .pre .0 .small (s .args .o .s * s .args .view .stride + s .args .j), s .pre .0 .small (s .args .o .t * s .args .view .stride + s .args .j))
+    let entered = c .before .before .before .before .before in
+    let s = entered .before .before .before in
+    rw (read-a s, read-b s, read-s s, read-t s) (
+      s .pre .1 .a,
+      s .pre .1 .b,
+      s .pre .0 .small (s .args .o .s * s .args .view .stride + s .args .j),
+      s .pre .0 .small
+          (s .args .o .t * s .args .view .stride + s .args .j),
+    )
 
 returns : tie.Need-returns
 returns c =
-    let s = c .before .before .before .before .before .before .before .before .before in
+    let entered = c .before .before .before .before .before in
+    let s = entered .before .before .before .before in
     back (c .combine .result) (c .combine .ok) ∙ c .combine .ensures
     ∙ rw (read-a s, read-b s, read-s s, read-t s)
     (ap₂ (λ (x y : ℤ). s .args .o .a *ℤ x +ℤ s .args .o .b *ℤ y)

@@ -27,10 +27,13 @@ mul-result-2 : tie.Need-mul-result-2
 mul-result-2 c = rw (toZ-ofZ (c .fits .b), toZ-ofZ (c .fits .y)) (second c)
 
 add-result : tie.Need-add-result
-add-result c = rw (toZ-ofZ (c .fits .a), toZ-ofZ (c .fits .x), toZ-ofZ (c .fits .b), toZ-ofZ (c .fits .y), toZ-ofZ (first c), toZ-ofZ (second c)) (both c)
+add-result c =
+    rw (toZ-ofZ (c .fits .a), toZ-ofZ (c .fits .x), toZ-ofZ (c .fits .b), toZ-ofZ (c .fits .y), toZ-ofZ (first c), toZ-ofZ (second c)) (both c)
 
 returns : tie.Need-returns
-returns c = rw (toZ-ofZ (c .fits .a), toZ-ofZ (c .fits .x), toZ-ofZ (c .fits .b), toZ-ofZ (c .fits .y), toZ-ofZ (first c), toZ-ofZ (second c)) (toZ-ofZ (both c))
+returns c =
+    rw (toZ-ofZ (c .fits .a), toZ-ofZ (c .fits .x), toZ-ofZ (c .fits .b), toZ-ofZ (c .fits .y), toZ-ofZ (first c), toZ-ofZ (second c))
+    (toZ-ofZ (both c))
 
 pub combine-spec : {M : Type 1} → statement M
 combine-spec = tie.close (tie.spec mul-result mul-result-2 add-result returns)

@@ -103,13 +103,15 @@ second-end :
     let s = c .before .before .before .before .before .before .before in
     at s (s .args .o .t) + s .args .view .columns ≤ length (l s)
 second-end c =
-    let s = c .before .before .before .before .before .before .before in
-    ends-at s (s .args .o .t) (s .pre .0 .1 .t) (c .before .before .before .before .before .before .if1 .left)
+    let entered = c .before .before .before .before .before in
+    let s = entered .before .before in
+    ends-at s (s .args .o .t) (s .pre .0 .1 .t) (entered .before .if1 .left)
 
 -- what the first addition leaves
 first : (c : tie.After-add-row) → c .add-row .last .0 ≡ once (c .before .before .before .before .before .before .before)
 first c =
-    let s = c .before .before .before .before .before .before .before in
+    let entered = c .before .before .before .before .before in
+    let s = entered .before .before in
     c .add-row .ensures ∙ (λ i. plus (a s i) (is s (s .args .o .s) (s .pre .0 .1 .s) i) (v s))
 
 returns : tie.Need-returns
@@ -138,7 +140,8 @@ part-add-row-end c = first-end (c .before .before .before)
 
 add-row-requires : tie.Need-add-row-requires
 add-row-requires c κs =
-    let s = c .before .before .before .before .before .before in
+    let else1 = c .before .before .before .before .before in
+    let s = else1 .before in
     let h = s .pre .0 .1 .s in (
       long s (s .args .o .s) h,
       rw (a s) (s .pre .0 .1 .a),
@@ -154,23 +157,31 @@ same-length c = search needs
 
 returns-2 : tie.Need-returns-2
 returns-2 c =
-    let s = c .before .before .before .before .before .before .before .before .before .before .before in
-    first (c .before .before .before .before) ∙ sym (alone s (ap isZero (sym (b s)) ∙ sym (c .before .is-zero .ensures) ∙ c .if2 .taken))
+    let after-add-row = c .before .before .before .before in
+    let entered = after-add-row .before .before .before .before .before in
+    let s = entered .before .before in
+    first (after-add-row) ∙ sym (alone s (ap isZero (sym (b s)) ∙ sym (c .before .is-zero .ensures) ∙ c .if2 .taken))
 
 mul-from : tie.Need-mul-from
 mul-from c =
-    let d = c .before .before .before .before .before .before in
-    omega (arith, second-end d, d .before .before .before .before .before .before .before .good)
+    let after-is-zero = c .before .before .before in
+    let d = after-is-zero .before .before .before in
+    let entered = d .before .before .before .before .before in
+    omega (arith, second-end d, entered .before .before .good)
 
 add-to : tie.Need-add-to
 add-to c =
-    let d = c .before .before .before .before .before .before in
-    omega (arith, second-end d, d .before .before .before .before .before .before .before .good)
+    let after-is-zero = c .before .before .before in
+    let d = after-is-zero .before .before .before in
+    let entered = d .before .before .before .before .before in
+    omega (arith, second-end d, entered .before .before .good)
 
 mul-add-row-2 : tie.Need-mul-add-row-2
 mul-add-row-2 c =
-    let d = c .before .before .before .before .before .before .before in
-    omega (arith, second-end d, d .before .before .before .before .before .before .before .good)
+    let after-is-zero = c .before .before .before .before in
+    let d = after-is-zero .before .before .before in
+    let entered = d .before .before .before .before .before in
+    omega (arith, second-end d, entered .before .before .good)
 
 sub-add-row-2 : tie.Need-sub-add-row-2
 sub-add-row-2 c = search needs
@@ -179,12 +190,16 @@ part-add-row-start-2 : tie.Need-part-add-row-start-2
 part-add-row-start-2 c = search needs
 
 part-add-row-end-2 : tie.Need-part-add-row-end-2
-part-add-row-end-2 c = second-end (c .before .before .before .before .before .before .before)
+part-add-row-end-2 c =
+    let after-is-zero = c .before .before .before .before in
+    second-end (after-is-zero .before .before .before)
 
 add-row-requires-2 : tie.Need-add-row-requires-2
 add-row-requires-2 c κs =
-    let d = c .before .before .before .before .before .before .before .before .before in
-    let s = d .before .before .before .before .before .before .before in
+    let else2 = c .before .before .before .before .before in
+    let d = else2 .before .before .before .before in
+    let entered = d .before .before .before .before .before in
+    let s = entered .before .before in
     let h = s .pre .0 .1 .t in (
       long s (s .args .o .t) h ∙ sym (d .add-row .kept .0),
       rw (b s) (s .pre .0 .1 .b),
@@ -197,8 +212,11 @@ same-length-2 c = search needs
 
 returns-3 : tie.Need-returns-3
 returns-3 c =
-    let d = c .before .before .before .before .before .before .before .before .before .before .before in
-    let s = d .before .before .before .before .before .before .before in
+    let after-add-row2 = c .before in
+    let leaving = after-add-row2 .before .before .before .before .before in
+    let d = leaving .before .before .before .before .before in
+    let entered = d .before .before .before .before .before in
+    let s = entered .before .before in
     c .before .add-row2 .ensures
     ∙ (λ i. plus (b s i) (is s (s .args .o .t) (s .pre .0 .1 .t) i) (first d i))
     ∙ sym (both s)

@@ -29,7 +29,9 @@ abbrev Q : (s : tie.Start Inv-loop μ-loop) → ℤ
 Q s = toZ w64 (ofZ w64 (s .args .q))
 
 -- the column of a turn
-at : (c : tie.In-loop Inv-loop μ-loop) → let s = c .before .before in c .before .loop .j < length (plus (Q s) (s .args .row .now) (s .args .values .now))
+at :
+    (c : tie.In-loop Inv-loop μ-loop) → let s = c .before .before in
+    c .before .loop .j < length (plus (Q s) (s .args .row .now) (s .args .values .now))
 at c = let s = c .before .before in omega (arith, length-plus (Q s) (s .args .row .now) (s .args .values .now), s .pre .0 .long, c .loop-test .taken)
 
 here : (c : tie.In-loop Inv-loop μ-loop) → c .before .loop .j < length (c .before .loop .values)
@@ -54,13 +56,15 @@ share c = back _ (c .plus-product-arg2 .given)
 stored :
     (c : tie.After-plus-product Inv-loop μ-loop) →
     let s = c .before .before .before .before .before in
-    toZ w64 (ofZ w64 (c .plus-product .result)) ≡ entry (c .before .before .before .before .loop .j) (plus (Q s) (s .args .row .now) (s .args .values .now))
+    toZ w64 (ofZ w64 (c .plus-product .result)) ≡ entry (c .before .before .before .before .loop .j)
+    (plus (Q s) (s .args .row .now) (s .args .values .now))
 stored c =
     let s = c .before .before .before .before .before in
     let l = c .before .before .before .before .loop in
     back (c .plus-product .result) (c .plus-product .ok) ∙ c .plus-product .ensures
     ∙ (λ i. value (c .before .before) i +ℤ Q s *ℤ share (c .before) i)
-    ∙ sym (entry-plus (l .j) (Q s) (s .args .row .now) (s .args .values .now) (omega (arith, s .pre .0 .long, c .before .before .before .loop-test .taken)))
+    ∙ sym (entry-plus (l .j) (Q s) (s .args .row .now) (s .args .values .now)
+    (omega (arith, s .pre .0 .long, c .before .before .before .loop-test .taken)))
 
 -- its magnitude
 size :
@@ -97,12 +101,15 @@ magnitude-requires : tie.Need-magnitude-requires Inv-loop μ-loop
 magnitude-requires c κs = search needs
 
 same-length : tie.Need-same-length Inv-loop μ-loop
-same-length c = c .before .before .before .before .before .before .loop .inv .written .same
+same-length c =
+    let after-plus-product = c .before .before in
+    after-plus-product .before .before .before .before .loop .inv .written .same
 
 returns : tie.Need-returns Inv-loop μ-loop
 returns c =
-    let s = c .before .before .before .before .before .before .before in
-    let l = c .before .before .before .before .before .before .loop in
+    let after-plus-product = c .before .before in
+    let s = after-plus-product .before .before .before .before .before in
+    let l = after-plus-product .before .before .before .before .loop in
     adds-beyond (Q s) (s .args .row .now) (s .args .values .now) (s .pre .0) (l .values) (l .j) (l .inv)
     (c .before .before .before .before .before .loop-test .taken)
     (omega (arith, size (c .before), c .if1 .taken))
@@ -125,11 +132,12 @@ loop-less c = omega (arith, c .lead-from .ensures)
 
 loop-again : tie.Need-loop-again Inv-loop μ-loop
 loop-again c =
-    let s = c .before .before .before .before .before .before .before .before in
-    let l = c .before .before .before .before .before .before .before .loop in
+    let after-plus-product = c .before .before .before in
+    let s = after-plus-product .before .before .before .before .before in
+    let l = after-plus-product .before .before .before .before .loop in
     adds-on (Q s) (s .args .row .now) (s .args .values .now) (s .pre .0) (l .values) (l .j) (l .inv) _ (c .lead-from .result)
-    (c .before .before .before .before .before .before .loop-test .taken) (stored (c .before .before .before))
-    (omega (arith, size (c .before .before), ap natAbs (stored (c .before .before .before)), c .before .if1 .left))
+    (after-plus-product .before .before .before .loop-test .taken) (stored (after-plus-product))
+    (omega (arith, size (c .before .before), ap natAbs (stored (after-plus-product)), c .before .if1 .left))
     (c .lead-from .ensures)
 
 same-length-2 : tie.Need-same-length-2 Inv-loop μ-loop

@@ -22,7 +22,12 @@ module _ (s : tie.Start) where
   C = columnsIn (length (s .args .values .now)) (s .args .columns .now)
 
   fits : SFits w64 (gapAt C (s .args .values .now) (s .args .c))
-  fits = sfits-abs _ (omega (arith, gap-small C (s .args .values .now) (s .args .c) (s .pre .0 .columns (s .args .c)) (s .pre .0 .values-small (s .args .c))))
+  fits =
+      sfits-abs _ (omega (
+        arith,
+        gap-small C (s .args .values .now) (s .args .c) (s .pre .0 .columns (s .args .c))
+            (s .pre .0 .values-small (s .args .c)),
+      ))
 
 -- what the machine reads back
 module _ (c : tie.After-cell-at) where
@@ -33,12 +38,16 @@ module _ (c : tie.After-cell-at) where
   value = ap (λ (x : Cell). toZ w64 (ofZ w64 (x .value))) (c .cell-at .ensures) ∙ read _ (omega (arith, start .pre .0 .values-small (start .args .c)))
 
   lower : toZ w64 (ofZ w64 (c .cell-at .result .lower)) ≡ C start .column (start .args .c) .lower
-  lower = ap (λ (x : Cell). toZ w64 (ofZ w64 (x .lower))) (c .cell-at .ensures) ∙ read _ (omega (arith, start .pre .0 .columns (start .args .c) .lower))
+  lower =
+      ap (λ (x : Cell). toZ w64 (ofZ w64 (x .lower))) (c .cell-at .ensures) ∙ read _ (omega (arith, start .pre .0 .columns (start .args .c) .lower))
 
   upper : toZ w64 (ofZ w64 (c .cell-at .result .upper)) ≡ C start .column (start .args .c) .upper
-  upper = ap (λ (x : Cell). toZ w64 (ofZ w64 (x .upper))) (c .cell-at .ensures) ∙ read _ (omega (arith, start .pre .0 .columns (start .args .c) .upper))
+  upper =
+      ap (λ (x : Cell). toZ w64 (ofZ w64 (x .upper))) (c .cell-at .ensures) ∙ read _ (omega (arith, start .pre .0 .columns (start .args .c) .upper))
 
-nearest : (c : tie.After-ideal) → let s = c .before .before .before .before .before .before in toZ w64 (ofZ w64 (c .ideal .result)) ≡ idealAt (C s) (s .args .values .now) (s .args .c)
+nearest : (c : tie.After-ideal) → let s =
+    let after-cell-at = c .before .before .before .before .before in
+    after-cell-at .before in toZ w64 (ofZ w64 (c .ideal .result)) ≡ idealAt (C s) (s .args .values .now) (s .args .c)
 nearest c =
     let k = c .before .before .before .before .before in
     back (c .ideal .result) (c .ideal .ok) ∙ c .ideal .ensures
@@ -54,10 +63,14 @@ ideal-requires : tie.Need-ideal-requires
 ideal-requires c κs = search needs
 
 sub-result : tie.Need-sub-result
-sub-result c = let s = c .before .before .before .before .before .before in rw (nearest c, value (c .before .before .before .before .before)) (fits s)
+sub-result c =
+    let after-cell-at = c .before .before .before .before .before in
+    let s = after-cell-at .before in rw (nearest c, value (after-cell-at)) (fits s)
 
 returns : tie.Need-returns
-returns c = let s = c .before .before .before .before .before .before in rw (nearest c, value (c .before .before .before .before .before)) (toZ-ofZ (fits s))
+returns c =
+    let after-cell-at = c .before .before .before .before .before in
+    let s = after-cell-at .before in rw (nearest c, value (after-cell-at)) (toZ-ofZ (fits s))
 
 pub gap-at-spec : {M : Type 1} → statement M
 gap-at-spec =

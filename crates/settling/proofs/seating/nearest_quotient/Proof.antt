@@ -37,7 +37,8 @@ returns : tie.Need-returns
 returns c =
     let s = c .before in
     back (c .floor-quotient .result) (c .floor-quotient .ok) ∙ c .floor-quotient .ensures
-    ∙ simp (toZ-ofZ (s .fits .d), toZ-ofZ (s .fits .p), toZ-ofZ (twice-d s), toZ-ofZ (twice-p s)) (ap (λ (e : ℤ). floorQuotient e (pos 2 *ℤ s .args .p)) (toZ-ofZ (total s)))
+    ∙ simp (toZ-ofZ (s .fits .d), toZ-ofZ (s .fits .p), toZ-ofZ (twice-d s), toZ-ofZ (twice-p s))
+    (ap (λ (e : ℤ). floorQuotient e (pos 2 *ℤ s .args .p)) (toZ-ofZ (total s)))
 
 pub nearest-quotient-spec : {M : Type 1} → statement M
 nearest-quotient-spec =

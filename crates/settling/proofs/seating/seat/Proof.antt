@@ -35,7 +35,9 @@ module _ (c : tie.After-copy) where
   copy-long = ap length copied ∙ begin .pre .ready .values-long
 
 -- what is lent to be seated
-held : (c : tie.After-held2) → let s = c .before .before .before .before in (t : List ℤ) → take (n s) (c .before .copy .last .0 ++ drop (n s) t) ≡ s .args .values .now
+held :
+    (c : tie.After-held2) → let s = c .before .before .before .before in (t : List ℤ)
+    → take (n s) (c .before .copy .last .0 ++ drop (n s) t) ≡ s .args .values .now
 held c t = let s = c .before .before .before .before in part-back (n s) (c .before .copy .last .0) t (copy-long (c .before)) ∙ copied (c .before)
 
 module _ (c : tie.After-seat-all) where
@@ -80,29 +82,43 @@ same-length c = search needs
 
 returns : tie.Need-returns
 returns c =
-    let s = c .before .before .before .before .before .before .before .before in
+    let after-copy = c .before .before .before .before .before in
+    let s = after-copy .before .before .before in
     let e = answered (c .before .before) false (not-true _ (c .if1 .taken)) in
     sym (ap (λ (z : Seated). leaves z (s .args .values .now)) e)
 
 array-share-prefix-held : tie.Need-array-share-prefix-held
-array-share-prefix-held c = part-fits (n (c .before .before .before .before .before .before .before .before .before)) (c .before .before .before .seat-all .last .0) _ (seated-long (c .before .before .before))
+array-share-prefix-held c =
+    let after-seat-all = c .before .before .before in
+    let after-copy = after-seat-all .before .before .before in
+    part-fits (n (after-copy .before .before .before)) (after-seat-all .seat-all .last .0) _ (seated-long (after-seat-all))
 
 slice-aggregate-copy-2 : tie.Need-slice-aggregate-copy-2
-slice-aggregate-copy-2 c = sym (ap length (part-back (n (c .before .before .before .before .before .before .before .before .before .before)) (c .before .before .before .before .seat-all .last .0) _ (seated-long (c .before .before .before .before))) ∙ seated-long (c .before .before .before .before))
+slice-aggregate-copy-2 c =
+    let after-seat-all = c .before .before .before .before in
+    let after-copy = after-seat-all .before .before .before in
+    sym (ap length (part-back (n (after-copy .before .before .before)) (after-seat-all .seat-all .last .0) _ (seated-long (after-seat-all)))
+    ∙ seated-long (after-seat-all))
 
 copy-requires-2 : tie.Need-copy-requires-2
 copy-requires-2 c κs =
-    let s = c .before .before .before .before .before .before .before .before .before .before in
-    s .pre .ready .values-long ∙ sym (ap length (part-back (n s) (c .before .before .before .before .seat-all .last .0) _ (seated-long (c .before .before .before .before))) ∙ seated-long (c .before .before .before .before))
+    let after-seat-all = c .before .before .before .before in
+    let after-copy = after-seat-all .before .before .before in
+    let s = after-copy .before .before .before in
+    s .pre .ready .values-long ∙ sym (ap length (part-back (n s) (after-seat-all .seat-all .last .0) _ (seated-long (after-seat-all)))
+    ∙ seated-long (after-seat-all))
 
 same-length-2 : tie.Need-same-length-2
 same-length-2 c = search needs
 
 returns-2 : tie.Need-returns-2
 returns-2 c =
-    let s = c .before .before .before .before .before .before .before .before .before .before .before .before in
-    let e = answered (c .before .before .before .before .before .before) true (not-false _ (c .before .before .before .before .if1 .left)) in
-    ap (seatDone true) (c .before .copy2 .ensures ∙ part-back (n s) (c .before .before .before .before .before .before .seat-all .last .0) _ (seated-long (c .before .before .before .before .before .before)))
+    let after-copy2 = c .before in
+    let after-seat-all = after-copy2 .before .before .before .before .before in
+    let after-copy = after-seat-all .before .before .before in
+    let s = after-copy .before .before .before in
+    let e = answered (after-seat-all) true (not-false _ (c .before .before .before .before .if1 .left)) in
+    ap (seatDone true) (c .before .copy2 .ensures ∙ part-back (n s) (after-seat-all .seat-all .last .0) _ (seated-long (after-seat-all)))
     ∙ sym (ap (λ (z : Seated). leaves z (s .args .values .now)) e)
 
 pub seat-spec : {M : Type 1} → statement M

@@ -81,7 +81,8 @@ same-length c = search needs
 returns : tie.Need-returns
 unfolding seatOne
 returns c =
-    let s = c .before .before .before .before .before .before .before in
+    let after-gap-at = c .before .before .before .before .before in
+    let s = after-gap-at .before .before in
     c .before .add-row .ensures ∙ ap (λ (q : ℤ). within (Rows.plus q (s .args .row .now) (s .args .values .now))) (factor (c .before .before .before))
 
 pub seat-one-spec : {M : Type 1} → statement M

@@ -85,7 +85,8 @@ divisor-requires c κs = search needs
 
 returns : tie.Need-returns Inv-loop μ-loop
 returns c =
-    let t = c .before .before .before .before .before .before .before in
+    let after-magnitude = c .before .before .before in
+    let t = after-magnitude .before .before .before .before in
     let s = t .before in
     let l = t .loop in
     sym (stride-one (s .args .view) (s .args .basis .now) (s .args .j) (l .s - 1) (omega (arith, l .inv .0))
@@ -95,14 +96,17 @@ loop-less : tie.Need-loop-less Inv-loop μ-loop
 loop-less c = omega arith
 
 loop-again : tie.Need-loop-again Inv-loop μ-loop
-loop-again c = (omega (arith, c .before .before .before .before .before .before .before .loop .inv .0), joined (c .before))
+loop-again c =
+    let after-magnitude = c .before .before .before in
+    (omega (arith, after-magnitude .before .before .before .before .loop .inv .0), joined (c .before))
 
 loop-less-2 : tie.Need-loop-less-2 Inv-loop μ-loop
 loop-less-2 c = omega arith
 
 loop-again-2 : tie.Need-loop-again-2 Inv-loop μ-loop
 loop-again-2 c =
-    let s = c .before .before .before .before .before .before in
+    let after-magnitude = c .before in
+    let s = after-magnitude .before .before .before .before .before in
     let l = c .before .before .before .before .before .loop in (
       omega (arith, l .inv .0),
       l .inv .1

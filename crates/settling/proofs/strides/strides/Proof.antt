@@ -19,10 +19,12 @@ stride-requires : tie.Need-stride-requires Inv-loop μ-loop
 stride-requires c κs = let s = c .before .before .before in (s .pre .basis, c .loop-test .taken)
 
 mul-out : tie.Need-mul-out Inv-loop μ-loop
-mul-out c = let s = c .before .before .before .before in omega (arith, c .before .before .loop .inv .long, s .pre .long, c .before .loop-test .taken, s .good)
+mul-out c =
+    let s = c .before .before .before .before in omega (arith, c .before .before .loop .inv .long, s .pre .long, c .before .loop-test .taken, s .good)
 
 slice-write-out : tie.Need-slice-write-out Inv-loop μ-loop
-slice-write-out c = let s = c .before .before .before .before in omega (arith, c .before .before .loop .inv .long, s .pre .long, c .before .loop-test .taken)
+slice-write-out c =
+    let s = c .before .before .before .before in omega (arith, c .before .before .loop .inv .long, s .pre .long, c .before .loop-test .taken)
 
 add-j : tie.Need-add-j Inv-loop μ-loop
 add-j c = omega arith
@@ -33,7 +35,8 @@ loop-less c = omega arith
 loop-again : tie.Need-loop-again Inv-loop μ-loop
 loop-again c =
     let s = c .before .before .before .before in
-    filled-on (vectors (s .args .view) (s .args .basis .now)) _ _ _ _ (c .before .before .loop .inv) (omega (arith, s .pre .long, c .before .loop-test .taken)) (c .stride .ensures)
+    filled-on (vectors (s .args .view) (s .args .basis .now)) _ _ _ _ (c .before .before .loop .inv)
+    (omega (arith, s .pre .long, c .before .loop-test .taken)) (c .stride .ensures)
 
 same-length : tie.Need-same-length Inv-loop μ-loop
 same-length c = c .before .loop .inv .long
@@ -41,7 +44,8 @@ same-length c = c .before .loop .inv .long
 returns : tie.Need-returns Inv-loop μ-loop
 returns c =
     let s = c .before .before .before in
-    filled-all (vectors (s .args .view) (s .args .basis .now)) (s .args .view .columns) _ _ _ (c .before .loop .inv) (s .pre .long) (c .loop-test .left)
+    filled-all (vectors (s .args .view) (s .args .basis .now)) (s .args .view .columns) _ _ _ (c .before .loop .inv) (s .pre .long)
+    (c .loop-test .left)
 
 pub strides-spec : {M : Type 1} → statement M
 strides-spec =
