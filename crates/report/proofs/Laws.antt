@@ -1,4 +1,10 @@
--- Laws of the listing: how long its lines are, its columns one at a time, and what the call leaves. Assumes nothing.
+-- Laws of the listing: how long its lines are, its columns one at a time, and what the call leaves.
+--   length-line, -verdict, -refusal, abs-fits   a line is short, where its numbers are of 64 bits
+--   refusal-none, -other               the line of a refusal's number
+--   lines-more, -end, length-more      the columns' lines, one at a time
+--   listing-is, -lines, -length, length-listed   the whole listing: the first line, and then those of the columns that are listed
+--   write-uneven, -short, -done        what the call leaves
+-- Assumes nothing.
 -- ---- lengths: a number of 64 bits has at most 20 digits
 use mathlib.Core.Path.{_≡_, sym, ap, _∙_}
 use mathlib.Core.Bool.{Bool, true, false, cond}

@@ -1,5 +1,9 @@
--- Laws of numbers read in a range, and of what a range says of them. Assumes nothing.
--- ---- outcomes
+-- Laws of numbers read in a range, and of what a range says of them.
+--   same-ok, ok-not-no                equal outcomes were read alike, and none of them is a refusal
+--   within-number, -bad, -end         a number at a place, by the token there
+--   within-in, abs-between, abs-within, count-in   what a range says of the number that was read
+--   coefficient-zero, -read, -no      a coefficient
+-- Assumes nothing.
 use mathlib.Core.Path.{_≡_, refl, sym, subst}
 use mathlib.Core.Bool.{Bool, true, false, cond, _&&_}
 use mathlib.Core.List.{List}
@@ -19,6 +23,7 @@ use Rattle.problem.specs.Limits.{maxCoefficient}
 use Rattle.sections.specs.Rules.{ok, no, inside, onNext, within}
 use Rattle.sections.specs.Sections.{spanning, coefficient}
 
+-- ---- outcomes
 pub same-ok : {A : Type 0} {a b : A} {p q : ℕ} → ok a p ≡ ok b q → a ≡ b
 same-ok h = cc
 

@@ -1,5 +1,11 @@
--- Laws of the parts of a text, one for each way through the code: an interval, a term, a row and their lists. Assumes nothing.
--- ---- an interval
+-- Laws of the parts of a text, one for each way through the code: what was read, or at which number it was refused.
+--   interval-read, -lower, -upper, -goal    an interval; intervals-more, -stop, -end, so many of them
+--   row-even, slack-few, number-small       a kind's row, how many columns it adds, and how large its number is
+--   kind-read, -no, row-read, -kind, -number   a row's kind and number
+--   term-read, -index, -coefficient, -in    a term; terms-more, -stop, -end, so many of them
+--   line-read, -row, -count, -terms, -room  a row with its terms; lines-more, -stop, -end, so many of them
+--   intervals-count, -no, rows-count, -no   sections, with their counts
+-- Assumes nothing.
 use mathlib.Core.Path.{_≡_, refl, ap, subst}
 use mathlib.Core.Bool.{Bool, true, false}
 use mathlib.Core.List.{List, [], _∷_, _++_}

@@ -1,8 +1,16 @@
--- Laws of what is stored: buffers filled from the front, columns side by side, rows as wide as the largest. Assumes nothing.
--- ---- lists
+-- Laws of what is stored: buffers filled from the front, columns side by side, rows as wide as the largest.
+--   map-two, length-snoc, blank-is, length-blank   lists
+--   padded-none, padded-written, from-blank, wiped   a buffer of 0 that is filled from the front, and one that is set to 0
+--   cells-two, -one, -more, length-cells       columns side by side in their table
+--   length-slack, slacks-more                  the y's of rows
+--   placed-none, -more, length-withSlack, length-row   a row's coefficients
+--   rows-more, length-rows, few-cells          rows one after the other, and how many numbers they have within the limits
+--   columns-more, rights-more, table-more      the next row's column, right side and coefficients
+-- Assumes nothing.
 use mathlib.Core.Path.{_≡_, refl, sym, ap, _∙_}
 use mathlib.Core.List.{List, [], _∷_, _++_, map, append-nil, append-assoc}
 use Prim.Native.Nat.{ℕ, zero, suc, _+_, _-_, _*_, _≤_, _<_}
+use native.Mathlib.Nat.{mul-le-mul}
 use native.Mathlib.Omega.{arith}
 use lib.IntN.{ℤ, pos}
 use lib.ListN.{length, take, drop, set, replicate, length-append, length-map, length-replicate, length-set}
@@ -11,13 +19,14 @@ use Rattle.whole.specs.Lists.{zeros}
 use Rattle.text.specs.Overwriting.{overwritten}
 use Rattle.problem.specs.Kinds.{Slack, none, slack, slackOf, slackCount}
 use Rattle.problem.specs.Kinds as kinds
-use Rattle.sections.specs.Sections.{deckColumns, Line}
+use Rattle.sections.specs.Sections.{deckColumns, deckRows, coefficientCount, Line}
 use Rattle.sections.specs.StatedColumns.{rightOf, placed, withSlack, slackColumn, slackColumns, coefficientRow, coefficientRows}
 use Rattle.sections.specs.StatedColumns.{columnWidth, columnCells, cell, cells, padded, blank}
 use Rattle.sections.specs.declared.Interval.{Interval}
 use Rattle.sections.specs.declared.Term.{Term}
-use Rattle.text.proofs.Copying.{written-all, written-then}
+use Rattle.text.proofs.Copying.{written-then}
 
+-- ---- lists
 pub map-two : {A B : Type 0} (f : A → B) (u v : List A) → map f (u ++ v) ≡ map f u ++ map f v
 map-two f [] v = refl
 map-two f (x ∷ u) v = ap (λ (t : List _). f x ∷ t) (map-two f u v)
@@ -59,10 +68,8 @@ pub from-blank : (size : ℕ) (o u w : List ℤ) → length w ≤ size → o ≡
 from-blank size o u w h e f = f ∙ (rw (e, padded-none size) (padded-written size 0 [] w refl (omega arith)))
 
 -- a buffer that is set to 0 from end to end
-pub wiped : (size : ℕ) (o u : List ℤ) → length o ≡ size → u ≡ overwritten o 0 (replicate (size - 0) (pos 0)) → u ≡ blank size
-wiped size o u h e =
-    let z : size - 0 ≡ size = omega arith in
-    e ∙ (rw z (written-all o (replicate size (pos 0)) (length-replicate size (pos 0) ∙ sym h) ∙ sym (blank-is size)))
+pub wiped : (size : ℕ) (o u : List ℤ) → length o ≡ size → u ≡ zeros (length o) → u ≡ blank size
+wiped size o u h e = e ∙ ap zeros h ∙ sym (blank-is size)
 
 -- ---- columns side by side in their table
 pub cells-two : (u v : List Interval) → cells (u ++ v) ≡ cells u ++ cells v
@@ -143,6 +150,10 @@ length-rows n c [] = omega arith
 length-rows n c (d ∷ ls) =
     length-append (coefficientRow n c d) (coefficientRows n (c + slackCount (d .row .kind)) ls) ∙
     (rw (length-row n c d, length-rows n (c + slackCount (d .row .kind)) ls) (omega arith))
+
+-- rows within the limits
+pub few-cells : (n m : ℕ) → n ≤ deckColumns → m ≤ deckRows → m * n ≤ coefficientCount
+few-cells n m h k = mul-le-mul k h
 
 -- ---- the next row's column, right side and coefficients
 module _ (c : ℕ) (done : List Line) (l : Line) where

@@ -22,8 +22,8 @@ use lib.Signed.{ltZ}
 use Rattle.whole.specs.Lists.{entry}
 use Rattle.whole.proofs.Signed.{lt-zero}
 use Rattle.lattice.specs.Rows.{neg, ZeroTo}
-use Rattle.lattice.proofs.Writing as Writing
-use Rattle.lattice.proofs.Writing.{WrittenTo}
+use Rattle.whole.proofs.Writing as Writing
+use Rattle.whole.proofs.Writing.{WrittenTo}
 use Rattle.tableau.specs.Elimination.{signed}
 use Rattle.tableau.specs.Tails.{lowerFirst, brought, Lifted}
 

@@ -3,3 +3,4 @@ pub mod Signed
 pub mod Euclid
 pub mod Counted
 pub mod Integers
+pub mod Writing

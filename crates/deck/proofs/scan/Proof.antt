@@ -19,12 +19,15 @@ enum-known-a c = search needs
 
 read-rows-requires : tie.Need-read-rows-requires
 read-rows-requires c κs =
-    let x = c .before .before .before .before .before .before .before .before .before .before .args in
-    let v = c .before .before .before .before .before .before .before .read-intervals in
+    let after-a = c .before .before .before .before in
+    let after-read-intervals = after-a .before .before .before in
+    let start = after-read-intervals .before .before .before in
+    let x = start .args in
+    let v = after-read-intervals .read-intervals in
     let k = v .last .1 .1 .0 in
-    let h = v .kept .1 .1 .0 ∙ (ap length (c .before .before .before .before .before .before .before .before .before .before .pre .0) ∙ length-blank columnCells) in
-    let i : IntervalsFound (intervalSection (x .s .now) 0) (c .before .before .before .before .a .given .0 .0) k = intervals-found _ _ _ (ap (λ (r : _). intervalsDone r k) (sym (c .before .before .before .before .a .given .1)) ∙ v .ensures) in
-    ((few-intervals i h, i .columns, i .rows), (h, c .before .before .before .before .before .before .before .before .before .before .pre .1, c .before .before .before .before .before .before .before .before .before .before .pre .2))
+    let h = v .kept .1 .1 .0 ∙ (ap length (start .pre .0) ∙ length-blank columnCells) in
+    let i : IntervalsFound (intervalSection (x .s .now) 0) (after-a .a .given .0 .0) k = intervals-found _ _ _ (ap (λ (r : _). intervalsDone r k) (sym (after-a .a .given .1)) ∙ v .ensures) in
+    ((few-intervals i h, i .columns, i .rows), (h, start .pre .1, start .pre .2))
 
 enum-known-b : tie.Need-enum-known-b
 enum-known-b c = search needs
@@ -49,17 +52,22 @@ same-length-3 c = search needs
 
 returns : tie.Need-returns
 returns c =
-    let x = c .before .before .before .before .before .before .before .before .before .before .before .before .before .before .before .before .before .before .before .args in
-    let v = c .before .before .before .before .before .before .before .before .before .before .before .before .before .before .before .before .read-intervals in
-    let w = c .before .before .before .before .before .before .before .before .read-rows in
+    let after-b = c .before .before .before in
+    let after-read-rows = after-b .before .before .before .before .before in
+    let after-a = after-read-rows .before .before .before .before .before in
+    let after-read-intervals = after-a .before .before .before in
+    let start = after-read-intervals .before .before .before in
+    let x = start .args in
+    let v = after-read-intervals .read-intervals in
+    let w = after-read-rows .read-rows in
     let k = v .last .1 .1 .0 in
     let k' = w .last .1 .1 .0 in
     let b' = w .last .1 .1 .1 .0 in
     let t' = w .last .1 .1 .1 .1 .0 in
-    let h = v .kept .1 .1 .0 ∙ (ap length (c .before .before .before .before .before .before .before .before .before .before .before .before .before .before .before .before .before .before .before .pre .0) ∙ length-blank columnCells) in
-    let i : IntervalsFound (intervalSection (x .s .now) 0) (c .before .before .before .before .before .before .before .before .before .before .before .before .before .a .given .0 .0) k = intervals-found _ _ _ (ap (λ (r : _). intervalsDone r k) (sym (c .before .before .before .before .before .before .before .before .before .before .before .before .before .a .given .1)) ∙ v .ensures) in
-    let r = rows-found (c .before .before .before .before .before .before .before .before .before .before .before .before .before .a .given .0 .0 .intervals) k k' b' t' (rowSection (x .s .now) (c .before .before .before .before .before .before .before .before .before .before .before .before .before .a .given .0 .0 .intervals) (c .before .before .before .before .before .before .before .before .before .before .before .before .before .a .given .0 .0 .at)) (c .before .before .before .b .given .0 .0) (ap (λ (r : _). rowsDone r k' b' t') (sym (c .before .before .before .b .given .1)) ∙ w .ensures) in
-    stored (x .s .now) (c .before .before .before .before .before .before .before .before .before .before .before .before .before .a .given .0 .0) (c .before .before .before .b .given .0 .0) k k' b' t' i r h (w .kept .1 .1 .0 ∙ h) (w .kept .1 .1 .1 .0 ∙ (ap length (c .before .before .before .before .before .before .before .before .before .before .before .before .before .before .before .before .before .before .before .pre .1) ∙ length-blank deckRows)) (sym (c .before .is-closed .ensures) ∙ c .if1 .taken)
+    let h = v .kept .1 .1 .0 ∙ (ap length (start .pre .0) ∙ length-blank columnCells) in
+    let i : IntervalsFound (intervalSection (x .s .now) 0) (after-a .a .given .0 .0) k = intervals-found _ _ _ (ap (λ (r : _). intervalsDone r k) (sym (after-a .a .given .1)) ∙ v .ensures) in
+    let r = rows-found (after-a .a .given .0 .0 .intervals) k k' b' t' (rowSection (x .s .now) (after-a .a .given .0 .0 .intervals) (after-a .a .given .0 .0 .at)) (after-b .b .given .0 .0) (ap (λ (r : _). rowsDone r k' b' t') (sym (after-b .b .given .1)) ∙ w .ensures) in
+    stored (x .s .now) (after-a .a .given .0 .0) (after-b .b .given .0 .0) k k' b' t' i r h (w .kept .1 .1 .0 ∙ h) (w .kept .1 .1 .1 .0 ∙ (ap length (start .pre .1) ∙ length-blank deckRows)) (sym (c .before .is-closed .ensures) ∙ c .if1 .taken)
 
 same-length-4 : tie.Need-same-length-4
 same-length-4 c = search needs
@@ -72,16 +80,21 @@ same-length-6 c = search needs
 
 returns-2 : tie.Need-returns-2
 returns-2 c =
-    let x = c .before .before .before .before .before .before .before .before .before .before .before .before .before .before .before .before .before .before .before .args in
-    let v = c .before .before .before .before .before .before .before .before .before .before .before .before .before .before .before .before .read-intervals in
-    let w = c .before .before .before .before .before .before .before .before .read-rows in
+    let after-b = c .before .before .before in
+    let after-read-rows = after-b .before .before .before .before .before in
+    let after-a = after-read-rows .before .before .before .before .before in
+    let after-read-intervals = after-a .before .before .before in
+    let start = after-read-intervals .before .before .before in
+    let x = start .args in
+    let v = after-read-intervals .read-intervals in
+    let w = after-read-rows .read-rows in
     let k = v .last .1 .1 .0 in
     let k' = w .last .1 .1 .0 in
     let b' = w .last .1 .1 .1 .0 in
     let t' = w .last .1 .1 .1 .1 .0 in
-    let i : IntervalsFound (intervalSection (x .s .now) 0) (c .before .before .before .before .before .before .before .before .before .before .before .before .before .a .given .0 .0) k = intervals-found _ _ _ (ap (λ (r : _). intervalsDone r k) (sym (c .before .before .before .before .before .before .before .before .before .before .before .before .before .a .given .1)) ∙ v .ensures) in
-    let r = rows-found (c .before .before .before .before .before .before .before .before .before .before .before .before .before .a .given .0 .0 .intervals) k k' b' t' (rowSection (x .s .now) (c .before .before .before .before .before .before .before .before .before .before .before .before .before .a .given .0 .0 .intervals) (c .before .before .before .before .before .before .before .before .before .before .before .before .before .a .given .0 .0 .at)) (c .before .before .before .b .given .0 .0) (ap (λ (r : _). rowsDone r k' b' t') (sym (c .before .before .before .b .given .1)) ∙ w .ensures) in
-    left-over (x .s .now) (c .before .before .before .before .before .before .before .before .before .before .before .before .before .a .given .0 .0) (c .before .before .before .b .given .0 .0) k k' b' t' i r (sym (c .before .is-closed .ensures) ∙ c .if1 .left)
+    let i : IntervalsFound (intervalSection (x .s .now) 0) (after-a .a .given .0 .0) k = intervals-found _ _ _ (ap (λ (r : _). intervalsDone r k) (sym (after-a .a .given .1)) ∙ v .ensures) in
+    let r = rows-found (after-a .a .given .0 .0 .intervals) k k' b' t' (rowSection (x .s .now) (after-a .a .given .0 .0 .intervals) (after-a .a .given .0 .0 .at)) (after-b .b .given .0 .0) (ap (λ (r : _). rowsDone r k' b' t') (sym (after-b .b .given .1)) ∙ w .ensures) in
+    left-over (x .s .now) (after-a .a .given .0 .0) (after-b .b .given .0 .0) k k' b' t' i r (sym (c .before .is-closed .ensures) ∙ c .if1 .left)
 
 same-length-7 : tie.Need-same-length-7
 same-length-7 c = search needs
@@ -94,15 +107,20 @@ same-length-9 c = search needs
 
 returns-3 : tie.Need-returns-3
 returns-3 c =
-    let x = c .before .before .before .before .before .before .before .before .before .before .before .before .before .before .before .before .before .args in
-    let v = c .before .before .before .before .before .before .before .before .before .before .before .before .before .before .read-intervals in
-    let w = c .before .before .before .before .before .before .read-rows in
+    let after-columns2 = c .before .before .before .before .before in
+    let after-read-rows = after-columns2 .before in
+    let after-a = after-read-rows .before .before .before .before .before in
+    let after-read-intervals = after-a .before .before .before in
+    let start = after-read-intervals .before .before .before in
+    let x = start .args in
+    let v = after-read-intervals .read-intervals in
+    let w = after-read-rows .read-rows in
     let k = v .last .1 .1 .0 in
     let k' = w .last .1 .1 .0 in
     let b' = w .last .1 .1 .1 .0 in
     let t' = w .last .1 .1 .1 .1 .0 in
-    let i : IntervalsFound (intervalSection (x .s .now) 0) (c .before .before .before .before .before .before .before .before .before .before .before .a .given .0 .0) k = intervals-found _ _ _ (ap (λ (r : _). intervalsDone r k) (sym (c .before .before .before .before .before .before .before .before .before .before .before .a .given .1)) ∙ v .ensures) in
-    let r : rowSection (x .s .now) (c .before .before .before .before .before .before .before .before .before .before .before .a .given .0 .0 .intervals) (c .before .before .before .before .before .before .before .before .before .before .before .a .given .0 .0 .at) ≡ no (c .before .b2 .given .0 .0) = rows-refused (c .before .before .before .before .before .before .before .before .before .before .before .a .given .0 .0 .intervals) k k' b' t' _ _ (ap (λ (r : _). rowsDone r k' b' t') (sym (c .before .b2 .given .1)) ∙ w .ensures) in
+    let i : IntervalsFound (intervalSection (x .s .now) 0) (after-a .a .given .0 .0) k = intervals-found _ _ _ (ap (λ (r : _). intervalsDone r k) (sym (after-a .a .given .1)) ∙ v .ensures) in
+    let r : rowSection (x .s .now) (after-a .a .given .0 .0 .intervals) (after-a .a .given .0 .0 .at) ≡ no (c .before .b2 .given .0 .0) = rows-refused (after-a .a .given .0 .0 .intervals) k k' b' t' _ _ (ap (λ (r : _). rowsDone r k' b' t') (sym (c .before .b2 .given .1)) ∙ w .ensures) in
     deck-rows (x .s .now) (i .is) _ _ (i .read) (rw (i .intervals) at r)
 
 same-length-10 : tie.Need-same-length-10
@@ -110,8 +128,10 @@ same-length-10 c = search needs
 
 returns-4 : tie.Need-returns-4
 returns-4 c =
-    let x = c .before .before .before .before .before .before .before .args in
-    let v = c .before .before .before .before .read-intervals in
+    let after-read-intervals = c .before .before .before .before in
+    let start = after-read-intervals .before .before .before in
+    let x = start .args in
+    let v = after-read-intervals .read-intervals in
     let k = v .last .1 .1 .0 in
     deck-intervals (x .s .now) _ (intervals-refused _ _ k (ap (λ (r : _). intervalsDone r k) (sym (c .before .a2 .given .1)) ∙ v .ensures))
 

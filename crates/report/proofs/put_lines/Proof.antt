@@ -69,16 +69,21 @@ mul-put-line-2 : tie.Need-mul-put-line-2 Inv-loop μ-loop
 mul-put-line-2 c = search needs
 
 shared-slice-read-put-line : tie.Need-shared-slice-read-put-line Inv-loop μ-loop
-shared-slice-read-put-line c = omega (arith, c .before .before .before .before .before .before .before .pre .0)
+shared-slice-read-put-line c =
+    let after-shared-slice-known = c .before .before .before .before .before in
+    let start = after-shared-slice-known .before .before in
+    omega (arith, start .pre .0)
 
 put-line-requires : tie.Need-put-line-requires Inv-loop μ-loop
 put-line-requires c κs =
-    let x = c .before .before .before .before .before .before .before .args in
-    let l = c .before .before .before .before .loop in
+    let at-loop = c .before .before .before .before in
+    let start = at-loop .before .before .before in
+    let x = start .args in
+    let l = at-loop .loop in
     let v : ℤ = getD (x .values .now) (l .i) (pos 0) in
     let b : toZ w64 (ofZ w64 v) ≡ v = search needs in
     let h : l .i < length (x .values .now) = omega arith in
-    rw b (room-first _ _ (line (l .i + 1) v (getD (x .strides .now) (l .i) 0)) _ (next-room (x .out .now) (x .at) (x .values .now) (x .strides .now) (c .before .before .before .before .before .before .before .pre .0) (c .before .before .before .before .before .before .before .pre .1) (l .out) (l .p) (l .i) (l .inv) h))
+    rw b (room-first _ _ (line (l .i + 1) v (getD (x .strides .now) (l .i) 0)) _ (next-room (x .out .now) (x .at) (x .values .now) (x .strides .now) (start .pre .0) (start .pre .1) (l .out) (l .p) (l .i) (l .inv) h))
 
 add-i : tie.Need-add-i Inv-loop μ-loop
 add-i c = omega arith
@@ -88,13 +93,16 @@ loop-less c = omega arith
 
 loop-again : tie.Need-loop-again Inv-loop μ-loop
 loop-again c =
-    let x = c .before .before .before .before .before .before .before .before .before .before .args in
-    let l = c .before .before .before .before .before .before .before .loop in
-    let w = c .before .before .put-line in
+    let after-put-line = c .before .before in
+    let at-loop = after-put-line .before .before .before .before .before in
+    let start = at-loop .before .before .before in
+    let x = start .args in
+    let l = at-loop .loop in
+    let w = after-put-line .put-line in
     let v : ℤ = getD (x .values .now) (l .i) (pos 0) in
     let b : toZ w64 (ofZ w64 v) ≡ v = search needs in
     let h : l .i < length (x .values .now) = omega arith in
-    more (x .out .now) (x .at) (x .values .now) (x .strides .now) (c .before .before .before .before .before .before .before .before .before .before .pre .0) (c .before .before .before .before .before .before .before .before .before .before .pre .1) (l .out) (l .p) (l .i) (w .last .0) (w .result) (l .inv) h (rw b at (w .ensures)) (w .kept .0)
+    more (x .out .now) (x .at) (x .values .now) (x .strides .now) (start .pre .0) (start .pre .1) (l .out) (l .p) (l .i) (w .last .0) (w .result) (l .inv) h (rw b at (w .ensures)) (w .kept .0)
 
 same-length : tie.Need-same-length Inv-loop μ-loop
 same-length c = c .before .loop .inv .size

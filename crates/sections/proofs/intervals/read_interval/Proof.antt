@@ -14,6 +14,16 @@ use Rattle.sections.proofs.Parts.{interval-read, interval-lower, interv
 use Rattle.sections.proofs.intervals.read_interval.Statement.{statement}
 use Rattle.sections.proofs.intervals.read_interval.Tie as tie
 
+-- a number that was read fits
+back-a : (d : tie.After-known-told) → toZ w64 (ofZ w64 (d .before .a .given .0 .0)) ≡ d .before .a .given .0 .0
+back-a d = search needs
+
+back-b : (d : tie.After-known-told2) → toZ w64 (ofZ w64 (d .before .b .given .0 .0)) ≡ d .before .b .given .0 .0
+back-b d = search needs
+
+back-c : (d : tie.After-known-told3) → toZ w64 (ofZ w64 (d .before .c .given .0 .0)) ≡ d .before .c .given .0 .0
+back-c d = search needs
+
 spanning-requires : tie.Need-spanning-requires
 spanning-requires c κs = search needs
 
@@ -49,48 +59,69 @@ enum-known-a-2 c = search needs
 
 returns : tie.Need-returns
 returns c =
-    let x = c .before .before .before .before .before .before .before .before .before .before .before .before .before .before .before .args in
+    let after-within2 = c .before .before .before in
+    let after-top-goal = after-within2 .before in
+    let after-b = after-top-goal .before .before in
+    let after-within = after-b .before .before in
+    let after-positive = after-within .before in
+    let after-a = after-positive .before .before in
+    let after-spanning = after-a .before .before in
+    let start = after-spanning .before .before in
+    let x = start .args in
     let s = x .s .now in
-    let a = c .before .before .before .before .before .before .before .before .before .before .before .a .given in
-    let b = c .before .before .before .before .before .before .b .given in
+    let a = after-a .a .given in
+    let b = after-b .b .given in
     let g = c .before .c .given in
     let lo : ℤ = a .0 .0 in
     let up : ℤ = b .0 .0 in
     let go : ℤ = g .0 .0 in
-    let l : toZ w64 (ofZ w64 lo) ≡ lo = search needs in
-    let u : toZ w64 (ofZ w64 up) ≡ up = search needs in
-    let v : toZ w64 (ofZ w64 go) ≡ go = search needs in
-    let m : toZ w64 (ofZ w64 (c .before .before .before .before .before .before .before .before .before .positive .result)) ≡ pos maxBound = toZ-ofZ (sfits-of (c .before .before .before .before .before .before .before .before .before .positive .ok)) ∙ c .before .before .before .before .before .before .before .before .before .positive .ensures in
-    let t : toZ w64 (ofZ w64 (c .before .before .before .before .top-goal .result)) ≡ topGoal lo = toZ-ofZ (sfits-of (c .before .before .before .before .top-goal .ok)) ∙ (rw l at (c .before .before .before .before .top-goal .ensures)) in
-    let q : upperFrom s lo (a .0 .1 .0) ≡ gotOf (c .before .before .before .before .before .before .before .before .within .result) = rw (l, m) at (c .before .before .before .before .before .before .before .before .within .ensures) in
-    let r : within s (pos 0) (topGoal lo) Goal (b .0 .1 .0) ≡ gotOf (c .before .before .before .within2 .result) = rw t at (c .before .before .before .within2 .ensures) in
+    let l : toZ w64 (ofZ w64 lo) ≡ lo = back-a (after-positive .before) in
+    let u : toZ w64 (ofZ w64 up) ≡ up = back-b (after-top-goal .before) in
+    let v : toZ w64 (ofZ w64 go) ≡ go = back-c c in
+    let m : toZ w64 (ofZ w64 (after-positive .positive .result)) ≡ pos maxBound = toZ-ofZ (sfits-of (after-positive .positive .ok)) ∙ after-positive .positive .ensures in
+    let t : toZ w64 (ofZ w64 (after-top-goal .top-goal .result)) ≡ topGoal lo = toZ-ofZ (sfits-of (after-top-goal .top-goal .ok)) ∙ (rw l at (after-top-goal .top-goal .ensures)) in
+    let q : upperFrom s lo (a .0 .1 .0) ≡ gotOf (after-within .within .result) = rw (l, m) at (after-within .within .ensures) in
+    let r : within s (pos 0) (topGoal lo) Goal (b .0 .1 .0) ≡ gotOf (after-within2 .within2 .result) = rw t at (after-within2 .within2 .ensures) in
     rw (l, u, v)
-    (interval-read s (x .at) _ _ _ lo up go (c .before .before .before .before .before .before .before .before .before .before .before .before .before .spanning .ensures ∙ ap gotOf (a .1)) (q ∙ ap gotOf (b .1)) (r ∙ ap gotOf (g .1)))
+    (interval-read s (x .at) _ _ _ lo up go (after-spanning .spanning .ensures ∙ ap gotOf (a .1)) (q ∙ ap gotOf (b .1)) (r ∙ ap gotOf (g .1)))
 
 returns-2 : tie.Need-returns-2
 returns-2 c =
-    let x = c .before .before .before .before .before .before .before .before .before .before .before .before .before .before .before .args in
+    let after-within2 = c .before .before .before in
+    let after-top-goal = after-within2 .before in
+    let after-b = after-top-goal .before .before in
+    let after-within = after-b .before .before in
+    let after-positive = after-within .before in
+    let after-a = after-positive .before .before in
+    let after-spanning = after-a .before .before in
+    let start = after-spanning .before .before in
+    let x = start .args in
     let s = x .s .now in
-    let a = c .before .before .before .before .before .before .before .before .before .before .before .a .given in
-    let b = c .before .before .before .before .before .before .b .given in
+    let a = after-a .a .given in
+    let b = after-b .b .given in
     let lo : ℤ = a .0 .0 in
-    let l : toZ w64 (ofZ w64 lo) ≡ lo = search needs in
-    let m : toZ w64 (ofZ w64 (c .before .before .before .before .before .before .before .before .before .positive .result)) ≡ pos maxBound = toZ-ofZ (sfits-of (c .before .before .before .before .before .before .before .before .before .positive .ok)) ∙ c .before .before .before .before .before .before .before .before .before .positive .ensures in
-    let t : toZ w64 (ofZ w64 (c .before .before .before .before .top-goal .result)) ≡ topGoal lo = toZ-ofZ (sfits-of (c .before .before .before .before .top-goal .ok)) ∙ (rw l at (c .before .before .before .before .top-goal .ensures)) in
-    let q : upperFrom s lo (a .0 .1 .0) ≡ gotOf (c .before .before .before .before .before .before .before .before .within .result) = rw (l, m) at (c .before .before .before .before .before .before .before .before .within .ensures) in
-    let r : within s (pos 0) (topGoal lo) Goal (b .0 .1 .0) ≡ gotOf (c .before .before .before .within2 .result) = rw t at (c .before .before .before .within2 .ensures) in
-    interval-goal s (x .at) _ _ 0 lo (b .0 .0) (pos 0) _ (c .before .before .before .before .before .before .before .before .before .before .before .before .before .spanning .ensures ∙ ap gotOf (a .1)) (q ∙ ap gotOf (b .1)) (r ∙ ap gotOf (c .before .c2 .given .1))
+    let l : toZ w64 (ofZ w64 lo) ≡ lo = back-a (after-positive .before) in
+    let m : toZ w64 (ofZ w64 (after-positive .positive .result)) ≡ pos maxBound = toZ-ofZ (sfits-of (after-positive .positive .ok)) ∙ after-positive .positive .ensures in
+    let t : toZ w64 (ofZ w64 (after-top-goal .top-goal .result)) ≡ topGoal lo = toZ-ofZ (sfits-of (after-top-goal .top-goal .ok)) ∙ (rw l at (after-top-goal .top-goal .ensures)) in
+    let q : upperFrom s lo (a .0 .1 .0) ≡ gotOf (after-within .within .result) = rw (l, m) at (after-within .within .ensures) in
+    let r : within s (pos 0) (topGoal lo) Goal (b .0 .1 .0) ≡ gotOf (after-within2 .within2 .result) = rw t at (after-within2 .within2 .ensures) in
+    interval-goal s (x .at) _ _ 0 lo (b .0 .0) (pos 0) _ (after-spanning .spanning .ensures ∙ ap gotOf (a .1)) (q ∙ ap gotOf (b .1)) (r ∙ ap gotOf (c .before .c2 .given .1))
 
 returns-3 : tie.Need-returns-3
 returns-3 c =
-    let x = c .before .before .before .before .before .before .before .before .before .before .args in
+    let after-within = c .before .before .before in
+    let after-positive = after-within .before in
+    let after-a = after-positive .before .before in
+    let after-spanning = after-a .before .before in
+    let start = after-spanning .before .before in
+    let x = start .args in
     let s = x .s .now in
-    let a = c .before .before .before .before .before .before .a .given in
+    let a = after-a .a .given in
     let lo : ℤ = a .0 .0 in
-    let l : toZ w64 (ofZ w64 lo) ≡ lo = search needs in
-    let m : toZ w64 (ofZ w64 (c .before .before .before .before .positive .result)) ≡ pos maxBound = toZ-ofZ (sfits-of (c .before .before .before .before .positive .ok)) ∙ c .before .before .before .before .positive .ensures in
-    let q : upperFrom s lo (a .0 .1 .0) ≡ gotOf (c .before .before .before .within .result) = rw (l, m) at (c .before .before .before .within .ensures) in
-    interval-upper s (x .at) _ 0 0 lo (pos 0) (pos 0) _ (c .before .before .before .before .before .before .before .before .spanning .ensures ∙ ap gotOf (a .1)) (q ∙ ap gotOf (c .before .b2 .given .1))
+    let l : toZ w64 (ofZ w64 lo) ≡ lo = back-a (after-positive .before) in
+    let m : toZ w64 (ofZ w64 (after-positive .positive .result)) ≡ pos maxBound = toZ-ofZ (sfits-of (after-positive .positive .ok)) ∙ after-positive .positive .ensures in
+    let q : upperFrom s lo (a .0 .1 .0) ≡ gotOf (after-within .within .result) = rw (l, m) at (after-within .within .ensures) in
+    interval-upper s (x .at) _ 0 0 lo (pos 0) (pos 0) _ (after-spanning .spanning .ensures ∙ ap gotOf (a .1)) (q ∙ ap gotOf (c .before .b2 .given .1))
 
 returns-4 : tie.Need-returns-4
 returns-4 c =

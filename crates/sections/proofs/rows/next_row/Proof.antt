@@ -31,20 +31,28 @@ slice-aggregate-store-row c = search needs
 
 store-row-requires : tie.Need-store-row-requires
 store-row-requires c κs =
-    let x = c .before .before .before .before .before .before .before .before .before .before .before .args in
+    let after-g = c .before .before .before .before .before in
+    let after-read-line = after-g .before .before .before in
+    let start = after-read-line .before .before .before in
+    let x = start .args in
     let s = x .s .now in
-    let st : LineStored (line s (x .c .intervals) (x .c .columns) (x .c .at)) (c .before .before .before .before .before .g .given .0 .0) (c .before .before .before .before .before .g .given .0 .1 .0) (c .before .before .before .before .before .before .before .before .read-line .last .1 .1 .0) = rw (c .before .before .before .before .before .g .given .1) at (c .before .before .before .before .before .before .before .before .read-line .ensures) in
+    let st : LineStored (line s (x .c .intervals) (x .c .columns) (x .c .at)) (after-g .g .given .0 .0) (after-g .g .given .0 .1 .0) (after-read-line .read-line .last .1 .1 .0) = rw (after-g .g .given .1) at (after-read-line .read-line .ensures) in
     let room = line-room s (x .c .intervals) (x .c .columns) (x .c .at) _ _ (st .read) in
-    ((room, c .before .before .before .before .before .before .before .before .before .before .before .pre .0 .2), (c .before .before .before .before .before .before .before .before .read-line .kept .1 .1 .0, c .before .before .before .before .before .before .before .before .before .before .before .pre .1))
+    ((room, start .pre .0 .2), (after-read-line .read-line .kept .1 .1 .0, start .pre .1))
 
 slacks-requires : tie.Need-slacks-requires
 slacks-requires c κs = search needs
 
 add-t25 : tie.Need-add-t25
 add-t25 c =
-    let x = c .before .before .before .before .before .before .before .before .before .before .before .before .before .before .before .before .before .before .args in
+    let after-line4 = c .before .before .before .before .before in
+    let after-line3 = after-line4 .before .before .before .before .before in
+    let after-g = after-line3 .before .before in
+    let after-read-line = after-g .before .before .before in
+    let start = after-read-line .before .before .before in
+    let x = start .args in
     let s = x .s .now in
-    let st : LineStored (line s (x .c .intervals) (x .c .columns) (x .c .at)) (c .before .before .before .before .before .before .before .before .before .before .before .before .g .given .0 .0) (c .before .before .before .before .before .before .before .before .before .before .before .before .g .given .0 .1 .0) (c .before .before .before .before .before .before .before .before .before .before .before .before .before .before .before .read-line .last .1 .1 .0) = rw (c .before .before .before .before .before .before .before .before .before .before .before .before .g .given .1) at (c .before .before .before .before .before .before .before .before .before .before .before .before .before .before .before .read-line .ensures) in
+    let st : LineStored (line s (x .c .intervals) (x .c .columns) (x .c .at)) (after-g .g .given .0 .0) (after-g .g .given .0 .1 .0) (after-read-line .read-line .last .1 .1 .0) = rw (after-g .g .given .1) at (after-read-line .read-line .ensures) in
     let room = line-room s (x .c .intervals) (x .c .columns) (x .c .at) _ _ (st .read) in
     omega (arith, room, c .before .slacks .ensures)
 
@@ -65,13 +73,19 @@ same-length-3 c = search needs
 
 returns : tie.Need-returns
 returns c =
-    let x = c .before .before .before .before .before .before .before .before .before .before .before .before .before .before .before .before .before .before .before .args in
+    let after-slacks = c .before .before in
+    let after-store-row = after-slacks .before .before .before .before .before in
+    let after-line3 = after-store-row .before .before .before .before in
+    let after-g = after-line3 .before .before in
+    let after-read-line = after-g .before .before .before in
+    let start = after-read-line .before .before .before in
+    let x = start .args in
     let s = x .s .now in
-    let r : Row = c .before .before .before .before .before .before .before .before .before .before .before .before .before .g .given .0 .0 in
-    let w = c .before .before .before .before .before .before .before .store-row .ensures in
-    let st : LineStored (line s (x .c .intervals) (x .c .columns) (x .c .at)) r (c .before .before .before .before .before .before .before .before .before .before .before .before .before .g .given .0 .1 .0) (c .before .before .before .before .before .before .before .before .before .before .before .before .before .before .before .before .read-line .last .1 .1 .0) = rw (c .before .before .before .before .before .before .before .before .before .before .before .before .before .g .given .1) at (c .before .before .before .before .before .before .before .before .before .before .before .before .before .before .before .before .read-line .ensures) in
+    let r : Row = after-g .g .given .0 .0 in
+    let w = after-store-row .store-row .ensures in
+    let st : LineStored (line s (x .c .intervals) (x .c .columns) (x .c .at)) r (after-g .g .given .0 .1 .0) (after-read-line .read-line .last .1 .1 .0) = rw (after-g .g .given .1) at (after-read-line .read-line .ensures) in
     let room = line-room s (x .c .intervals) (x .c .columns) (x .c .at) _ _ (st .read) in
-    let k : c .before .before .slacks .result ≡ slackCount (r .kind) = c .before .before .slacks .ensures in
+    let k : after-slacks .slacks .result ≡ slackCount (r .kind) = after-slacks .slacks .ensures in
     record {
       line = record { row = r; terms = st .terms };
       read = st .read;

@@ -18,6 +18,10 @@ use Rattle.sections.proofs.Storage.{length-blank}
 use Rattle.sections.proofs.rows.read_line.Statement.{statement}
 use Rattle.sections.proofs.rows.read_line.Tie as tie
 
+-- a number that was read fits
+back-b : (d : tie.After-known-told2) → toZ w64 (ofZ w64 (d .before .b .given .0 .0)) ≡ d .before .b .given .0 .0
+back-b d = search needs
+
 read-row-requires : tie.Need-read-row-requires
 read-row-requires c κs = search needs
 
@@ -37,7 +41,11 @@ natural-requires : tie.Need-natural-requires
 natural-requires c κs = search needs
 
 read-terms-requires : tie.Need-read-terms-requires
-read-terms-requires c κs = (c .before .before .before .before .before .before .before .before .before .before .before .before .pre .0 .0, ap length (c .before .before .before .before .before .before .before .before .before .before .before .before .pre .1) ∙ length-blank deckColumns)
+read-terms-requires c κs =
+    let after-within = c .before .before .before .before .before in
+    let after-read-row = after-within .before .before .before .before .before in
+    let start = after-read-row .before .before in
+    (start .pre .0 .0, ap length (start .pre .1) ∙ length-blank deckColumns)
 
 enum-known-u : tie.Need-enum-known-u
 enum-known-u c = search needs
@@ -56,21 +64,29 @@ same-length c = search needs
 
 returns : tie.Need-returns
 returns c =
-    let x = c .before .before .before .before .before .before .before .before .before .before .before .before .before .before .before .before .before .args in
+    let after-read-terms = c .before .before .before .before in
+    let after-natural = after-read-terms .before .before in
+    let after-b = after-natural .before .before in
+    let after-within = after-b .before .before in
+    let after-signed = after-within .before in
+    let after-g = after-signed .before .before in
+    let after-read-row = after-g .before .before in
+    let start = after-read-row .before .before in
+    let x = start .args in
     let s = x .s .now in
     let n : ℕ = x .c .intervals in
-    let g = c .before .before .before .before .before .before .before .before .before .before .before .before .before .g .given in
-    let b = c .before .before .before .before .before .before .before .before .b .given in
+    let g = after-g .g .given in
+    let b = after-b .b .given in
     let k : ℤ = b .0 .0 in
-    let f : toZ w64 (ofZ w64 k) ≡ k = search needs in
-    let h : toZ w64 (ofZ w64 (c .before .before .before .before .before .before .before .before .before .before .before .signed .result)) ≡ pos n = toZ-ofZ (sfits-of (c .before .before .before .before .before .before .before .before .before .before .before .signed .ok)) ∙ c .before .before .before .before .before .before .before .before .before .before .before .signed .ensures in
-    let p : within s (pos 0) (pos n) WrongTerm (g .0 .1 .0) ≡ gotOf (c .before .before .before .before .before .before .before .before .before .before .within .result) = rw h at (c .before .before .before .before .before .before .before .before .before .before .within .ensures) in
-    let i : c .before .before .before .before .before .before .natural .result ≡ natAbs k = rw f at (c .before .before .before .before .before .before .natural .ensures) in
-    let st : TermsStored (terms s (natAbs k) 0 n [] (b .0 .1 .0)) (c .before .u .given .0 .0) (x .line .now) (c .before .before .before .before .read-terms .last .1 .1 .1 .1 .0) = rw (c .before .u .given .1, i) at (c .before .before .before .before .read-terms .ensures) in
+    let f : toZ w64 (ofZ w64 k) ≡ k = back-b (after-natural .before) in
+    let h : toZ w64 (ofZ w64 (after-signed .signed .result)) ≡ pos n = toZ-ofZ (sfits-of (after-signed .signed .ok)) ∙ after-signed .signed .ensures in
+    let p : within s (pos 0) (pos n) WrongTerm (g .0 .1 .0) ≡ gotOf (after-within .within .result) = rw h at (after-within .within .ensures) in
+    let i : after-natural .natural .result ≡ natAbs k = rw f at (after-natural .natural .ensures) in
+    let st : TermsStored (terms s (natAbs k) 0 n [] (b .0 .1 .0)) (c .before .u .given .0 .0) (x .line .now) (after-read-terms .read-terms .last .1 .1 .1 .1 .0) = rw (c .before .u .given .1, i) at (after-read-terms .read-terms .ensures) in
     record {
       terms = st .terms;
-      read = line-read s n (x .c .columns) (x .c .at) _ _ _ (g .0 .0) k (st .terms) (c .before .before .before .before .before .before .before .before .before .before .before .before .before .before .before .read-row .ensures ∙ ap rowGotOf (g .1)) (p ∙ ap gotOf (b .1)) (st .read);
-      line = st .line ∙ ap (placed (st .terms)) (c .before .before .before .before .before .before .before .before .before .before .before .before .before .before .before .before .before .pre .1);
+      read = line-read s n (x .c .columns) (x .c .at) _ _ _ (g .0 .0) k (st .terms) (after-read-row .read-row .ensures ∙ ap rowGotOf (g .1)) (p ∙ ap gotOf (b .1)) (st .read);
+      line = st .line ∙ ap (placed (st .terms)) (start .pre .1);
     }
 
 same-length-2 : tie.Need-same-length-2
@@ -78,28 +94,41 @@ same-length-2 c = search needs
 
 returns-2 : tie.Need-returns-2
 returns-2 c =
-    let x = c .before .before .before .before .before .before .before .before .before .before .before .before .before .before .before .before .before .args in
+    let after-read-terms = c .before .before .before .before in
+    let after-natural = after-read-terms .before .before in
+    let after-b = after-natural .before .before in
+    let after-within = after-b .before .before in
+    let after-signed = after-within .before in
+    let after-g = after-signed .before .before in
+    let after-read-row = after-g .before .before in
+    let start = after-read-row .before .before in
+    let x = start .args in
     let s = x .s .now in
     let n : ℕ = x .c .intervals in
-    let g = c .before .before .before .before .before .before .before .before .before .before .before .before .before .g .given in
-    let b = c .before .before .before .before .before .before .before .before .b .given in
+    let g = after-g .g .given in
+    let b = after-b .b .given in
     let k : ℤ = b .0 .0 in
-    let f : toZ w64 (ofZ w64 k) ≡ k = search needs in
-    let h : toZ w64 (ofZ w64 (c .before .before .before .before .before .before .before .before .before .before .before .signed .result)) ≡ pos n = toZ-ofZ (sfits-of (c .before .before .before .before .before .before .before .before .before .before .before .signed .ok)) ∙ c .before .before .before .before .before .before .before .before .before .before .before .signed .ensures in
-    let p : within s (pos 0) (pos n) WrongTerm (g .0 .1 .0) ≡ gotOf (c .before .before .before .before .before .before .before .before .before .before .within .result) = rw h at (c .before .before .before .before .before .before .before .before .before .before .within .ensures) in
-    let i : c .before .before .before .before .before .before .natural .result ≡ natAbs k = rw f at (c .before .before .before .before .before .before .natural .ensures) in
-    let st : terms s (natAbs k) 0 n [] (b .0 .1 .0) ≡ no (c .before .u2 .given .0 .0) = rw (c .before .u2 .given .1, i) at (c .before .before .before .before .read-terms .ensures) in
-    line-terms s n (x .c .columns) (x .c .at) _ _ 0 (g .0 .0) k [] _ (c .before .before .before .before .before .before .before .before .before .before .before .before .before .before .before .read-row .ensures ∙ ap rowGotOf (g .1)) (p ∙ ap gotOf (b .1)) st
+    let f : toZ w64 (ofZ w64 k) ≡ k = back-b (after-natural .before) in
+    let h : toZ w64 (ofZ w64 (after-signed .signed .result)) ≡ pos n = toZ-ofZ (sfits-of (after-signed .signed .ok)) ∙ after-signed .signed .ensures in
+    let p : within s (pos 0) (pos n) WrongTerm (g .0 .1 .0) ≡ gotOf (after-within .within .result) = rw h at (after-within .within .ensures) in
+    let i : after-natural .natural .result ≡ natAbs k = rw f at (after-natural .natural .ensures) in
+    let st : terms s (natAbs k) 0 n [] (b .0 .1 .0) ≡ no (c .before .u2 .given .0 .0) = rw (c .before .u2 .given .1, i) at (after-read-terms .read-terms .ensures) in
+    line-terms s n (x .c .columns) (x .c .at) _ _ 0 (g .0 .0) k [] _ (after-read-row .read-row .ensures ∙ ap rowGotOf (g .1)) (p ∙ ap gotOf (b .1)) st
 
 returns-3 : tie.Need-returns-3
 returns-3 c =
-    let x = c .before .before .before .before .before .before .before .before .before .before .args in
+    let after-within = c .before .before .before in
+    let after-signed = after-within .before in
+    let after-g = after-signed .before .before in
+    let after-read-row = after-g .before .before in
+    let start = after-read-row .before .before in
+    let x = start .args in
     let s = x .s .now in
     let n : ℕ = x .c .intervals in
-    let g = c .before .before .before .before .before .before .g .given in
-    let h : toZ w64 (ofZ w64 (c .before .before .before .before .signed .result)) ≡ pos n = toZ-ofZ (sfits-of (c .before .before .before .before .signed .ok)) ∙ c .before .before .before .before .signed .ensures in
-    let p : within s (pos 0) (pos n) WrongTerm (g .0 .1 .0) ≡ gotOf (c .before .before .before .within .result) = rw h at (c .before .before .before .within .ensures) in
-    line-count s n (x .c .columns) (x .c .at) _ 0 0 (g .0 .0) (pos 0) [] _ (c .before .before .before .before .before .before .before .before .read-row .ensures ∙ ap rowGotOf (g .1)) (p ∙ ap gotOf (c .before .b2 .given .1))
+    let g = after-g .g .given in
+    let h : toZ w64 (ofZ w64 (after-signed .signed .result)) ≡ pos n = toZ-ofZ (sfits-of (after-signed .signed .ok)) ∙ after-signed .signed .ensures in
+    let p : within s (pos 0) (pos n) WrongTerm (g .0 .1 .0) ≡ gotOf (after-within .within .result) = rw h at (after-within .within .ensures) in
+    line-count s n (x .c .columns) (x .c .at) _ 0 0 (g .0 .0) (pos 0) [] _ (after-read-row .read-row .ensures ∙ ap rowGotOf (g .1)) (p ∙ ap gotOf (c .before .b2 .given .1))
 
 returns-4 : tie.Need-returns-4
 returns-4 c =

@@ -15,6 +15,10 @@ use Rattle.sections.proofs.Parts.{row-read, row-kind, row-number, numbe
 use Rattle.sections.proofs.rows.read_row.Statement.{statement}
 use Rattle.sections.proofs.rows.read_row.Tie as tie
 
+-- a number that was read fits
+back-b : (d : tie.After-known-told2) → toZ w64 (ofZ w64 (d .before .b .given .0 .0)) ≡ d .before .b .given .0 .0
+back-b d = search needs
+
 read-kind-requires : tie.Need-read-kind-requires
 read-kind-requires c κs = search needs
 
@@ -38,14 +42,20 @@ enum-known-b c = search needs
 
 row-of-requires : tie.Need-row-of-requires
 row-of-requires c κs =
-    let s = c .before .before .before .before .before .before .before .before .before .before .before .before .args .s .now in
-    let k : ℕ = c .before .before .before .before .before .before .before .before .a .given .0 .0 in
+    let after-within = c .before .before .before in
+    let after-positive = after-within .before in
+    let after-least-number = after-positive .before in
+    let after-kind-of = after-least-number .before in
+    let after-a = after-kind-of .before .before in
+    let start = after-a .before .before .before .before in
+    let s = start .args .s .now in
+    let k : ℕ = after-a .a .given .0 .0 in
     let v : ℤ = c .before .b .given .0 .0 in
-    let b : toZ w64 (ofZ w64 v) ≡ v = search needs in
-    let l : toZ w64 (ofZ w64 (c .before .before .before .before .before .least-number .result)) ≡ leastNumber (kindOf k) = toZ-ofZ (sfits-of (c .before .before .before .before .before .least-number .ok)) ∙ (c .before .before .before .before .before .least-number .ensures ∙ ap leastNumber (c .before .before .before .before .before .before .kind-of .ensures)) in
-    let h : toZ w64 (ofZ w64 (c .before .before .before .before .positive .result)) ≡ pos maxRight = toZ-ofZ (sfits-of (c .before .before .before .before .positive .ok)) ∙ c .before .before .before .before .positive .ensures in
-    let q : within s (leastNumber (kindOf k)) (pos maxRight) Coefficient (c .before .before .before .before .before .before .before .before .a .given .0 .1 .0) ≡ gotOf (c .before .before .before .within .result) = rw (l, h) at (c .before .before .before .within .ensures) in
-    rw b (number-small s (kindOf k) v (c .before .before .before .before .before .before .before .before .a .given .0 .1 .0) _ (q ∙ ap gotOf (c .before .b .given .1)))
+    let b : toZ w64 (ofZ w64 v) ≡ v = back-b c in
+    let l : toZ w64 (ofZ w64 (after-least-number .least-number .result)) ≡ leastNumber (kindOf k) = toZ-ofZ (sfits-of (after-least-number .least-number .ok)) ∙ (after-least-number .least-number .ensures ∙ ap leastNumber (after-kind-of .kind-of .ensures)) in
+    let h : toZ w64 (ofZ w64 (after-positive .positive .result)) ≡ pos maxRight = toZ-ofZ (sfits-of (after-positive .positive .ok)) ∙ after-positive .positive .ensures in
+    let q : within s (leastNumber (kindOf k)) (pos maxRight) Coefficient (after-a .a .given .0 .1 .0) ≡ gotOf (after-within .within .result) = rw (l, h) at (after-within .within .ensures) in
+    rw b (number-small s (kindOf k) v (after-a .a .given .0 .1 .0) _ (q ∙ ap gotOf (c .before .b .given .1)))
 
 enum-known-b-2 : tie.Need-enum-known-b-2
 enum-known-b-2 c = search needs
@@ -55,28 +65,43 @@ enum-known-a-2 c = search needs
 
 returns : tie.Need-returns
 returns c =
-    let x = c .before .before .before .before .before .before .before .before .before .before .before .before .before .args in
+    let after-b = c .before .before in
+    let after-within = after-b .before .before in
+    let after-positive = after-within .before in
+    let after-least-number = after-positive .before in
+    let after-kind-of = after-least-number .before in
+    let after-a = after-kind-of .before .before in
+    let after-read-kind = after-a .before .before in
+    let start = after-read-kind .before .before in
+    let x = start .args in
     let s = x .s .now in
-    let a = c .before .before .before .before .before .before .before .before .before .a .given in
+    let a = after-a .a .given in
     let k : ℕ = a .0 .0 in
-    let v : ℤ = c .before .before .b .given .0 .0 in
-    let b : toZ w64 (ofZ w64 v) ≡ v = search needs in
-    let l : toZ w64 (ofZ w64 (c .before .before .before .before .before .before .least-number .result)) ≡ leastNumber (kindOf k) = toZ-ofZ (sfits-of (c .before .before .before .before .before .before .least-number .ok)) ∙ (c .before .before .before .before .before .before .least-number .ensures ∙ ap leastNumber (c .before .before .before .before .before .before .before .kind-of .ensures)) in
-    let h : toZ w64 (ofZ w64 (c .before .before .before .before .before .positive .result)) ≡ pos maxRight = toZ-ofZ (sfits-of (c .before .before .before .before .before .positive .ok)) ∙ c .before .before .before .before .before .positive .ensures in
-    let q : within s (leastNumber (kindOf k)) (pos maxRight) Coefficient (a .0 .1 .0) ≡ gotOf (c .before .before .before .before .within .result) = rw (l, h) at (c .before .before .before .before .within .ensures) in
+    let v : ℤ = after-b .b .given .0 .0 in
+    let b : toZ w64 (ofZ w64 v) ≡ v = back-b (c .before) in
+    let l : toZ w64 (ofZ w64 (after-least-number .least-number .result)) ≡ leastNumber (kindOf k) = toZ-ofZ (sfits-of (after-least-number .least-number .ok)) ∙ (after-least-number .least-number .ensures ∙ ap leastNumber (after-kind-of .kind-of .ensures)) in
+    let h : toZ w64 (ofZ w64 (after-positive .positive .result)) ≡ pos maxRight = toZ-ofZ (sfits-of (after-positive .positive .ok)) ∙ after-positive .positive .ensures in
+    let q : within s (leastNumber (kindOf k)) (pos maxRight) Coefficient (a .0 .1 .0) ≡ gotOf (after-within .within .result) = rw (l, h) at (after-within .within .ensures) in
     let r : c .row-of .result ≡ rowOf k v = rw b at (c .row-of .ensures) in
-    rw r (row-read s (x .columns) (x .at) _ _ k v (c .before .before .before .before .before .before .before .before .before .before .before .read-kind .ensures ∙ ap kindGotOf (a .1)) (q ∙ ap gotOf (c .before .before .b .given .1)))
+    rw r (row-read s (x .columns) (x .at) _ _ k v (after-read-kind .read-kind .ensures ∙ ap kindGotOf (a .1)) (q ∙ ap gotOf (after-b .b .given .1)))
 
 returns-2 : tie.Need-returns-2
 returns-2 c =
-    let x = c .before .before .before .before .before .before .before .before .before .before .before .before .args in
+    let after-within = c .before .before .before in
+    let after-positive = after-within .before in
+    let after-least-number = after-positive .before in
+    let after-kind-of = after-least-number .before in
+    let after-a = after-kind-of .before .before in
+    let after-read-kind = after-a .before .before in
+    let start = after-read-kind .before .before in
+    let x = start .args in
     let s = x .s .now in
-    let a = c .before .before .before .before .before .before .before .before .a .given in
+    let a = after-a .a .given in
     let k : ℕ = a .0 .0 in
-    let l : toZ w64 (ofZ w64 (c .before .before .before .before .before .least-number .result)) ≡ leastNumber (kindOf k) = toZ-ofZ (sfits-of (c .before .before .before .before .before .least-number .ok)) ∙ (c .before .before .before .before .before .least-number .ensures ∙ ap leastNumber (c .before .before .before .before .before .before .kind-of .ensures)) in
-    let h : toZ w64 (ofZ w64 (c .before .before .before .before .positive .result)) ≡ pos maxRight = toZ-ofZ (sfits-of (c .before .before .before .before .positive .ok)) ∙ c .before .before .before .before .positive .ensures in
-    let q : within s (leastNumber (kindOf k)) (pos maxRight) Coefficient (a .0 .1 .0) ≡ gotOf (c .before .before .before .within .result) = rw (l, h) at (c .before .before .before .within .ensures) in
-    row-number s (x .columns) (x .at) _ 0 k (pos 0) _ (c .before .before .before .before .before .before .before .before .before .before .read-kind .ensures ∙ ap kindGotOf (a .1)) (q ∙ ap gotOf (c .before .b2 .given .1))
+    let l : toZ w64 (ofZ w64 (after-least-number .least-number .result)) ≡ leastNumber (kindOf k) = toZ-ofZ (sfits-of (after-least-number .least-number .ok)) ∙ (after-least-number .least-number .ensures ∙ ap leastNumber (after-kind-of .kind-of .ensures)) in
+    let h : toZ w64 (ofZ w64 (after-positive .positive .result)) ≡ pos maxRight = toZ-ofZ (sfits-of (after-positive .positive .ok)) ∙ after-positive .positive .ensures in
+    let q : within s (leastNumber (kindOf k)) (pos maxRight) Coefficient (a .0 .1 .0) ≡ gotOf (after-within .within .result) = rw (l, h) at (after-within .within .ensures) in
+    row-number s (x .columns) (x .at) _ 0 k (pos 0) _ (after-read-kind .read-kind .ensures ∙ ap kindGotOf (a .1)) (q ∙ ap gotOf (c .before .b2 .given .1))
 
 returns-3 : tie.Need-returns-3
 returns-3 c =

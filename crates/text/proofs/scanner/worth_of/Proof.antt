@@ -39,8 +39,10 @@ longer-requires c κs = (small c, sym (c .before .is-digit .ensures) ∙ c .if1 
 
 returns : tie.Need-returns Inv-loop μ-loop
 returns c =
-    let s = c .before .before .before .before .before .before .args .w .now in
-    let l = c .before .before .before .before .loop in
+    let at-loop = c .before .before .before .before in
+    let start = at-loop .before .before in
+    let s = start .args .w .now in
+    let l = at-loop .loop in
     sym (worth-stop s (l .i) (l .v) (omega arith) (sym (c .before .is-digit .ensures) ∙ c .if1 .left)) ∙ l .inv .2
 
 add-i : tie.Need-add-i Inv-loop μ-loop
@@ -51,8 +53,10 @@ loop-less c = omega arith
 
 loop-again : tie.Need-loop-again Inv-loop μ-loop
 loop-again c =
-    let s = c .before .before .before .before .before .before .before .args .w .now in
-    let l = c .before .before .before .before .before .loop in
+    let at-loop = c .before .before .before .before .before in
+    let start = at-loop .before .before in
+    let s = start .args .w .now in
+    let l = at-loop .loop in
     let d : isDigit (getD s (l .i) 0) ≡ true = sym (c .before .before .is-digit .ensures) ∙ c .before .if1 .taken in (
       omega arith,
       (rw (c .longer .ensures, add-one (l .i), pow-succ' 10 (l .i)) (omega (arith, digit-high (getD s (l .i) 0) d, digit-low (getD s (l .i) 0) d))),
