@@ -28,7 +28,8 @@ use Rattle.problem.specs.declared.Refusal.{Refusal}
 use Rattle.problem.specs.declared.Refusal.the-variants.{Length, Layout}
 use Rattle.sections.specs.Rules.{Outcome, ok, no, then, onEnd, closed}
 use Rattle.sections.specs.Sections.{deckColumns, deckRows, coefficientCount, maxText, Line, intervalSection, rowSection}
-use Rattle.sections.specs.StatedColumns.{lowerOf, upperOf, goalOf, rightOf, slackColumns, coefficientRows, columnWidth, columnCells, cell, cells, padded}
+use Rattle.sections.specs.StatedColumns.{lowerOf, upperOf, goalOf, rightOf, slackColumns, coefficientRows}
+use Rattle.sections.specs.StatedColumns.{columnWidth, columnCells, cell, cells, padded}
 use Rattle.sections.specs.SectionsRead.{cursor, IntervalsDone, intervalsDone, intervalsLeft, RowsDone, rowsDone, rowsLeft}
 use Rattle.sections.specs.declared.Interval.{Interval}
 use Rattle.sections.specs.declared.Cursor.{Cursor}
@@ -65,7 +66,8 @@ pub record IntervalsFound (o : Outcome (List Interval)) (p : Cursor) (k : List �
   pub rows : p .rows ≡ 0
   pub columns-is : k ≡ padded columnCells (cells is)
 
-pub intervals-found : (o : Outcome (List Interval)) (p : Cursor) (k : List ℤ) → intervalsDone (section.Read p) k ≡ intervalsLeft o → IntervalsFound o p k
+pub intervals-found : (o : Outcome (List Interval)) (p : Cursor) (k : List ℤ) → intervalsDone (section.Read p) k ≡ intervalsLeft o
+    → IntervalsFound o p k
 intervals-found (ok is e) p k h =
     let c : p ≡ cursor e (length is) (length is) 0 = ap (λ (x : IntervalsDone). cursorOf (x .section)) h in
     record {
@@ -78,7 +80,8 @@ intervals-found (ok is e) p k h =
     }
 intervals-found (no why) p k h = never (sym (ap (λ (x : IntervalsDone). isRead (x .section)) h))
 
-pub intervals-refused : (o : Outcome (List Interval)) (why : Refusal) (k : List ℤ) → intervalsDone (section.Refused why) k ≡ intervalsLeft o → o ≡ no why
+pub intervals-refused : (o : Outcome (List Interval)) (why : Refusal) (k : List ℤ) → intervalsDone (section.Refused why) k ≡ intervalsLeft o
+    → o ≡ no why
 intervals-refused (ok is e) why k h = never (ap (λ (x : IntervalsDone). isRead (x .section)) h)
 intervals-refused (no w) why k h = ap no (sym (ap (λ (x : IntervalsDone). reason (x .section)) h))
 
@@ -137,7 +140,8 @@ module _ (s : List ℕ) where
   pub deck-intervals : (why : Refusal) → intervalSection s 0 ≡ no why → deck s ≡ no why
   deck-intervals why p = ap afterIntervals p
 
-  pub deck-rows : (is : List Interval) (at : ℕ) (why : Refusal) → intervalSection s 0 ≡ ok is at → rowSection s (length is) at ≡ no why → deck s ≡ no why
+  pub deck-rows : (is : List Interval) (at : ℕ) (why : Refusal) → intervalSection s 0 ≡ ok is at → rowSection s (length is) at ≡ no why
+      → deck s ≡ no why
   deck-rows is at why p q = ap afterIntervals p ∙ ap (afterRows is) q
 
   deck-read : (is : List Interval) (ls : List Line) (p q : ℕ) → intervalSection s 0 ≡ ok is p → rowSection s (length is) p ≡ ok ls q
@@ -155,7 +159,8 @@ fits-written o u w at e h l =
     let c = length-take-le at o h in
     omega arith
 
-pub few-intervals : {o : Outcome (List Interval)} {p : Cursor} {k : List ℤ} → IntervalsFound o p k → length k ≡ columnCells → p .intervals ≤ deckColumns
+pub few-intervals : {o : Outcome (List Interval)} {p : Cursor} {k : List ℤ} → IntervalsFound o p k → length k ≡ columnCells
+    → p .intervals ≤ deckColumns
 few-intervals i h = omega (arith, i .intervals, length-cells (i .is), fits-padded columnCells _ (cells (i .is)) (i .columns-is) h)
 
 module _ (s : List ℕ) (p c : Cursor) (k k' b t : List ℤ) (i : IntervalsFound (intervalSection s 0) p k)
@@ -168,7 +173,8 @@ module _ (s : List ℕ) (p c : Cursor) (k k' b t : List ℤ) (i : IntervalsFound
   pub left-over : noneLeft (nextAt s (c .at)) ≡ false → deck s ≡ no Layout
   left-over h = sections ∙ closed-not (record { intervals = i .is; lines = w .ls }) (c .at) (nextAt s (c .at)) h
 
-  pub stored : length k ≡ columnCells → length k' ≡ columnCells → length b ≡ deckRows → noneLeft (nextAt s (c .at)) ≡ true → DeckStored (deck s) c k' b t
+  pub stored : length k ≡ columnCells → length k' ≡ columnCells → length b ≡ deckRows → noneLeft (nextAt s (c .at)) ≡ true
+      → DeckStored (deck s) c k' b t
   stored hk hk' hb h =
       let ys : List Interval = slackColumns (w .ls) in
       let m : length (i .is) ≡ p .intervals = sym (i .intervals) in
@@ -243,7 +249,8 @@ column-is : (f : ℕ) (g : Interval → ℤ) → ((i : Interval) (r : List ℤ) 
 column-is f g each k o is h e p =
     p ∙
     (ap (picked f deckColumns) e ∙
-    (picked-is f g each is deckColumns (columnCells - length (cells is)) h ∙ ap (λ (j : ℕ). map g is ++ zeros (deckColumns - j)) (sym (length-map is g))))
+    (picked-is f g each is deckColumns (columnCells - length (cells is)) h ∙
+    ap (λ (j : ℕ). map g is ++ zeros (deckColumns - j)) (sym (length-map is g))))
 
 -- the coefficients: cleared, and then the first n of each row
 table-is : (o o₁ o₂ t : List ℤ) (n m c : ℕ) (ls : List Line) → length o ≡ coefficientCount → n ≤ deckColumns → m ≤ deckRows → m ≡ length ls
@@ -267,7 +274,8 @@ accepting s B c k b t o₁ c' b' l' u' g' f h st e₁ e₂ eb el eu eg =
     let n : length (columnsOf d) ≤ deckColumns = omega (arith, st .few, st .columns) in
     let i : ℕ = length (d .intervals) in
     let pc =
-    table-is (B .coefficients) o₁ c' t (c .columns) (c .rows) i (d .lines) (z .coefficients) (st .few) (st .few-rows) (st .rows) e₁ e₂ (st .table-is) ∙
+    table-is (B .coefficients) o₁ c' t (c .columns) (c .rows) i (d .lines) (z .coefficients) (st .few) (st .few-rows) (st .rows) e₁ e₂
+    (st .table-is) ∙
     ap (λ (j : ℕ). padded coefficientCount (coefficientRows j i (d .lines))) (st .columns) in
     let pb = eb ∙ st .rights-is in
     let pl = column-is 0 lowerOf (λ i r. refl) k l' (columnsOf d) n (st .columns-is) el in

@@ -68,7 +68,8 @@ abs-within (pos m) k (negsuc n) l h e = absurd (subst T (sym h) tt)
 abs-within (negsuc m) k (negsuc n) l h e = omega (arith, leb-true n m h)
 
 -- a count that was read
-pub count-in : (s : List ℕ) (lo hi : ℕ) (why : Refusal) (v : ℤ) (p q : ℕ) → within s (pos lo) (pos hi) why p ≡ ok v q → (lo ≤ natAbs v) × (natAbs v ≤ hi)
+pub count-in : (s : List ℕ) (lo hi : ℕ) (why : Refusal) (v : ℤ) (p q : ℕ) → within s (pos lo) (pos hi) why p ≡ ok v q
+    → (lo ≤ natAbs v) × (natAbs v ≤ hi)
 count-in s lo hi why v p q h = let w = within-in (pos lo) (pos hi) why v q s p h in abs-between lo hi v (w .0) (w .1)
 
 -- ---- a coefficient

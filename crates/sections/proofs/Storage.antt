@@ -86,7 +86,8 @@ unfolding cells
 length-cells [] = omega arith
 length-cells (i ∷ is) = length-append (cell i) (cells is) ∙ (rw (length-cells is) (omega arith))
 
-pub cells-more : (i : ℕ) (done : List Interval) (a : Interval) (o k : List ℤ) → length done ≡ i → i < deckColumns → o ≡ padded columnCells (cells done)
+pub cells-more : (i : ℕ) (done : List Interval) (a : Interval) (o k : List ℤ) → length done ≡ i → i < deckColumns
+    → o ≡ padded columnCells (cells done)
     → k ≡ overwritten o (i * columnWidth) (cell a) → k ≡ padded columnCells (cells (done ++ (a ∷ [])))
 cells-more i done a o k c h e f =
     let m : length (cells done) ≡ i * columnWidth = length-cells done ∙ ap (λ (j : ℕ). j * columnWidth) c in
@@ -172,7 +173,8 @@ module _ (c : ℕ) (done : List Line) (l : Line) where
       (written-then o (c * columnWidth) (cells (slackColumns done)) (cells y) (omega arith) ∙
       ap (overwritten o (c * columnWidth)) (sym (cells-two (slackColumns done) y) ∙ ap cells (sym (slacks-more done l)))))
 
-  pub rights-more : (i : ℕ) (o u v : List ℤ) → length done ≡ i → i < length o → u ≡ overwritten o 0 (map rightOf done) → v ≡ overwritten u i (l .row .right ∷ [])
+  pub rights-more : (i : ℕ) (o u v : List ℤ) → length done ≡ i → i < length o → u ≡ overwritten o 0 (map rightOf done)
+      → v ≡ overwritten u i (l .row .right ∷ [])
       → v ≡ overwritten o 0 (map rightOf (done ++ (l ∷ [])))
   rights-more i o u v e h p q =
       let m : length (map rightOf done) ≡ length done = length-map done rightOf in
@@ -191,4 +193,5 @@ module _ (c : ℕ) (done : List Line) (l : Line) where
       q ∙
       (rw (p, a)
       (written-then o 0 (coefficientRows deckColumns c done) (coefficientRow deckColumns n l) (omega arith) ∙
-      ap (overwritten o 0) (ap (λ (x : ℕ). coefficientRows deckColumns c done ++ coefficientRow deckColumns x l) k ∙ sym (rows-more deckColumns c done l))))
+      ap (overwritten o 0)
+      (ap (λ (x : ℕ). coefficientRows deckColumns c done ++ coefficientRow deckColumns x l) k ∙ sym (rows-more deckColumns c done l))))

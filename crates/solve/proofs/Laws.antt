@@ -93,7 +93,8 @@ cleared-blank P h k =
     let pd = take-strides (n P) deckColumns _ refl h in
     λ i. buffers (pt i) (pv i) (pd i)
 
-pub listed-into : (o : List ℕ) (P : Posed) (a : Answer) (t v : List ℤ) (d : List ℕ) → n P ≤ deckColumns → m P ≤ deckRows → done a t v d ≡ assign P (cleared P)
+pub listed-into : (o : List ℕ) (P : Posed) (a : Answer) (t v : List ℤ) (d : List ℕ) → n P ≤ deckColumns → m P ≤ deckRows
+    → done a t v d ≡ assign P (cleared P)
     → length v ≡ length d → writeListing o a v d ≡ listInto o P
 unfolding listInto
 listed-into o P a t v d h k e l = write-even o a v d l ∙ ap (λ (x : Done). placedIn o (listed x)) (e ∙ ap (assign P) (cleared-blank P h k))
@@ -158,7 +159,8 @@ pub record Taken (s : List ℕ) (n m : ℕ) (c b l u g : List ℤ) : Type 0 wher
   pub upper : u ≡ padded deckColumns (map upperOf (columnsOf deck))
   pub goals : g ≡ padded deckColumns (map goalOf (columnsOf deck))
 
-pub taken : (s : List ℕ) (B : DeckBuffers) (n m : ℕ) (c b l u g : List ℤ) → lengthsFit B ≡ true → readDone (Read n m) (deckBuffers c b l u g) ≡ read s B
+pub taken : (s : List ℕ) (B : DeckBuffers) (n m : ℕ) (c b l u g : List ℤ) → lengthsFit B ≡ true
+    → readDone (Read n m) (deckBuffers c b l u g) ≡ read s B
     → Taken s n m c b l u g
 unfolding posed
 taken s B n m c b l u g f e = by (readDeck s) refl
@@ -186,7 +188,8 @@ problemPart n m c b l u g =
 
 module _ {s : List ℕ} {n m : ℕ} {c b l u g : List ℤ} (T : Taken s n m c b l u g) where
   pub few-columns : length l ≡ deckColumns → n ≤ deckColumns
-  few-columns q = within deckColumns n (map lowerOf (columnsOf (T .deck))) l (T .lower) (T .columns ∙ sym (length-map (columnsOf (T .deck)) lowerOf)) q
+  few-columns q = within deckColumns n (map lowerOf (columnsOf (T .deck))) l (T .lower) (T .columns ∙ sym (length-map (columnsOf (T .deck)) lowerOf))
+      q
 
   pub few-rows : length b ≡ deckRows → m ≤ deckRows
   few-rows q = within deckRows m (map rightOf (T .deck .lines)) b (T .rights) (T .rows ∙ sym (length-map (T .deck .lines) rightOf)) q

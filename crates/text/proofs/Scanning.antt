@@ -26,7 +26,8 @@ use Rattle.text.specs.declared.Token.{Token}
 use Rattle.text.specs.declared.Token.the-variants.{Number, Bad}
 use Rattle.text.specs.declared.scanner.Worth.the-variants.{Digits, Other}
 use Rattle.text.specs.declared.Next.the-variants.{Found, End}
-use Rattle.text.specs.Tokens.{isBlank, opens, join, runs, isDigit, allDigits, value, noNeedlessZero, isPlain, unsigned, afterMinus, tokenOf, tokens}
+use Rattle.text.specs.Tokens.{isBlank, opens, join, runs, isDigit, allDigits, value}
+use Rattle.text.specs.Tokens.{noNeedlessZero, isPlain, unsigned, afterMinus, tokenOf, tokens}
 use Rattle.text.specs.Positions.{belongs, stretch, gap, run, nextFrom, nextAt, plainWorth}
 
 module _ (t : Bool) (s : List ℕ) (i : ℕ) where
@@ -94,7 +95,8 @@ runs-first (b ∷ s) h = rw (runs-other b s e, run-other b s e) (at (opens s) re
     e : isBlank b ≡ false
     e = not-true (isBlank b) h
 
-    at : (t : Bool) → opens s ≡ t → (opens s ≡ true → runs s ≡ take (run s) s ∷ runs (drop (run s) s)) → join (opens s) b (runs s) ≡ (b ∷ take (run s) s) ∷ runs (drop (run s) s)
+    at : (t : Bool) → opens s ≡ t → (opens s ≡ true → runs s ≡ take (run s) s ∷ runs (drop (run s) s))
+        → join (opens s) b (runs s) ≡ (b ∷ take (run s) s) ∷ runs (drop (run s) s)
     at true k f = rw (k, f k)
     at false k f = rw (k, run-closed s k)
 

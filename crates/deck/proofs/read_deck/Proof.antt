@@ -1,4 +1,5 @@
--- `deck::read_deck` meets its contract: nothing is written before the whole text is accepted, and then the tables go out into the lists. Assumes nothing.
+-- `deck::read_deck` meets its contract: nothing is written before the whole text is accepted, and then the tables go out into the lists.
+-- Assumes nothing.
 use mathlib.Core.Path.{_≡_, refl, sym, _∙_}
 use mathlib.Core.Bool.{true}
 use native.Mathlib.Omega.{arith}
@@ -59,7 +60,7 @@ pick-requires c κs =
     let after-scan = after-t2 .before .before .before in
     let else1 = after-scan .before .before .before .before .before in
     let start = else1 .before .before .before in
-    let z = sizes (lent (start)) (fit (else1)) in
+    let z = sizes (lent start) (fit else1) in
     (omega arith, (after-scan .scan .kept .1 .0, z .lower))
 
 slice-aggregate-pick-2 : tie.Need-slice-aggregate-pick-2
@@ -72,7 +73,7 @@ pick-requires-2 c κs =
     let after-scan = after-b2 .before .before in
     let else1 = after-scan .before .before .before .before .before in
     let start = else1 .before .before .before in
-    let z = sizes (lent (start)) (fit (else1)) in
+    let z = sizes (lent start) (fit else1) in
     (omega arith, (after-scan .scan .kept .1 .0, z .upper))
 
 slice-aggregate-pick-3 : tie.Need-slice-aggregate-pick-3
@@ -86,7 +87,7 @@ pick-requires-3 c κs =
     let after-scan = after-b2 .before .before in
     let else1 = after-scan .before .before .before .before .before in
     let start = else1 .before .before .before in
-    let z = sizes (lent (start)) (fit (else1)) in
+    let z = sizes (lent start) (fit else1) in
     (omega arith, (after-scan .scan .kept .1 .0, z .goals))
 
 slice-aggregate-copy : tie.Need-slice-aggregate-copy
@@ -100,7 +101,7 @@ copy-requires c κs =
     let after-scan = after-d .before .before .before .before .before in
     let else1 = after-scan .before .before .before .before .before in
     let start = else1 .before .before .before in
-    let z = sizes (lent (start)) (fit (else1)) in
+    let z = sizes (lent start) (fit else1) in
     z .rights ∙ sym (after-scan .scan .kept .1 .1 .0)
 
 wipe-requires : tie.Need-wipe-requires
@@ -121,8 +122,9 @@ compact-requires c κs =
     let start = else1 .before .before .before in
     let a = start in
     let v = after-scan .scan in
-    let z = sizes (lent a) (fit (else1)) in
-    let st : DeckStored (deck (a .args .text .now)) (after-d .d .given .0 .0) (v .last .1 .0) (v .last .1 .1 .0) (v .last .1 .1 .1 .0) = rw (after-d .d .given .1) at (v .ensures) in
+    let z = sizes (lent a) (fit else1) in
+    let st : DeckStored (deck (a .args .text .now)) (after-d .d .given .0 .0) (v .last .1 .0) (v .last .1 .1 .0) (v .last .1 .1 .1 .0) =
+    rw (after-d .d .given .1) at (v .ensures) in
     ((st .few, st .few-rows), (v .kept .1 .1 .1 .0, after-wipe .wipe .kept .0 ∙ z .coefficients))
 
 enum-known-d-2 : tie.Need-enum-known-d-2
@@ -158,8 +160,11 @@ returns-3 c =
     let a = start in
     let v = after-scan .scan in
     let p = after-d .d .given .0 .0 in
-    let st : DeckStored (deck (a .args .text .now)) p (v .last .1 .0) (v .last .1 .1 .0) (v .last .1 .1 .1 .0) = rw (after-d .d .given .1) at (v .ensures) in
-    accepting (a .args .text .now) (lent a) p (v .last .1 .0) (v .last .1 .1 .0) (v .last .1 .1 .1 .0) (after-wipe .wipe .last .0) _ _ _ _ _ (fit (else1)) (else2 .if2 .left) st (after-wipe .wipe .ensures) (c .before .compact .ensures) (after-copy .copy .ensures) (after-pick .pick .ensures) (after-pick2 .pick2 .ensures) (after-pick3 .pick3 .ensures)
+    let st : DeckStored (deck (a .args .text .now)) p (v .last .1 .0) (v .last .1 .1 .0) (v .last .1 .1 .1 .0) =
+    rw (after-d .d .given .1) at (v .ensures) in
+    accepting (a .args .text .now) (lent a) p (v .last .1 .0) (v .last .1 .1 .0) (v .last .1 .1 .1 .0) (after-wipe .wipe .last .0) _ _ _ _ _
+    (fit else1) (else2 .if2 .left) st (after-wipe .wipe .ensures) (c .before .compact .ensures) (after-copy .copy .ensures)
+    (after-pick .pick .ensures) (after-pick2 .pick2 .ensures) (after-pick3 .pick3 .ensures)
 
 returns-4 : tie.Need-returns-4
 returns-4 c =
@@ -170,7 +175,7 @@ returns-4 c =
     let start = else1 .before .before .before in
     let a = start in
     let d : deck (a .args .text .now) ≡ no (c .before .d2 .given .0 .0) = rw (c .before .d2 .given .1) at (after-scan .scan .ensures) in
-    sym (read-not (a .args .text .now) (lent a) (c .before .d2 .given .0 .0) (fit (else1)) (else2 .if2 .left) d)
+    sym (read-not (a .args .text .now) (lent a) (c .before .d2 .given .0 .0) (fit else1) (else2 .if2 .left) d)
 
 pub read-deck-spec : {M : Type 1} → statement M
 read-deck-spec =

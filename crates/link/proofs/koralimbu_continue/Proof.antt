@@ -9,7 +9,8 @@ use Rattle.link.proofs.koralimbu_continue.Tie as tie
 
 module _ (a : tie.Start) where
   abbrev P : Posed
-  P = posedBy (problemOf (a .args .n) (a .args .m) (a .args .limit)) (a .args .coefficients .now) (a .args .rights .now) (a .args .lower .now) (a .args .upper .now) (a .args .goals .now)
+  P = posedBy (problemOf (a .args .n) (a .args .m) (a .args .limit)) (a .args .coefficients .now) (a .args .rights .now) (a .args .lower .now)
+      (a .args .upper .now) (a .args .goals .now)
 
   abbrev B : Buffers
   B = buffers (a .args .tableau .now) (a .args .values .now) (a .args .strides .now)

@@ -65,7 +65,8 @@ returns c =
     let r = room-next (natural (x .column)) (field (integer (x .value)) ++ k) (after-put-natural .put-natural .ensures) (start .pre) in
     let s = room-next (field (integer (x .value))) k w r in
     wrote-both (natural (x .column)) (field (integer (x .value)) ++ k) (after-put-natural .put-natural .ensures)
-    (wrote-both (field (integer (x .value))) k w (wrote-both (field (natural (x .stride))) lineEnd (after-put-field .put-field .ensures) (after-put .put .ensures) s) r) (start .pre)
+    (wrote-both (field (integer (x .value))) k w
+    (wrote-both (field (natural (x .stride))) lineEnd (after-put-field .put-field .ensures) (after-put .put .ensures) s) r) (start .pre)
 
 pub put-line-spec : {M : Type 1} → statement M
 put-line-spec =

@@ -20,7 +20,8 @@ slice-aggregate-put c = search needs
 
 put-requires : tie.Need-put-requires
 put-requires c κs =
-    let w = refusal-none (c .before .before .before .before .before .args .number) (c .before .before .if1 .taken ∙ c .before .before .before .number .ensures) in
+    let w = refusal-none (c .before .before .before .before .before .args .number)
+    (c .before .before .if1 .taken ∙ c .before .before .before .number .ensures) in
     omega (arith, ap length w, c .before .before .before .before .before .pre)
 
 same-length : tie.Need-same-length
@@ -88,7 +89,8 @@ returns-2 c =
     let h : 0 + length (numbered (x .number)) ≤ length (x .out .now) = omega (arith, ap length w, start .pre) in
     let k : List ℕ = field (natural (x .number)) in
     let r = room-next REFUSED (k ++ lineEnd) (after-put2 .put2 .ensures) h in
-    rw w (wrote-both REFUSED (k ++ lineEnd) (after-put2 .put2 .ensures) (wrote-both k lineEnd (after-put-field .put-field .ensures) (after-put3 .put3 .ensures) r) h)
+    rw w (wrote-both REFUSED (k ++ lineEnd) (after-put2 .put2 .ensures)
+    (wrote-both k lineEnd (after-put-field .put-field .ensures) (after-put3 .put3 .ensures) r) h)
 
 pub put-refusal-spec : {M : Type 1} → statement M
 put-refusal-spec =

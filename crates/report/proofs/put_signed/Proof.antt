@@ -27,7 +27,8 @@ returns c =
     let after-put-integer = c .before .before in
     let after-put = after-put-integer .before .before .before .before in
     let start = after-put .before .before .before .before in
-    wrote-both (32 ∷ []) (integer (start .args .v)) (after-put .put .ensures) (rw (toZ-ofZ (start .fits .v)) at (after-put-integer .put-integer .ensures)) (start .pre)
+    wrote-both (32 ∷ []) (integer (start .args .v)) (after-put .put .ensures)
+    (rw (toZ-ofZ (start .fits .v)) at (after-put-integer .put-integer .ensures)) (start .pre)
 
 pub put-signed-spec : {M : Type 1} → statement M
 put-signed-spec =

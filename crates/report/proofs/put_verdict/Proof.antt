@@ -77,7 +77,8 @@ returns c =
     let r = room-next (x .word .now) (field (natural (x .counts .bounds)) ++ g) (after-put .put .ensures) h in
     let s = room-next (field (natural (x .counts .bounds))) g (after-put-field .put-field .ensures) r in
     wrote-both (x .word .now) (field (natural (x .counts .bounds)) ++ g) (after-put .put .ensures)
-    (wrote-both (field (natural (x .counts .bounds))) g (after-put-field .put-field .ensures) (wrote-both (field (natural (x .counts .goals))) lineEnd (after-put-field2 .put-field2 .ensures) (after-put2 .put2 .ensures) s) r) h
+    (wrote-both (field (natural (x .counts .bounds))) g (after-put-field .put-field .ensures)
+    (wrote-both (field (natural (x .counts .goals))) lineEnd (after-put-field2 .put-field2 .ensures) (after-put2 .put2 .ensures) s) r) h
 
 pub put-verdict-spec : {M : Type 1} → statement M
 put-verdict-spec =

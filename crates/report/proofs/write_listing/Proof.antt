@@ -22,7 +22,8 @@ lines-of-requires-2 c κs = search needs
 returns : tie.Need-returns
 returns c =
     let x = c .before .before .before .before .before .args in
-    let a = write-uneven (x .out .now) (x .answer) (x .values .now) (x .strides .now) (λ h. c .if1 .taken (c .before .lines-of2 .ensures ∙ (h ∙ sym (c .before .before .lines-of .ensures)))) in
+    let a = write-uneven (x .out .now) (x .answer) (x .values .now) (x .strides .now)
+    (λ h. c .if1 .taken (c .before .lines-of2 .ensures ∙ (h ∙ sym (c .before .before .lines-of .ensures)))) in
     sym a
 
 headline-length-requires : tie.Need-headline-length-requires
@@ -36,7 +37,8 @@ returns-2 c =
     let n : ℕ = after-lines-of .lines-of .result in
     let q : linesOf (x .answer) (length (x .strides .now)) ≡ n = sym (c .before .before .before .lines-of2 .ensures) ∙ c .before .before .if1 .left in
     let l = listing-length (x .answer) (x .values .now) (x .strides .now) n (after-lines-of .lines-of .ensures) q in
-    let a = write-short (x .out .now) (x .answer) (x .values .now) (x .strides .now) (q ∙ after-lines-of .lines-of .ensures) (omega (arith, c .if2 .taken, c .before .headline-length .ensures)) in
+    let a = write-short (x .out .now) (x .answer) (x .values .now) (x .strides .now) (q ∙ after-lines-of .lines-of .ensures)
+    (omega (arith, c .if2 .taken, c .before .headline-length .ensures)) in
     sym a
 
 sub-lines-fit : tie.Need-sub-lines-fit
@@ -55,7 +57,8 @@ slice-aggregate-lines-fit-2 c =
     let after-lines-of = after-lines-of2 .before in
     let start = after-lines-of .before .before .before in
     let x = start .args in
-    sym (length-listed (x .answer) (x .strides .now) (after-lines-of .lines-of .result) (sym (c .before .before .before .before .if1 .left) ∙ after-lines-of2 .lines-of2 .ensures))
+    sym (length-listed (x .answer) (x .strides .now) (after-lines-of .lines-of .result)
+    (sym (c .before .before .before .before .if1 .left) ∙ after-lines-of2 .lines-of2 .ensures))
 
 lines-fit-requires : tie.Need-lines-fit-requires
 lines-fit-requires c κs =
@@ -64,7 +67,8 @@ lines-fit-requires c κs =
     let start = after-lines-of .before .before .before in
     let x = start .args in
     length-listed (x .answer) (x .values .now) (after-lines-of .lines-of .result) (after-lines-of .lines-of .ensures) ∙
-    sym (length-listed (x .answer) (x .strides .now) (after-lines-of .lines-of .result) (sym (c .before .before .before .before .if1 .left) ∙ after-lines-of2 .lines-of2 .ensures))
+    sym (length-listed (x .answer) (x .strides .now) (after-lines-of .lines-of .result)
+    (sym (c .before .before .before .before .if1 .left) ∙ after-lines-of2 .lines-of2 .ensures))
 
 returns-3 : tie.Need-returns-3
 returns-3 c =
@@ -77,8 +81,10 @@ returns-3 c =
     let n : ℕ = after-lines-of .lines-of .result in
     let q : linesOf (x .answer) (length (x .strides .now)) ≡ n = sym (after-lines-of2 .lines-of2 .ensures) ∙ else1 .if1 .left in
     let l = listing-length (x .answer) (x .values .now) (x .strides .now) n (after-lines-of .lines-of .ensures) q in
-    let f = leb-false (length (linesFrom 0 (take n (x .values .now)) (take n (x .strides .now)))) _ (sym (c .before .lines-fit .ensures) ∙ not-true _ (c .if3 .taken)) in
-    let a = write-short (x .out .now) (x .answer) (x .values .now) (x .strides .now) (q ∙ after-lines-of .lines-of .ensures) (omega (arith, c .before .before .before .before .if2 .left, after-headline-length .headline-length .ensures)) in
+    let f = leb-false (length (linesFrom 0 (take n (x .values .now)) (take n (x .strides .now)))) _
+    (sym (c .before .lines-fit .ensures) ∙ not-true _ (c .if3 .taken)) in
+    let a = write-short (x .out .now) (x .answer) (x .values .now) (x .strides .now) (q ∙ after-lines-of .lines-of .ensures)
+    (omega (arith, c .before .before .before .before .if2 .left, after-headline-length .headline-length .ensures)) in
     sym a
 
 put-headline-requires : tie.Need-put-headline-requires
@@ -103,7 +109,8 @@ slice-aggregate-put-lines-2 c =
     let after-lines-of = after-lines-of2 .before in
     let start = after-lines-of .before .before .before in
     let x = start .args in
-    sym (length-listed (x .answer) (x .strides .now) (after-lines-of .lines-of .result) (sym (else1 .if1 .left) ∙ after-lines-of2 .lines-of2 .ensures))
+    sym (length-listed (x .answer) (x .strides .now) (after-lines-of .lines-of .result)
+    (sym (else1 .if1 .left) ∙ after-lines-of2 .lines-of2 .ensures))
 
 put-lines-requires : tie.Need-put-lines-requires
 put-lines-requires c κs =
@@ -123,8 +130,12 @@ put-lines-requires c κs =
     let l = listing-length (x .answer) (x .values .now) (x .strides .now) n (after-lines-of .lines-of .ensures) q in
     let k = ap length (listing-lines (x .answer) (x .values .now) (x .strides .now) n (after-lines-of .lines-of .ensures) q) in
     let f = leb-true (length t) _ (sym (after-lines-fit .lines-fit .ensures) ∙ not-false _ (else3 .if3 .left)) in
-    let r : 0 + length (headline (x .answer) ++ t) ≤ length (x .out .now) = omega (arith, else2 .if2 .left, after-headline-length .headline-length .ensures) in
-    (length-listed (x .answer) (x .values .now) n (after-lines-of .lines-of .ensures) ∙ sym (length-listed (x .answer) (x .strides .now) n (sym q)), room-next (headline (x .answer)) t (after-put-headline .put-headline .ensures) r)
+    let r : 0 + length (headline (x .answer) ++ t) ≤ length (x .out .now) =
+    omega (arith, else2 .if2 .left, after-headline-length .headline-length .ensures) in (
+      length-listed (x .answer) (x .values .now) n (after-lines-of .lines-of .ensures) ∙
+          sym (length-listed (x .answer) (x .strides .now) n (sym q)),
+      room-next (headline (x .answer)) t (after-put-headline .put-headline .ensures) r,
+    )
 
 same-length : tie.Need-same-length
 same-length c = search needs
@@ -150,8 +161,11 @@ returns-4 c =
     let l = listing-length (x .answer) (x .values .now) (x .strides .now) n (after-lines-of .lines-of .ensures) q in
     let k = ap length s in
     let f = leb-true (length t) _ (sym (after-lines-fit .lines-fit .ensures) ∙ not-false _ (else3 .if3 .left)) in
-    let r : 0 + length (headline (x .answer) ++ t) ≤ length (x .out .now) = omega (arith, else2 .if2 .left, after-headline-length .headline-length .ensures) in
-    let w : Wrote (x .out .now) 0 (listing (x .answer) (x .values .now) (x .strides .now)) (after-put-lines .put-lines .result) (after-put-lines .put-lines .last .0) = rw s (wrote-both (headline (x .answer)) t (after-put-headline .put-headline .ensures) (after-put-lines .put-lines .ensures) r) in
+    let r : 0 + length (headline (x .answer) ++ t) ≤ length (x .out .now) =
+    omega (arith, else2 .if2 .left, after-headline-length .headline-length .ensures) in
+    let w : Wrote (x .out .now) 0 (listing (x .answer) (x .values .now)
+    (x .strides .now)) (after-put-lines .put-lines .result) (after-put-lines .put-lines .last .0) = rw s
+    (wrote-both (headline (x .answer)) t (after-put-headline .put-headline .ensures) (after-put-lines .put-lines .ensures) r) in
     let a = write-done (x .out .now) (x .answer) (x .values .now) (x .strides .now) _ _ (q ∙ after-lines-of .lines-of .ensures) (omega arith) w in
     sym a
 

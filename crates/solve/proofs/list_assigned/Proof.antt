@@ -1,4 +1,5 @@
--- `solve::list_assigned` meets its contract: the parts of its blank buffers are those of the definition, and a call keeps their lengths. Assumes nothing.
+-- `solve::list_assigned` meets its contract: the parts of its blank buffers are those of the definition, and a call keeps their lengths.
+-- Assumes nothing.
 use mathlib.Core.Path.{_≡_, sym, _∙_}
 use native.Mathlib.Omega.{arith}
 use mathlib.Core.List.{List, _++_}
@@ -23,7 +24,7 @@ module _ (a : tie.Start) where
 -- the call keeps the lengths of the lists
 module _ (w : tie.After-assign) where
   abbrev start : tie.Start
-  start = w .before .before .before .before .before .before
+  start = let after-tableau = w .before .before .before in after-tableau .before .before .before
 
   abbrev values : List ℤ
   values = w .assign .last .1 .1 .1 .1 .1 .1 .1 .0
@@ -89,7 +90,7 @@ unfolding clearStrides
 slice-aggregate-write-listing-2 c =
     let after-tableau2 = c .before .before .before .before .before in
     let after-assign = after-tableau2 .before in
-    sym (length-take-le _ _ (strides-fit (after-assign)))
+    sym (length-take-le _ _ (strides-fit after-assign))
 
 write-listing-requires : tie.Need-write-listing-requires
 write-listing-requires c κs = search needs

@@ -17,10 +17,11 @@ use Rattle.solve.proofs.list_text.Tie as tie
 -- what the reader leaves
 module _ (w : tie.After-read-deck) where
   abbrev start : tie.Start
-  start = w .before .before .before .before .before .before .before .before
+  start = let after-coefficients = w .before .before .before .before .before in after-coefficients .before .before .before
 
   abbrev left : DeckBuffers
-  left = deckBuffers (w .read-deck .last .1 .0) (w .read-deck .last .1 .1 .0) (w .read-deck .last .1 .1 .1 .0) (w .read-deck .last .1 .1 .1 .1 .0) (w .read-deck .last .1 .1 .1 .1 .1 .0)
+  left = deckBuffers (w .read-deck .last .1 .0) (w .read-deck .last .1 .1 .0) (w .read-deck .last .1 .1 .1 .0) (w .read-deck .last .1 .1 .1 .1 .0)
+      (w .read-deck .last .1 .1 .1 .1 .1 .0)
 
   done-reading : readDone (w .read-deck .result) left ≡ read (start .args .text .now) largest
   unfolding blank
@@ -32,7 +33,7 @@ module _ (w : tie.After-read-deck) where
 -- what an accepted text leaves: its parts lie in the buffers
 module _ (k : tie.After-known-told2) where
   abbrev at : tie.After-read-deck
-  at = k .before .before .before .before .before .before .before .before
+  at = let after-goals = k .before .before .before in after-goals .before .before .before .before .before
 
   abbrev n : ℕ
   n = k .before .reading2 .given .0 .0
@@ -141,7 +142,7 @@ list-assigned-requires : tie.Need-list-assigned-requires
 list-assigned-requires c κs =
     let after-coefficients3 = c .before .before .before .before .before in
     let after-known-told2 = after-coefficients3 .before in
-    (columns-few (after-known-told2), rows-few (after-known-told2))
+    (columns-few after-known-told2, rows-few after-known-told2)
 
 same-length : tie.Need-same-length
 same-length c = search needs
@@ -153,7 +154,8 @@ returns c =
     let after-read-deck = after-rights2 .before .before in
     let w = after-read-deck in
     let a = start w .args in
-    c .before .before .list-refused .ensures ∙ refused-into (a .out .now) (a .text .now) largest (left w) _ largest-fit (found w (after-reading .reading .given .1))
+    c .before .before .list-refused .ensures ∙
+    refused-into (a .out .now) (a .text .now) largest (left w) _ largest-fit (found w (after-reading .reading .given .1))
 
 same-length-2 : tie.Need-same-length-2
 same-length-2 c = search needs

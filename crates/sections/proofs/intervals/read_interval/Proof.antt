@@ -78,8 +78,10 @@ returns c =
     let l : toZ w64 (ofZ w64 lo) ≡ lo = back-a (after-positive .before) in
     let u : toZ w64 (ofZ w64 up) ≡ up = back-b (after-top-goal .before) in
     let v : toZ w64 (ofZ w64 go) ≡ go = back-c c in
-    let m : toZ w64 (ofZ w64 (after-positive .positive .result)) ≡ pos maxBound = toZ-ofZ (sfits-of (after-positive .positive .ok)) ∙ after-positive .positive .ensures in
-    let t : toZ w64 (ofZ w64 (after-top-goal .top-goal .result)) ≡ topGoal lo = toZ-ofZ (sfits-of (after-top-goal .top-goal .ok)) ∙ (rw l at (after-top-goal .top-goal .ensures)) in
+    let m : toZ w64 (ofZ w64 (after-positive .positive .result)) ≡ pos maxBound =
+    toZ-ofZ (sfits-of (after-positive .positive .ok)) ∙ after-positive .positive .ensures in
+    let t : toZ w64 (ofZ w64 (after-top-goal .top-goal .result)) ≡ topGoal lo =
+    toZ-ofZ (sfits-of (after-top-goal .top-goal .ok)) ∙ (rw l at (after-top-goal .top-goal .ensures)) in
     let q : upperFrom s lo (a .0 .1 .0) ≡ gotOf (after-within .within .result) = rw (l, m) at (after-within .within .ensures) in
     let r : within s (pos 0) (topGoal lo) Goal (b .0 .1 .0) ≡ gotOf (after-within2 .within2 .result) = rw t at (after-within2 .within2 .ensures) in
     rw (l, u, v)
@@ -101,11 +103,14 @@ returns-2 c =
     let b = after-b .b .given in
     let lo : ℤ = a .0 .0 in
     let l : toZ w64 (ofZ w64 lo) ≡ lo = back-a (after-positive .before) in
-    let m : toZ w64 (ofZ w64 (after-positive .positive .result)) ≡ pos maxBound = toZ-ofZ (sfits-of (after-positive .positive .ok)) ∙ after-positive .positive .ensures in
-    let t : toZ w64 (ofZ w64 (after-top-goal .top-goal .result)) ≡ topGoal lo = toZ-ofZ (sfits-of (after-top-goal .top-goal .ok)) ∙ (rw l at (after-top-goal .top-goal .ensures)) in
+    let m : toZ w64 (ofZ w64 (after-positive .positive .result)) ≡ pos maxBound =
+    toZ-ofZ (sfits-of (after-positive .positive .ok)) ∙ after-positive .positive .ensures in
+    let t : toZ w64 (ofZ w64 (after-top-goal .top-goal .result)) ≡ topGoal lo =
+    toZ-ofZ (sfits-of (after-top-goal .top-goal .ok)) ∙ (rw l at (after-top-goal .top-goal .ensures)) in
     let q : upperFrom s lo (a .0 .1 .0) ≡ gotOf (after-within .within .result) = rw (l, m) at (after-within .within .ensures) in
     let r : within s (pos 0) (topGoal lo) Goal (b .0 .1 .0) ≡ gotOf (after-within2 .within2 .result) = rw t at (after-within2 .within2 .ensures) in
-    interval-goal s (x .at) _ _ 0 lo (b .0 .0) (pos 0) _ (after-spanning .spanning .ensures ∙ ap gotOf (a .1)) (q ∙ ap gotOf (b .1)) (r ∙ ap gotOf (c .before .c2 .given .1))
+    interval-goal s (x .at) _ _ 0 lo (b .0 .0) (pos 0) _ (after-spanning .spanning .ensures ∙ ap gotOf (a .1)) (q ∙ ap gotOf (b .1))
+    (r ∙ ap gotOf (c .before .c2 .given .1))
 
 returns-3 : tie.Need-returns-3
 returns-3 c =
@@ -119,7 +124,8 @@ returns-3 c =
     let a = after-a .a .given in
     let lo : ℤ = a .0 .0 in
     let l : toZ w64 (ofZ w64 lo) ≡ lo = back-a (after-positive .before) in
-    let m : toZ w64 (ofZ w64 (after-positive .positive .result)) ≡ pos maxBound = toZ-ofZ (sfits-of (after-positive .positive .ok)) ∙ after-positive .positive .ensures in
+    let m : toZ w64 (ofZ w64 (after-positive .positive .result)) ≡ pos maxBound =
+    toZ-ofZ (sfits-of (after-positive .positive .ok)) ∙ after-positive .positive .ensures in
     let q : upperFrom s lo (a .0 .1 .0) ≡ gotOf (after-within .within .result) = rw (l, m) at (after-within .within .ensures) in
     interval-upper s (x .at) _ 0 0 lo (pos 0) (pos 0) _ (after-spanning .spanning .ensures ∙ ap gotOf (a .1)) (q ∙ ap gotOf (c .before .b2 .given .1))
 

@@ -1,5 +1,5 @@
--- `sections::intervals::scan_intervals` meets its contract. The invariant: what is left to read, after the intervals done, is what was to be read, and
--- the table holds the intervals done. Assumes nothing.
+-- `sections::intervals::scan_intervals` meets its contract. The invariant: what is left to read, after the intervals done, is what was to be read,
+-- and the table holds the intervals done. Assumes nothing.
 use mathlib.Core.Path.{_≡_, refl, sym, _∙_, ap}
 use mathlib.Core.List.{List, [], _∷_, _++_}
 use Prim.Native.Nat.{ℕ, _+_, _-_, _*_, _≤_, _<_}
@@ -33,7 +33,8 @@ record Sofar (s : List ℕ) (o : Outcome (List Interval)) (n i p : ℕ) (k : Lis
   columns : k ≡ padded columnCells (cells done)
   size : length k ≡ columnCells
 
-start : (s : List ℕ) (at : ℕ) (v : ℤ) (e n : ℕ) (k : List ℤ) → within s (pos 1) (pos deckColumns) Size at ≡ ok v e → n ≡ natAbs v → k ≡ blank columnCells
+start : (s : List ℕ) (at : ℕ) (v : ℤ) (e n : ℕ) (k : List ℤ) → within s (pos 1) (pos deckColumns) Size at ≡ ok v e → n ≡ natAbs v
+    → k ≡ blank columnCells
     → Sofar s (intervalSection s at) n 0 e k
 unfolding cells
 start s at v e n k h q a =
@@ -91,7 +92,8 @@ loop-holds c =
     let a = c .before .before .a .given in
     let k : ℤ = a .0 .0 in
     let b : toZ w64 (ofZ w64 k) ≡ k = search needs in
-    let h : toZ w64 (ofZ w64 (after-signed .signed .result)) ≡ pos deckColumns = toZ-ofZ (sfits-of (after-signed .signed .ok)) ∙ after-signed .signed .ensures in
+    let h : toZ w64 (ofZ w64 (after-signed .signed .result)) ≡ pos deckColumns =
+    toZ-ofZ (sfits-of (after-signed .signed .ok)) ∙ after-signed .signed .ensures in
     let p : within s (pos 1) (pos deckColumns) Size (x .at) ≡ gotOf (after-within .within .result) = rw h at (after-within .within .ensures) in
     start s (x .at) k (a .0 .1 .0) (c .natural .result) _ (p ∙ ap gotOf (a .1)) (rw b at (c .natural .ensures)) (at-start .pre)
 
@@ -125,7 +127,9 @@ returns c =
     let at-start = after-signed .before .before in
     let s = at-start .args .s .now in
     let l = at-loop .loop in
-    sym (l .inv .rest) ∙ intervals-stop s (l .inv .done) (l .p) 0 (after-natural .natural .result - l .i) _ (omega arith) (c .before .before .before .read-interval .ensures ∙ ap intervalGotOf (c .before .g2 .given .1))
+    sym (l .inv .rest) ∙
+    intervals-stop s (l .inv .done) (l .p) 0 (after-natural .natural .result - l .i) _ (omega arith)
+    (c .before .before .before .read-interval .ensures ∙ ap intervalGotOf (c .before .g2 .given .1))
 
 add-i : tie.Need-add-i Inv-loop μ-loop
 add-i c =
@@ -147,7 +151,9 @@ loop-again c =
     let x = at-start .args in
     let l = at-loop .loop in
     let v : Interval = after-g .g .given .0 .0 in
-    more (x .s .now) (intervalSection (x .s .now) (x .at)) (after-natural .natural .result) (l .i) (l .p) (after-g .g .given .0 .1 .0) (l .columns) _ v (l .inv) (omega arith) (after-read-interval .read-interval .ensures ∙ ap intervalGotOf (after-g .g .given .1)) (c .before .put-column .ensures) (c .before .put-column .kept .0)
+    more (x .s .now) (intervalSection (x .s .now) (x .at)) (after-natural .natural .result) (l .i) (l .p) (after-g .g .given .0 .1 .0) (l .columns) _
+    v (l .inv) (omega arith) (after-read-interval .read-interval .ensures ∙ ap intervalGotOf (after-g .g .given .1)) (c .before .put-column .ensures)
+    (c .before .put-column .kept .0)
 
 enum-known-a-2 : tie.Need-enum-known-a-2 Inv-loop μ-loop
 enum-known-a-2 c = search needs
@@ -179,7 +185,8 @@ returns-3 c =
     let at-start = after-signed .before .before in
     let x = at-start .args in
     let s = x .s .now in
-    let h : toZ w64 (ofZ w64 (after-signed .signed .result)) ≡ pos deckColumns = toZ-ofZ (sfits-of (after-signed .signed .ok)) ∙ after-signed .signed .ensures in
+    let h : toZ w64 (ofZ w64 (after-signed .signed .result)) ≡ pos deckColumns =
+    toZ-ofZ (sfits-of (after-signed .signed .ok)) ∙ after-signed .signed .ensures in
     let p : within s (pos 1) (pos deckColumns) Size (x .at) ≡ gotOf (after-within .within .result) = rw h at (after-within .within .ensures) in
     intervals-no s (x .at) 0 (pos 0) _ (p ∙ ap gotOf (c .before .a2 .given .1))
 

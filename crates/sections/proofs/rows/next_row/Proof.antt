@@ -36,7 +36,9 @@ store-row-requires c κs =
     let start = after-read-line .before .before .before in
     let x = start .args in
     let s = x .s .now in
-    let st : LineStored (line s (x .c .intervals) (x .c .columns) (x .c .at)) (after-g .g .given .0 .0) (after-g .g .given .0 .1 .0) (after-read-line .read-line .last .1 .1 .0) = rw (after-g .g .given .1) at (after-read-line .read-line .ensures) in
+    let st : LineStored (line s (x .c .intervals) (x .c .columns)
+    (x .c .at)) (after-g .g .given .0 .0) (after-g .g .given .0 .1 .0)
+    (after-read-line .read-line .last .1 .1 .0) = rw (after-g .g .given .1) at (after-read-line .read-line .ensures) in
     let room = line-room s (x .c .intervals) (x .c .columns) (x .c .at) _ _ (st .read) in
     ((room, start .pre .0 .2), (after-read-line .read-line .kept .1 .1 .0, start .pre .1))
 
@@ -52,7 +54,9 @@ add-t25 c =
     let start = after-read-line .before .before .before in
     let x = start .args in
     let s = x .s .now in
-    let st : LineStored (line s (x .c .intervals) (x .c .columns) (x .c .at)) (after-g .g .given .0 .0) (after-g .g .given .0 .1 .0) (after-read-line .read-line .last .1 .1 .0) = rw (after-g .g .given .1) at (after-read-line .read-line .ensures) in
+    let st : LineStored (line s (x .c .intervals) (x .c .columns)
+    (x .c .at)) (after-g .g .given .0 .0) (after-g .g .given .0 .1 .0)
+    (after-read-line .read-line .last .1 .1 .0) = rw (after-g .g .given .1) at (after-read-line .read-line .ensures) in
     let room = line-room s (x .c .intervals) (x .c .columns) (x .c .at) _ _ (st .read) in
     omega (arith, room, c .before .slacks .ensures)
 
@@ -83,7 +87,9 @@ returns c =
     let s = x .s .now in
     let r : Row = after-g .g .given .0 .0 in
     let w = after-store-row .store-row .ensures in
-    let st : LineStored (line s (x .c .intervals) (x .c .columns) (x .c .at)) r (after-g .g .given .0 .1 .0) (after-read-line .read-line .last .1 .1 .0) = rw (after-g .g .given .1) at (after-read-line .read-line .ensures) in
+    let st : LineStored (line s (x .c .intervals) (x .c .columns)
+    (x .c .at)) r (after-g .g .given .0 .1 .0)
+    (after-read-line .read-line .last .1 .1 .0) = rw (after-g .g .given .1) at (after-read-line .read-line .ensures) in
     let room = line-room s (x .c .intervals) (x .c .columns) (x .c .at) _ _ (st .read) in
     let k : after-slacks .slacks .result ≡ slackCount (r .kind) = after-slacks .slacks .ensures in
     record {

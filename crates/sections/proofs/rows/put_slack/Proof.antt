@@ -33,7 +33,8 @@ mul-coefficient c = search needs
 slice-set-from-coefficient : tie.Need-slice-set-from-coefficient
 slice-set-from-coefficient c =
     let y = c .before .y .given in
-    let e : slackOf (c .before .before .before .before .args .kind) ≡ slack (y .0 .0) (y .0 .1 .0) = sym (c .before .before .before .slack-of .ensures) ∙ ap slackIs (y .1) in
+    let e : slackOf (c .before .before .before .before .args .kind) ≡ slack (y .0 .0) (y .0 .1 .0) =
+    sym (c .before .before .before .slack-of .ensures) ∙ ap slackIs (y .1) in
     omega (arith, ap slackColumns e, c .before .before .before .before .pre .0, c .before .before .before .before .pre .1 .0)
 
 cast-t11 : tie.Need-cast-t11
@@ -77,8 +78,13 @@ returns-2 c =
     let h : lo < 2 ^ 32 = search needs in
     let f : SFits w64 (pos lo) = record { sfits = omega (arith, h) } in
     let b : toZ w64 lo ≡ pos lo = toZ-ofZ f in
-    let u : toZ w64 (ofZ w64 (after-positive .positive .result)) ≡ pos maxBound = toZ-ofZ (sfits-of (after-positive .positive .ok)) ∙ after-positive .positive .ensures in
-    rw (e, a) (refl, (rw (b, u) at (c .before .put-column .ensures)) ∙ ap (overwritten (x .columns .now) (x .column * columnWidth)) (sym (cells-one (slackInterval lo))))
+    let u : toZ w64 (ofZ w64 (after-positive .positive .result)) ≡ pos maxBound =
+    toZ-ofZ (sfits-of (after-positive .positive .ok)) ∙ after-positive .positive .ensures in
+    rw (e, a) (
+      refl,
+      (rw (b, u) at (c .before .put-column .ensures)) ∙
+          ap (overwritten (x .columns .now) (x .column * columnWidth)) (sym (cells-one (slackInterval lo))),
+    )
 
 pub put-slack-spec : {M : Type 1} → statement M
 put-slack-spec =

@@ -43,7 +43,8 @@ returns-2 c =
     let v : ℤ = g .0 .0 in
     let b : toZ w64 (ofZ w64 v) ≡ v = search needs in
     rw b
-    (coefficient-read s (x .at) _ v (after-spanning .spanning .ensures ∙ ap gotOf (g .1)) (λ z. c .if1 .left ((rw b at (c .before .natural .ensures)) ∙ z)))
+    (coefficient-read s (x .at) _ v (after-spanning .spanning .ensures ∙ ap gotOf (g .1))
+    (λ z. c .if1 .left ((rw b at (c .before .natural .ensures)) ∙ z)))
 
 returns-3 : tie.Need-returns-3
 returns-3 c =

@@ -79,13 +79,17 @@ returns c =
     let b = after-b .b .given in
     let k : ℤ = b .0 .0 in
     let f : toZ w64 (ofZ w64 k) ≡ k = back-b (after-natural .before) in
-    let h : toZ w64 (ofZ w64 (after-signed .signed .result)) ≡ pos n = toZ-ofZ (sfits-of (after-signed .signed .ok)) ∙ after-signed .signed .ensures in
+    let h : toZ w64 (ofZ w64 (after-signed .signed .result)) ≡ pos n =
+    toZ-ofZ (sfits-of (after-signed .signed .ok)) ∙ after-signed .signed .ensures in
     let p : within s (pos 0) (pos n) WrongTerm (g .0 .1 .0) ≡ gotOf (after-within .within .result) = rw h at (after-within .within .ensures) in
     let i : after-natural .natural .result ≡ natAbs k = rw f at (after-natural .natural .ensures) in
-    let st : TermsStored (terms s (natAbs k) 0 n [] (b .0 .1 .0)) (c .before .u .given .0 .0) (x .line .now) (after-read-terms .read-terms .last .1 .1 .1 .1 .0) = rw (c .before .u .given .1, i) at (after-read-terms .read-terms .ensures) in
+    let st : TermsStored (terms s (natAbs k) 0 n []
+    (b .0 .1 .0)) (c .before .u .given .0 .0) (x .line .now)
+    (after-read-terms .read-terms .last .1 .1 .1 .1 .0) = rw (c .before .u .given .1, i) at (after-read-terms .read-terms .ensures) in
     record {
       terms = st .terms;
-      read = line-read s n (x .c .columns) (x .c .at) _ _ _ (g .0 .0) k (st .terms) (after-read-row .read-row .ensures ∙ ap rowGotOf (g .1)) (p ∙ ap gotOf (b .1)) (st .read);
+      read = line-read s n (x .c .columns) (x .c .at) _ _ _ (g .0 .0) k (st .terms) (after-read-row .read-row .ensures ∙ ap rowGotOf (g .1))
+          (p ∙ ap gotOf (b .1)) (st .read);
       line = st .line ∙ ap (placed (st .terms)) (start .pre .1);
     }
 
@@ -109,10 +113,12 @@ returns-2 c =
     let b = after-b .b .given in
     let k : ℤ = b .0 .0 in
     let f : toZ w64 (ofZ w64 k) ≡ k = back-b (after-natural .before) in
-    let h : toZ w64 (ofZ w64 (after-signed .signed .result)) ≡ pos n = toZ-ofZ (sfits-of (after-signed .signed .ok)) ∙ after-signed .signed .ensures in
+    let h : toZ w64 (ofZ w64 (after-signed .signed .result)) ≡ pos n =
+    toZ-ofZ (sfits-of (after-signed .signed .ok)) ∙ after-signed .signed .ensures in
     let p : within s (pos 0) (pos n) WrongTerm (g .0 .1 .0) ≡ gotOf (after-within .within .result) = rw h at (after-within .within .ensures) in
     let i : after-natural .natural .result ≡ natAbs k = rw f at (after-natural .natural .ensures) in
-    let st : terms s (natAbs k) 0 n [] (b .0 .1 .0) ≡ no (c .before .u2 .given .0 .0) = rw (c .before .u2 .given .1, i) at (after-read-terms .read-terms .ensures) in
+    let st : terms s (natAbs k) 0 n [] (b .0 .1 .0) ≡ no (c .before .u2 .given .0 .0) =
+    rw (c .before .u2 .given .1, i) at (after-read-terms .read-terms .ensures) in
     line-terms s n (x .c .columns) (x .c .at) _ _ 0 (g .0 .0) k [] _ (after-read-row .read-row .ensures ∙ ap rowGotOf (g .1)) (p ∙ ap gotOf (b .1)) st
 
 returns-3 : tie.Need-returns-3
@@ -126,15 +132,18 @@ returns-3 c =
     let s = x .s .now in
     let n : ℕ = x .c .intervals in
     let g = after-g .g .given in
-    let h : toZ w64 (ofZ w64 (after-signed .signed .result)) ≡ pos n = toZ-ofZ (sfits-of (after-signed .signed .ok)) ∙ after-signed .signed .ensures in
+    let h : toZ w64 (ofZ w64 (after-signed .signed .result)) ≡ pos n =
+    toZ-ofZ (sfits-of (after-signed .signed .ok)) ∙ after-signed .signed .ensures in
     let p : within s (pos 0) (pos n) WrongTerm (g .0 .1 .0) ≡ gotOf (after-within .within .result) = rw h at (after-within .within .ensures) in
-    line-count s n (x .c .columns) (x .c .at) _ 0 0 (g .0 .0) (pos 0) [] _ (after-read-row .read-row .ensures ∙ ap rowGotOf (g .1)) (p ∙ ap gotOf (c .before .b2 .given .1))
+    line-count s n (x .c .columns) (x .c .at) _ 0 0 (g .0 .0) (pos 0) [] _ (after-read-row .read-row .ensures ∙ ap rowGotOf (g .1))
+    (p ∙ ap gotOf (c .before .b2 .given .1))
 
 returns-4 : tie.Need-returns-4
 returns-4 c =
     let x = c .before .before .before .before .before .args in
     let s = x .s .now in
-    line-row s (x .c .intervals) (x .c .columns) (x .c .at) 0 0 0 (rowOf 0 (pos 0)) (pos 0) [] _ (c .before .before .before .read-row .ensures ∙ ap rowGotOf (c .before .g2 .given .1))
+    line-row s (x .c .intervals) (x .c .columns) (x .c .at) 0 0 0 (rowOf 0 (pos 0)) (pos 0) [] _
+    (c .before .before .before .read-row .ensures ∙ ap rowGotOf (c .before .g2 .given .1))
 
 pub read-line-spec : {M : Type 1} → statement M
 read-line-spec =

@@ -52,9 +52,13 @@ row-of-requires c κs =
     let k : ℕ = after-a .a .given .0 .0 in
     let v : ℤ = c .before .b .given .0 .0 in
     let b : toZ w64 (ofZ w64 v) ≡ v = back-b c in
-    let l : toZ w64 (ofZ w64 (after-least-number .least-number .result)) ≡ leastNumber (kindOf k) = toZ-ofZ (sfits-of (after-least-number .least-number .ok)) ∙ (after-least-number .least-number .ensures ∙ ap leastNumber (after-kind-of .kind-of .ensures)) in
-    let h : toZ w64 (ofZ w64 (after-positive .positive .result)) ≡ pos maxRight = toZ-ofZ (sfits-of (after-positive .positive .ok)) ∙ after-positive .positive .ensures in
-    let q : within s (leastNumber (kindOf k)) (pos maxRight) Coefficient (after-a .a .given .0 .1 .0) ≡ gotOf (after-within .within .result) = rw (l, h) at (after-within .within .ensures) in
+    let l : toZ w64 (ofZ w64 (after-least-number .least-number .result)) ≡ leastNumber (kindOf k) =
+    toZ-ofZ (sfits-of (after-least-number .least-number .ok)) ∙
+    (after-least-number .least-number .ensures ∙ ap leastNumber (after-kind-of .kind-of .ensures)) in
+    let h : toZ w64 (ofZ w64 (after-positive .positive .result)) ≡ pos maxRight =
+    toZ-ofZ (sfits-of (after-positive .positive .ok)) ∙ after-positive .positive .ensures in
+    let q : within s (leastNumber (kindOf k)) (pos maxRight) Coefficient (after-a .a .given .0 .1 .0) ≡ gotOf (after-within .within .result) =
+    rw (l, h) at (after-within .within .ensures) in
     rw b (number-small s (kindOf k) v (after-a .a .given .0 .1 .0) _ (q ∙ ap gotOf (c .before .b .given .1)))
 
 enum-known-b-2 : tie.Need-enum-known-b-2
@@ -79,9 +83,13 @@ returns c =
     let k : ℕ = a .0 .0 in
     let v : ℤ = after-b .b .given .0 .0 in
     let b : toZ w64 (ofZ w64 v) ≡ v = back-b (c .before) in
-    let l : toZ w64 (ofZ w64 (after-least-number .least-number .result)) ≡ leastNumber (kindOf k) = toZ-ofZ (sfits-of (after-least-number .least-number .ok)) ∙ (after-least-number .least-number .ensures ∙ ap leastNumber (after-kind-of .kind-of .ensures)) in
-    let h : toZ w64 (ofZ w64 (after-positive .positive .result)) ≡ pos maxRight = toZ-ofZ (sfits-of (after-positive .positive .ok)) ∙ after-positive .positive .ensures in
-    let q : within s (leastNumber (kindOf k)) (pos maxRight) Coefficient (a .0 .1 .0) ≡ gotOf (after-within .within .result) = rw (l, h) at (after-within .within .ensures) in
+    let l : toZ w64 (ofZ w64 (after-least-number .least-number .result)) ≡ leastNumber (kindOf k) =
+    toZ-ofZ (sfits-of (after-least-number .least-number .ok)) ∙
+    (after-least-number .least-number .ensures ∙ ap leastNumber (after-kind-of .kind-of .ensures)) in
+    let h : toZ w64 (ofZ w64 (after-positive .positive .result)) ≡ pos maxRight =
+    toZ-ofZ (sfits-of (after-positive .positive .ok)) ∙ after-positive .positive .ensures in
+    let q : within s (leastNumber (kindOf k)) (pos maxRight) Coefficient (a .0 .1 .0) ≡ gotOf (after-within .within .result) =
+    rw (l, h) at (after-within .within .ensures) in
     let r : c .row-of .result ≡ rowOf k v = rw b at (c .row-of .ensures) in
     rw r (row-read s (x .columns) (x .at) _ _ k v (after-read-kind .read-kind .ensures ∙ ap kindGotOf (a .1)) (q ∙ ap gotOf (after-b .b .given .1)))
 
@@ -98,10 +106,15 @@ returns-2 c =
     let s = x .s .now in
     let a = after-a .a .given in
     let k : ℕ = a .0 .0 in
-    let l : toZ w64 (ofZ w64 (after-least-number .least-number .result)) ≡ leastNumber (kindOf k) = toZ-ofZ (sfits-of (after-least-number .least-number .ok)) ∙ (after-least-number .least-number .ensures ∙ ap leastNumber (after-kind-of .kind-of .ensures)) in
-    let h : toZ w64 (ofZ w64 (after-positive .positive .result)) ≡ pos maxRight = toZ-ofZ (sfits-of (after-positive .positive .ok)) ∙ after-positive .positive .ensures in
-    let q : within s (leastNumber (kindOf k)) (pos maxRight) Coefficient (a .0 .1 .0) ≡ gotOf (after-within .within .result) = rw (l, h) at (after-within .within .ensures) in
-    row-number s (x .columns) (x .at) _ 0 k (pos 0) _ (after-read-kind .read-kind .ensures ∙ ap kindGotOf (a .1)) (q ∙ ap gotOf (c .before .b2 .given .1))
+    let l : toZ w64 (ofZ w64 (after-least-number .least-number .result)) ≡ leastNumber (kindOf k) =
+    toZ-ofZ (sfits-of (after-least-number .least-number .ok)) ∙
+    (after-least-number .least-number .ensures ∙ ap leastNumber (after-kind-of .kind-of .ensures)) in
+    let h : toZ w64 (ofZ w64 (after-positive .positive .result)) ≡ pos maxRight =
+    toZ-ofZ (sfits-of (after-positive .positive .ok)) ∙ after-positive .positive .ensures in
+    let q : within s (leastNumber (kindOf k)) (pos maxRight) Coefficient (a .0 .1 .0) ≡ gotOf (after-within .within .result) =
+    rw (l, h) at (after-within .within .ensures) in
+    row-number s (x .columns) (x .at) _ 0 k (pos 0) _ (after-read-kind .read-kind .ensures ∙ ap kindGotOf (a .1))
+    (q ∙ ap gotOf (c .before .b2 .given .1))
 
 returns-3 : tie.Need-returns-3
 returns-3 c =

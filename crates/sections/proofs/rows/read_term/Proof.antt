@@ -66,9 +66,12 @@ returns c =
     let v : ℤ = b .0 .0 in
     let f : toZ w64 (ofZ w64 j) ≡ j = back-a (after-read-coefficient .before) in
     let d : toZ w64 (ofZ w64 v) ≡ v = back-b (c .before) in
-    let l : toZ w64 (ofZ w64 (after-signed .signed .result)) ≡ pos (x .last + 1) = toZ-ofZ (sfits-of (after-signed .signed .ok)) ∙ after-signed .signed .ensures in
-    let h : toZ w64 (ofZ w64 (after-signed2 .signed2 .result)) ≡ pos (x .count) = toZ-ofZ (sfits-of (after-signed2 .signed2 .ok)) ∙ after-signed2 .signed2 .ensures in
-    let p : within s (pos (x .last + 1)) (pos (x .count)) WrongTerm (x .at) ≡ gotOf (after-within .within .result) = rw (l, h) at (after-within .within .ensures) in
+    let l : toZ w64 (ofZ w64 (after-signed .signed .result)) ≡ pos (x .last + 1) =
+    toZ-ofZ (sfits-of (after-signed .signed .ok)) ∙ after-signed .signed .ensures in
+    let h : toZ w64 (ofZ w64 (after-signed2 .signed2 .result)) ≡ pos (x .count) =
+    toZ-ofZ (sfits-of (after-signed2 .signed2 .ok)) ∙ after-signed2 .signed2 .ensures in
+    let p : within s (pos (x .last + 1)) (pos (x .count)) WrongTerm (x .at) ≡ gotOf (after-within .within .result) =
+    rw (l, h) at (after-within .within .ensures) in
     let i : c .natural .result ≡ natAbs j = rw f at (c .natural .ensures) in
     rw (d, i)
     (term-read s (x .last) (x .count) (x .at) _ _ j v (p ∙ ap gotOf (a .1)) (after-read-coefficient .read-coefficient .ensures ∙ ap gotOf (b .1)))
@@ -83,10 +86,14 @@ returns-2 c =
     let x = start .args in
     let s = x .s .now in
     let a = after-a .a .given in
-    let l : toZ w64 (ofZ w64 (after-signed .signed .result)) ≡ pos (x .last + 1) = toZ-ofZ (sfits-of (after-signed .signed .ok)) ∙ after-signed .signed .ensures in
-    let h : toZ w64 (ofZ w64 (after-signed2 .signed2 .result)) ≡ pos (x .count) = toZ-ofZ (sfits-of (after-signed2 .signed2 .ok)) ∙ after-signed2 .signed2 .ensures in
-    let p : within s (pos (x .last + 1)) (pos (x .count)) WrongTerm (x .at) ≡ gotOf (after-within .within .result) = rw (l, h) at (after-within .within .ensures) in
-    term-coefficient s (x .last) (x .count) (x .at) _ 0 (a .0 .0) (pos 0) _ (p ∙ ap gotOf (a .1)) (c .before .before .before .read-coefficient .ensures ∙ ap gotOf (c .before .b2 .given .1))
+    let l : toZ w64 (ofZ w64 (after-signed .signed .result)) ≡ pos (x .last + 1) =
+    toZ-ofZ (sfits-of (after-signed .signed .ok)) ∙ after-signed .signed .ensures in
+    let h : toZ w64 (ofZ w64 (after-signed2 .signed2 .result)) ≡ pos (x .count) =
+    toZ-ofZ (sfits-of (after-signed2 .signed2 .ok)) ∙ after-signed2 .signed2 .ensures in
+    let p : within s (pos (x .last + 1)) (pos (x .count)) WrongTerm (x .at) ≡ gotOf (after-within .within .result) =
+    rw (l, h) at (after-within .within .ensures) in
+    term-coefficient s (x .last) (x .count) (x .at) _ 0 (a .0 .0) (pos 0) _ (p ∙ ap gotOf (a .1))
+    (c .before .before .before .read-coefficient .ensures ∙ ap gotOf (c .before .b2 .given .1))
 
 returns-3 : tie.Need-returns-3
 returns-3 c =
@@ -96,9 +103,12 @@ returns-3 c =
     let start = after-signed .before .before in
     let x = start .args in
     let s = x .s .now in
-    let l : toZ w64 (ofZ w64 (after-signed .signed .result)) ≡ pos (x .last + 1) = toZ-ofZ (sfits-of (after-signed .signed .ok)) ∙ after-signed .signed .ensures in
-    let h : toZ w64 (ofZ w64 (after-signed2 .signed2 .result)) ≡ pos (x .count) = toZ-ofZ (sfits-of (after-signed2 .signed2 .ok)) ∙ after-signed2 .signed2 .ensures in
-    let p : within s (pos (x .last + 1)) (pos (x .count)) WrongTerm (x .at) ≡ gotOf (after-within .within .result) = rw (l, h) at (after-within .within .ensures) in
+    let l : toZ w64 (ofZ w64 (after-signed .signed .result)) ≡ pos (x .last + 1) =
+    toZ-ofZ (sfits-of (after-signed .signed .ok)) ∙ after-signed .signed .ensures in
+    let h : toZ w64 (ofZ w64 (after-signed2 .signed2 .result)) ≡ pos (x .count) =
+    toZ-ofZ (sfits-of (after-signed2 .signed2 .ok)) ∙ after-signed2 .signed2 .ensures in
+    let p : within s (pos (x .last + 1)) (pos (x .count)) WrongTerm (x .at) ≡ gotOf (after-within .within .result) =
+    rw (l, h) at (after-within .within .ensures) in
     term-index s (x .last) (x .count) (x .at) 0 0 (pos 0) (pos 0) _ (p ∙ ap gotOf (c .before .a2 .given .1))
 
 pub read-term-spec : {M : Type 1} → statement M

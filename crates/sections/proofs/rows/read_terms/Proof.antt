@@ -1,5 +1,5 @@
--- `sections::rows::read_terms` meets its contract. The invariant: what is left to read, after the terms done, is what was to be read, and the line holds
--- the terms done. Assumes nothing.
+-- `sections::rows::read_terms` meets its contract. The invariant: what is left to read, after the terms done, is what was to be read, and the line
+-- holds the terms done. Assumes nothing.
 use mathlib.Core.Path.{_≡_, sym, _∙_, ap}
 use mathlib.Core.List.{List, [], _∷_, _++_}
 use Prim.Native.Nat.{ℕ, _+_, _-_, _≤_, _<_}
@@ -75,7 +75,8 @@ sub-c c =
     let at-loop = after-g .before .before .before .before in
     let start = at-loop .before .before in
     let s = start .args .s .now in
-    let b = in-row s (at-loop .loop .p) (at-loop .loop .last) (start .args .count) (after-g .g .given .0 .0) (after-g .g .given .0 .1 .0) (after-g .before .before .read-term .ensures ∙ ap termGotOf (after-g .g .given .1)) in
+    let b = in-row s (at-loop .loop .p) (at-loop .loop .last) (start .args .count) (after-g .g .given .0 .0) (after-g .g .given .0 .1 .0)
+    (after-g .before .before .read-term .ensures ∙ ap termGotOf (after-g .g .given .1)) in
     omega (arith, b .0)
 
 mul-c : tie.Need-mul-c Inv-loop μ-loop
@@ -84,7 +85,8 @@ mul-c c =
     let at-loop = after-g .before .before .before .before in
     let start = at-loop .before .before in
     let s = start .args .s .now in
-    let b = in-row s (at-loop .loop .p) (at-loop .loop .last) (start .args .count) (after-g .g .given .0 .0) (after-g .g .given .0 .1 .0) (after-g .before .before .read-term .ensures ∙ ap termGotOf (after-g .g .given .1)) in
+    let b = in-row s (at-loop .loop .p) (at-loop .loop .last) (start .args .count) (after-g .g .given .0 .0) (after-g .g .given .0 .1 .0)
+    (after-g .before .before .read-term .ensures ∙ ap termGotOf (after-g .g .given .1)) in
     omega (arith, b .1, start .pre .0)
 
 slice-set-from-c : tie.Need-slice-set-from-c Inv-loop μ-loop
@@ -93,7 +95,8 @@ slice-set-from-c c =
     let at-loop = after-g .before .before .before .before in
     let start = at-loop .before .before in
     let s = start .args .s .now in
-    let b = in-row s (at-loop .loop .p) (at-loop .loop .last) (start .args .count) (after-g .g .given .0 .0) (after-g .g .given .0 .1 .0) (after-g .before .before .read-term .ensures ∙ ap termGotOf (after-g .g .given .1)) in
+    let b = in-row s (at-loop .loop .p) (at-loop .loop .last) (start .args .count) (after-g .g .given .0 .0) (after-g .g .given .0 .1 .0)
+    (after-g .before .before .read-term .ensures ∙ ap termGotOf (after-g .g .given .1)) in
     omega (arith, b .0, b .1, at-loop .loop .inv .size, start .pre .0)
 
 enum-known-g-2 : tie.Need-enum-known-g-2 Inv-loop μ-loop
@@ -112,7 +115,8 @@ returns c =
     let s = start .args .s .now in
     let l = at-loop .loop in
     sym (l .inv .rest) ∙
-    terms-stop s (l .last) (start .args .count) (l .inv .done) (l .p) 0 (start .args .k - l .i) _ (omega arith) (c .before .before .before .read-term .ensures ∙ ap termGotOf (c .before .g2 .given .1))
+    terms-stop s (l .last) (start .args .count) (l .inv .done) (l .p) 0 (start .args .k - l .i) _ (omega arith)
+    (c .before .before .before .read-term .ensures ∙ ap termGotOf (c .before .g2 .given .1))
 
 add-i : tie.Need-add-i Inv-loop μ-loop
 add-i c = omega arith
@@ -131,7 +135,8 @@ loop-again c =
     let e : ℕ = after-g .g .given .0 .1 .0 in
     let a : toZ w64 (ofZ w64 (t .coefficient)) ≡ t .coefficient = search needs in
     let h = after-g .before .before .read-term .ensures ∙ ap termGotOf (after-g .g .given .1) in
-    rw a (more s (start .args .at) (start .args .k) (start .args .count) (start .args .line .now) (l .i) (l .p) (l .last) (l .line) t e (l .inv) (omega arith) h)
+    rw a (more s (start .args .at) (start .args .k) (start .args .count) (start .args .line .now) (l .i) (l .p) (l .last) (l .line) t e (l .inv)
+    (omega arith) h)
 
 same-length-2 : tie.Need-same-length-2 Inv-loop μ-loop
 same-length-2 c = c .before .loop .inv .size ∙ sym (c .before .before .before .pre .1)

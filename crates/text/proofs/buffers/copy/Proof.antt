@@ -1,4 +1,5 @@
--- `text::buffers::copy` meets its contract: the part from the place on is copied over, and comes back between what stood before and behind it. Assumes nothing.
+-- `text::buffers::copy` meets its contract: the part from the place on is copied over, and comes back between what stood before and behind it.
+-- Assumes nothing.
 use Prim.Native.Nat.{_+_}
 use native.Mathlib.Omega.{arith}
 use borrow.Author.Needs.{needs}

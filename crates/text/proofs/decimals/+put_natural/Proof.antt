@@ -1,4 +1,5 @@
--- `text::decimals::put_natural` meets its contract: the digits of the tenth and then the last are the definition's, and a tenth is less. Assumes nothing.
+-- `text::decimals::put_natural` meets its contract: the digits of the tenth and then the last are the definition's, and a tenth is less.
+-- Assumes nothing.
 use mathlib.Core.Path.{ap, subst}
 use Prim.Native.Nat.{_/_, _≤_, ℕ, _<_}
 use native.Mathlib.Nat.{mod-lt}
@@ -61,8 +62,10 @@ put-natural-put-natural-requires : (t : ℕ) → put-natural-lts.Need-put-natura
 ) (put-natural-at t) put-natural.Post
 put-natural-put-natural-requires t c κs =
     let n = c .before .before .before .args .n in
-    let h : 10 ≤ n = c .before .if1 .left in
-    (subst (λ (k : ℕ). n / 10 < k) (c .before .before .before .pre .0) (tenth-less n h), omega (arith, length-more n h, c .before .before .before .pre .1))
+    let h : 10 ≤ n = c .before .if1 .left in (
+      subst (λ (k : ℕ). n / 10 < k) (c .before .before .before .pre .0) (tenth-less n h),
+      omega (arith, length-more n h, c .before .before .before .pre .1),
+    )
 
 put-natural-digit-requires-2 : (t : ℕ) → put-natural-lts.Need-digit-requires-2 (
   digit-reads.Asked,

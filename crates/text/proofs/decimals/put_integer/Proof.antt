@@ -23,7 +23,8 @@ slice-aggregate-put c = search needs
 put-requires : tie.Need-put-requires
 put-requires c κs =
     let v : ℤ = c .before .before .before .before .before .args .v in
-    let t : ltZ v (pos 0) ≡ true = cc (toZ-ofZ (c .before .before .before .before .before .fits .v), c .before .before .before .less .ensures, c .before .before .if1 .taken) in
+    let t : ltZ v (pos 0) ≡ true =
+    cc (toZ-ofZ (c .before .before .before .before .before .fits .v), c .before .before .before .less .ensures, c .before .before .if1 .taken) in
     omega (arith, ap length (integer-low v t), c .before .before .before .before .before .pre)
 
 magnitude-requires : tie.Need-magnitude-requires
@@ -38,7 +39,14 @@ put-natural-requires c κs =
     let v : ℤ = start .args .v in
     let t : ltZ v (pos 0) ≡ true = cc (toZ-ofZ (start .fits .v), after-less .less .ensures, then1 .if1 .taken) in
     let a : c .magnitude .result ≡ natAbs v = cc (toZ-ofZ (start .fits .v), c .magnitude .ensures) in
-    omega (arith, ap length (integer-low v t), ap (λ (m : ℕ). length (natural m)) a, after-put .put .ensures .next, after-put .put .kept .0, start .pre)
+    omega (
+      arith,
+      ap length (integer-low v t),
+      ap (λ (m : ℕ). length (natural m)) a,
+      after-put .put .ensures .next,
+      after-put .put .kept .0,
+      start .pre,
+    )
 
 magnitude-requires-2 : tie.Need-magnitude-requires-2
 magnitude-requires-2 c κs = search needs
@@ -46,7 +54,8 @@ magnitude-requires-2 c κs = search needs
 put-natural-requires-2 : tie.Need-put-natural-requires-2
 put-natural-requires-2 c κs =
     let v : ℤ = c .before .before .before .before .before .args .v in
-    let t : ltZ v (pos 0) ≡ false = cc (toZ-ofZ (c .before .before .before .before .before .fits .v), c .before .before .before .less .ensures, c .before .before .if1 .left) in
+    let t : ltZ v (pos 0) ≡ false =
+    cc (toZ-ofZ (c .before .before .before .before .before .fits .v), c .before .before .before .less .ensures, c .before .before .if1 .left) in
     let a : c .magnitude2 .result ≡ natAbs v = cc (toZ-ofZ (c .before .before .before .before .before .fits .v), c .magnitude2 .ensures) in
     omega (arith, ap length (integer-high v t), ap (λ (m : ℕ). length (natural m)) a, c .before .before .before .before .before .pre)
 
@@ -63,7 +72,9 @@ returns c =
     let v : ℤ = start .args .v in
     let t : ltZ v (pos 0) ≡ true = cc (toZ-ofZ (start .fits .v), after-less .less .ensures, then1 .if1 .taken) in
     let a : after-magnitude .magnitude .result ≡ natAbs v = cc (toZ-ofZ (start .fits .v), after-magnitude .magnitude .ensures) in
-    rw (integer-low v t) (wrote-then (after-put .put .ensures) (rw a at (c .before .before .put-natural .ensures)) (omega (arith, ap length (integer-low v t), start .pre)))
+    rw (integer-low v t)
+    (wrote-then (after-put .put .ensures) (rw a at (c .before .before .put-natural .ensures))
+    (omega (arith, ap length (integer-low v t), start .pre)))
 
 same-length-2 : tie.Need-same-length-2
 same-length-2 c = search needs

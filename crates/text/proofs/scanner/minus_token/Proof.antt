@@ -19,7 +19,11 @@ negative-requires : tie.Need-negative-requires
 negative-requires c κs =
     let after-p = c .before .before in
     let start = after-p .before .before .before .before in
-    omega (arith, plain-below (start .args .w .now) (after-p .p .given .0 .0) (sym (after-p .before .before .plain-worth .ensures) ∙ after-p .p .given .1))
+    omega (
+      arith,
+      plain-below (start .args .w .now) (after-p .p .given .0 .0)
+          (sym (after-p .before .before .plain-worth .ensures) ∙ after-p .p .given .1),
+    )
 
 enum-told : tie.Need-enum-told
 enum-told c = search needs
@@ -40,7 +44,8 @@ returns-2 c =
     sym (minus-is (start .args .w .now) (after-p .p .given .0 .0) h ∙ (rw (ne-eqb _ _ (c .before .if1 .left))))
 
 returns-3 : tie.Need-returns-3
-returns-3 c = sym (minus-not (c .before .before .before .before .args .w .now) (sym (c .before .before .plain-worth .ensures) ∙ c .enum-told .given .1))
+returns-3 c =
+    sym (minus-not (c .before .before .before .before .args .w .now) (sym (c .before .before .plain-worth .ensures) ∙ c .enum-told .given .1))
 
 pub minus-token-spec : {M : Type 1} → statement M
 minus-token-spec =

@@ -36,7 +36,8 @@ returns c =
     let x = start .args in
     let a = after-stretch-end .stretch-end in
     let e = c .before .before .stretch-end2 in
-    sym (next-is (x .s .now) (x .at) (a .result) (e .result) _ (a .ensures) (c .before .before .before .if1 .taken) (e .ensures) (c .token-of .ensures))
+    sym (next-is (x .s .now) (x .at) (a .result) (e .result) _ (a .ensures) (c .before .before .before .if1 .taken) (e .ensures)
+    (c .token-of .ensures))
 
 returns-2 : tie.Need-returns-2
 returns-2 c =

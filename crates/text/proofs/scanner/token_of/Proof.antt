@@ -40,7 +40,9 @@ returns-2 c =
     c .minus-token .ensures ∙ ap afterMinus p ∙ sym (token-minus w (else1 .if1 .left) (c .before .before .if2 .taken))
 
 returns-3 : tie.Need-returns-3
-returns-3 c = c .unsigned-token .ensures ∙ sym (token-plain (c .before .before .before .before .before .args .w .now) (c .before .before .before .if1 .left) (c .before .if2 .left))
+returns-3 c =
+    c .unsigned-token .ensures ∙
+    sym (token-plain (c .before .before .before .before .before .args .w .now) (c .before .before .before .if1 .left) (c .before .if2 .left))
 
 pub token-of-spec : {M : Type 1} → statement M
 token-of-spec =

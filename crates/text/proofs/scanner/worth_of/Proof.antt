@@ -15,7 +15,8 @@ use Rattle.text.proofs.scanner.worth_of.Statement.{statement}
 use Rattle.text.proofs.scanner.worth_of.Tie as tie
 
 abbrev Inv-loop : tie.InvT-loop
-Inv-loop w v₀ i₀ i-end v i = (i ≤ length w) × (v < 10 ^ i) × (cond (allDigits (drop i w)) (Digits (value v (drop i w))) Other ≡ cond (allDigits w) (Digits (value 0 w)) Other)
+Inv-loop w v₀ i₀ i-end v i =
+    (i ≤ length w) × (v < 10 ^ i) × (cond (allDigits (drop i w)) (Digits (value v (drop i w))) Other ≡ cond (allDigits w) (Digits (value 0 w)) Other)
 
 abbrev μ-loop : tie.MeasureT-loop
 μ-loop w v₀ i₀ i-end v i = length w - i
@@ -64,7 +65,8 @@ loop-again c =
     )
 
 returns-2 : tie.Need-returns-2 Inv-loop μ-loop
-returns-2 c = sym (worth-none (c .before .before .before .args .w .now) (c .before .loop .i) (c .before .loop .v) (omega arith)) ∙ c .before .loop .inv .2
+returns-2 c =
+    sym (worth-none (c .before .before .before .args .w .now) (c .before .loop .i) (c .before .loop .v) (omega arith)) ∙ c .before .loop .inv .2
 
 pub worth-of-spec : {M : Type 1} → statement M
 worth-of-spec =
