@@ -1,5 +1,8 @@
--- Laws of the lists that leave the reader's tables: rows as narrow as the problem, and one number of each column. Assumes nothing.
--- ---- a row's coefficients
+-- Laws of the lists that leave the reader's tables.
+--   compacted-more, -end, -is   rows as narrow as the problem: a row at a time, and those of the widest rows
+--   entry-drop                  a number behind others
+--   picked-more, -end, -is      one number of each column: a column at a time, and those of columns side by side
+-- Assumes nothing.
 use mathlib.Core.Path.{_≡_, refl, sym, ap, _∙_}
 use mathlib.Core.List.{List, [], _∷_, _++_, map, append-assoc}
 use Prim.Native.Nat.{ℕ, zero, suc, _+_, _-_, _*_, _≤_, _<_}
@@ -17,7 +20,7 @@ use Rattle.sections.specs.declared.Term.{Term}
 use Rattle.sections.proofs.Storage.{length-row}
 use Rattle.deck.specs.ReaderTables.{compacted, picked}
 
--- the first n numbers of a wider row are the row of n
+-- ---- a row's coefficients: the first n numbers of a wider row are the row of n
 take-set : (n : ℕ) (u : List ℤ) (i : ℕ) (x : ℤ) → take n (set u i x) ≡ set (take n u) i x
 take-set zero u i x = refl
 take-set (suc n) [] i x = refl

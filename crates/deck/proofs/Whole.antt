@@ -1,15 +1,22 @@
--- A whole text: what its sections left in the tables is the deck that they state, and what the call then leaves. Assumes nothing.
--- ---- what a section answered
+-- A whole text: what its sections left in the tables is the deck that they state, and what the call then leaves.
+--   IntervalsFound, intervals-found, -refused   what the section of intervals answered; few-intervals, which are not too many
+--   RowsFound, rows-found, -refused             what the section of rows answered
+--   left-some, left-none                        what is left of the text
+--   deck-intervals, deck-rows, left-over        a deck whose sections are refused, or that something is left behind
+--   stored                                      a deck that is read, in the tables
+--   read-short, -long, -is, -not                the call by what it meets
+--   Largest, sizes                              the lengths that fit
+--   accepting                                   an accepted text, whose tables went out into lent lists
+-- Assumes nothing.
 use mathlib.Core.Path.{_≡_, refl, sym, ap, _∙_, subst}
 use mathlib.Core.Bool.{true, false}
 use mathlib.Core.List.{List, _++_, map}
 use Prim.Native.Nat.{ℕ, _+_, _-_, _*_, _≤_, _<_}
 use native.Mathlib.Omega.{arith}
-use native.Mathlib.Nat.{mul-le-mul}
 use borrow.Author.Tests.{eqb-true, lt-ltb, le-ltb}
 use lib.Dec.{T, eqb}
-use lib.IntN.{ℤ, pos}
-use lib.ListN.{length, take, drop, replicate, length-append, length-map}
+use lib.IntN.{ℤ}
+use lib.ListN.{length, take, drop, length-append, length-map}
 use lib.Seq.{length-take-le}
 use Rattle.whole.specs.Lists.{zeros, entry}
 use Rattle.whole.proofs.Tests.{both-true}
@@ -23,7 +30,8 @@ use Rattle.problem.specs.declared.Refusal.{Refusal}
 use Rattle.problem.specs.declared.Refusal.the-variants.{Length, Layout}
 use Rattle.sections.specs.Rules.{Outcome, ok, no, then, onEnd, closed}
 use Rattle.sections.specs.Sections.{deckColumns, deckRows, coefficientCount, maxText, Line, intervalSection, rowSection}
-use Rattle.sections.specs.StatedColumns.{lowerOf, upperOf, goalOf, rightOf, slackColumns, coefficientRows, columnWidth, columnCells, cell, cells, padded}
+use Rattle.sections.specs.StatedColumns.{lowerOf, upperOf, goalOf, rightOf, slackColumns, coefficientRows}
+use Rattle.sections.specs.StatedColumns.{columnWidth, columnCells, cell, cells, padded}
 use Rattle.sections.specs.SectionsRead.{cursor, IntervalsDone, intervalsDone, intervalsLeft, RowsDone, rowsDone, rowsLeft}
 use Rattle.sections.specs.declared.Interval.{Interval}
 use Rattle.sections.specs.declared.Cursor.{Cursor}
@@ -33,10 +41,10 @@ use Rattle.deck.specs.Posing.{Deck, deck, readDeck, columnsOf, posed}
 use Rattle.deck.specs.Reader.{DeckBuffers, deckBuffers, readDone, lengthsFit, turnedBack, accepted, read}
 use Rattle.deck.specs.ReaderTables.{noneLeft, DeckStored, compacted, picked}
 use Rattle.deck.specs.declared.Reading.the-variants.{Read}
-use Rattle.text.proofs.Copying.{written-all}
-use Rattle.sections.proofs.Storage.{padded-written, from-blank, wiped, cells-two, length-cells, length-rows}
+use Rattle.sections.proofs.Storage.{padded-written, from-blank, wiped, cells-two, length-cells, length-rows, few-cells}
 use Rattle.deck.proofs.Lists.{compacted-is, picked-is}
 
+-- ---- what a section answered
 abbrev isRead : Section → ℕ
 isRead (section.Read c) = 1
 isRead (section.Refused why) = 0
@@ -57,7 +65,8 @@ pub record IntervalsFound (o : Outcome (List Interval)) (p : Cursor) (k : List �
   pub rows : p .rows ≡ 0
   pub columns-is : k ≡ padded columnCells (cells is)
 
-pub intervals-found : (o : Outcome (List Interval)) (p : Cursor) (k : List ℤ) → intervalsDone (section.Read p) k ≡ intervalsLeft o → IntervalsFound o p k
+pub intervals-found : (o : Outcome (List Interval)) (p : Cursor) (k : List ℤ) → intervalsDone (section.Read p) k ≡ intervalsLeft o
+    → IntervalsFound o p k
 intervals-found (ok is e) p k h =
     let c : p ≡ cursor e (length is) (length is) 0 = ap (λ (x : IntervalsDone). cursorOf (x .section)) h in
     record {
@@ -70,7 +79,8 @@ intervals-found (ok is e) p k h =
     }
 intervals-found (no why) p k h = never (sym (ap (λ (x : IntervalsDone). isRead (x .section)) h))
 
-pub intervals-refused : (o : Outcome (List Interval)) (why : Refusal) (k : List ℤ) → intervalsDone (section.Refused why) k ≡ intervalsLeft o → o ≡ no why
+pub intervals-refused : (o : Outcome (List Interval)) (why : Refusal) (k : List ℤ) → intervalsDone (section.Refused why) k ≡ intervalsLeft o
+    → o ≡ no why
 intervals-refused (ok is e) why k h = never (ap (λ (x : IntervalsDone). isRead (x .section)) h)
 intervals-refused (no w) why k h = ap no (sym (ap (λ (x : IntervalsDone). reason (x .section)) h))
 
@@ -129,7 +139,8 @@ module _ (s : List ℕ) where
   pub deck-intervals : (why : Refusal) → intervalSection s 0 ≡ no why → deck s ≡ no why
   deck-intervals why p = ap afterIntervals p
 
-  pub deck-rows : (is : List Interval) (at : ℕ) (why : Refusal) → intervalSection s 0 ≡ ok is at → rowSection s (length is) at ≡ no why → deck s ≡ no why
+  pub deck-rows : (is : List Interval) (at : ℕ) (why : Refusal) → intervalSection s 0 ≡ ok is at → rowSection s (length is) at ≡ no why
+      → deck s ≡ no why
   deck-rows is at why p q = ap afterIntervals p ∙ ap (afterRows is) q
 
   deck-read : (is : List Interval) (ls : List Line) (p q : ℕ) → intervalSection s 0 ≡ ok is p → rowSection s (length is) p ≡ ok ls q
@@ -147,7 +158,8 @@ fits-written o u w at e h l =
     let c = length-take-le at o h in
     omega arith
 
-pub few-intervals : {o : Outcome (List Interval)} {p : Cursor} {k : List ℤ} → IntervalsFound o p k → length k ≡ columnCells → p .intervals ≤ deckColumns
+pub few-intervals : {o : Outcome (List Interval)} {p : Cursor} {k : List ℤ} → IntervalsFound o p k → length k ≡ columnCells
+    → p .intervals ≤ deckColumns
 few-intervals i h = omega (arith, i .intervals, length-cells (i .is), fits-padded columnCells _ (cells (i .is)) (i .columns-is) h)
 
 module _ (s : List ℕ) (p c : Cursor) (k k' b t : List ℤ) (i : IntervalsFound (intervalSection s 0) p k)
@@ -160,7 +172,8 @@ module _ (s : List ℕ) (p c : Cursor) (k k' b t : List ℤ) (i : IntervalsFound
   pub left-over : noneLeft (nextAt s (c .at)) ≡ false → deck s ≡ no Layout
   left-over h = sections ∙ closed-not (record { intervals = i .is; lines = w .ls }) (c .at) (nextAt s (c .at)) h
 
-  pub stored : length k ≡ columnCells → length k' ≡ columnCells → length b ≡ deckRows → noneLeft (nextAt s (c .at)) ≡ true → DeckStored (deck s) c k' b t
+  pub stored : length k ≡ columnCells → length k' ≡ columnCells → length b ≡ deckRows → noneLeft (nextAt s (c .at)) ≡ true
+      → DeckStored (deck s) c k' b t
   stored hk hk' hb h =
       let ys : List Interval = slackColumns (w .ls) in
       let m : length (i .is) ≡ p .intervals = sym (i .intervals) in
@@ -225,44 +238,41 @@ sizes B h =
       goals = eqb-true (length (B .goals)) deckColumns (d .1);
     }
 
--- a list copied out
-list-is : (size : ℕ) (o o' w p : List ℤ) → length o ≡ size → length w ≡ size → o' ≡ overwritten o 0 w → w ≡ p → o' ≡ p
-list-is size o o' w p a b e f = e ∙ (written-all o w (b ∙ sym a) ∙ f)
-
 -- one number of each column
 column-is : (f : ℕ) (g : Interval → ℤ) → ((i : Interval) (r : List ℤ) → entry f (cell i ++ r) ≡ g i) → (k o : List ℤ) (is : List Interval)
     → length is ≤ deckColumns → k ≡ padded columnCells (cells is) → o ≡ picked f deckColumns k → o ≡ padded deckColumns (map g is)
 column-is f g each k o is h e p =
     p ∙
     (ap (picked f deckColumns) e ∙
-    (picked-is f g each is deckColumns (columnCells - length (cells is)) h ∙ ap (λ (j : ℕ). map g is ++ zeros (deckColumns - j)) (sym (length-map is g))))
+    (picked-is f g each is deckColumns (columnCells - length (cells is)) h ∙
+    ap (λ (j : ℕ). map g is ++ zeros (deckColumns - j)) (sym (length-map is g))))
 
 -- the coefficients: cleared, and then the first n of each row
 table-is : (o o₁ o₂ t : List ℤ) (n m c : ℕ) (ls : List Line) → length o ≡ coefficientCount → n ≤ deckColumns → m ≤ deckRows → m ≡ length ls
-    → o₁ ≡ overwritten o 0 (replicate (coefficientCount - 0) (pos 0)) → o₂ ≡ overwritten o₁ 0 (compacted n m 0 t)
+    → o₁ ≡ zeros (length o) → o₂ ≡ overwritten o₁ 0 (compacted n m 0 t)
     → t ≡ padded coefficientCount (coefficientRows deckColumns c ls) → o₂ ≡ padded coefficientCount (coefficientRows n c ls)
 table-is o o₁ o₂ t n m c ls a h k q e f x =
     let y : compacted n m 0 t ≡ coefficientRows n c ls =
     ap (λ (j : ℕ). compacted n j 0 t) q ∙ compacted-is n c 0 ls t (zeros (coefficientCount - length (coefficientRows deckColumns c ls))) h x in
-    from-blank coefficientCount o₁ o₂ (coefficientRows n c ls) (omega (arith, length-rows n c ls, few-cells n (length ls) h (rw q at k))) (wiped coefficientCount o o₁ a e) (f ∙ ap (overwritten o₁ 0) y)
-  where
-    few-cells : (n m : ℕ) → n ≤ deckColumns → m ≤ deckRows → m * n ≤ coefficientCount
-    few-cells n m h k = mul-le-mul k h
+    let s : length (coefficientRows n c ls) ≤ coefficientCount = omega (arith, length-rows n c ls, few-cells n (length ls) h (rw q at k)) in
+    from-blank coefficientCount o₁ o₂ (coefficientRows n c ls) s (wiped coefficientCount o o₁ a e) (f ∙ ap (overwritten o₁ 0) y)
 
 -- an accepted text, whose tables k, b and t went out into lent lists of the largest size
 pub accepting : (s : List ℕ) (B : DeckBuffers) (c : Cursor) (k b t o₁ c' b' l' u' g' : List ℤ) → lengthsFit B ≡ true → length s ≤ maxText
-    → DeckStored (deck s) c k b t → length b ≡ deckRows → o₁ ≡ overwritten (B .coefficients) 0 (replicate (coefficientCount - 0) (pos 0))
-    → c' ≡ overwritten o₁ 0 (compacted (c .columns) (c .rows) 0 t) → b' ≡ overwritten (B .rights) 0 b → l' ≡ picked 0 deckColumns k
-    → u' ≡ picked 1 deckColumns k → g' ≡ picked 2 deckColumns k → readDone (Read (c .columns) (c .rows)) (deckBuffers c' b' l' u' g') ≡ read s B
+    → DeckStored (deck s) c k b t → o₁ ≡ zeros (length (B .coefficients)) → c' ≡ overwritten o₁ 0 (compacted (c .columns) (c .rows) 0 t) → b' ≡ b
+    → l' ≡ picked 0 deckColumns k → u' ≡ picked 1 deckColumns k → g' ≡ picked 2 deckColumns k
+    → readDone (Read (c .columns) (c .rows)) (deckBuffers c' b' l' u' g') ≡ read s B
 unfolding posed
-accepting s B c k b t o₁ c' b' l' u' g' f h st hb e₁ e₂ eb el eu eg =
+accepting s B c k b t o₁ c' b' l' u' g' f h st e₁ e₂ eb el eu eg =
     let z = sizes B f in
     let d = st .deck in
     let n : length (columnsOf d) ≤ deckColumns = omega (arith, st .few, st .columns) in
+    let i : ℕ = length (d .intervals) in
     let pc =
-    table-is (B .coefficients) o₁ c' t (c .columns) (c .rows) (length (d .intervals)) (d .lines) (z .coefficients) (st .few) (st .few-rows) (st .rows) e₁ e₂ (st .table-is) ∙
-    ap (λ (j : ℕ). padded coefficientCount (coefficientRows j (length (d .intervals)) (d .lines))) (st .columns) in
-    let pb = list-is deckRows (B .rights) b' b _ (z .rights) hb eb (st .rights-is) in
+    table-is (B .coefficients) o₁ c' t (c .columns) (c .rows) i (d .lines) (z .coefficients) (st .few) (st .few-rows) (st .rows) e₁ e₂
+    (st .table-is) ∙
+    ap (λ (j : ℕ). padded coefficientCount (coefficientRows j i (d .lines))) (st .columns) in
+    let pb = eb ∙ st .rights-is in
     let pl = column-is 0 lowerOf (λ i r. refl) k l' (columnsOf d) n (st .columns-is) el in
     let pu = column-is 1 upperOf (λ i r. refl) k u' (columnsOf d) n (st .columns-is) eu in
     let pg = column-is 2 goalOf (λ i r. refl) k g' (columnsOf d) n (st .columns-is) eg in

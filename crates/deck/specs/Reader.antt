@@ -3,8 +3,9 @@
 --   DeckBuffers    the lent buffers; `deckBuffers` makes one of five lists
 --   Reading        what is returned: n and m, or the refusal (declared in src/)
 --   ReadDone       what is returned, and what the buffers then hold; `readDone` makes one of both. A refused text leaves them as they were
---   largest ..     the lengths of the five buffers are those of the largest
---   read s B       the reader on the text s
+--   largest ..     the lengths of the five buffers are those of the largest; lengthsFit, of the buffers themselves
+--   filled P       the buffers that hold the problem P
+--   read s B       the reader on the text s: turnedBack, or accepted; onDeck, by the deck that it states
 -- Assumes nothing.
 use mathlib.Core.Bool.{Bool, cond, _&&_}
 use mathlib.Core.List.{List}

@@ -1,6 +1,6 @@
 -- What the reader's functions answer and leave.
 --   noneLeft n        no token is next
---   DeckRead          what a whole text was, as an outcome, with what it left in the reader's tables where it was not refused
+--   DeckRead          what a whole text was, as an outcome, with what it left in the reader's tables where it was not refused: DeckStored
 --   compacted n k i t the first n of each row of the table t, for k rows from row i on
 --   picked f k t      the number at place f of each column, for the first k columns of the table t
 -- Assumes nothing.

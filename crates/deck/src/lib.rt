@@ -8,8 +8,8 @@ use sections::Sizes;
 use sections::intervals::read_intervals;
 use sections::rows::read_rows;
 use text::Next;
-use text::buffers::copy;
-use text::buffers::fill;
+use whole::buffers::copy;
+use whole::buffers::wipe;
 ghost use mathlib.Core.Path.{_≡_};
 ghost use Rattle.text.specs.Positions.{nextAt};
 ghost use Rattle.sections.specs.Sections.{deckRows, coefficientCount};
@@ -115,8 +115,8 @@ pub fn read_deck(
             tables::pick(&k, Interval::LOWER, lower);
             tables::pick(&k, Interval::UPPER, upper);
             tables::pick(&k, Interval::GOAL, goals);
-            copy(rights, 0, &b);
-            fill(coefficients, 0, Sizes::COEFFICIENTS, 0);
+            copy(rights, &b);
+            wipe(coefficients);
             tables::compact(&t, n, m, coefficients);
             Reading::Read(n, m)
         }

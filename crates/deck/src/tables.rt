@@ -10,7 +10,7 @@ ghost use Rattle.sections.specs.StatedColumns.{columnWidth, columnCells};
 ghost use Rattle.deck.specs.ReaderTables.{compacted, picked};
 
 // The first n of each row's coefficients, without gaps.
-pub fn compact(table: &[i64], n: usize, m: usize, out: &mut [i64])
+pub(crate) fn compact(table: &[i64], n: usize, m: usize, out: &mut [i64])
     requires { ⌜ (n ≤ deckColumns) × (m ≤ deckRows) ⌝ }
     requires { ⌜ (length (now table) ≡ coefficientCount) × (length (now out) ≡ coefficientCount) ⌝ }
     ensures { λ _. ⌜ now (out .exit) ≡ overwritten (now (out .entry)) 0 (compacted n m 0 (now (table .entry))) ⌝ }
@@ -25,7 +25,7 @@ pub fn compact(table: &[i64], n: usize, m: usize, out: &mut [i64])
 }
 
 // The number at one place of each column.
-pub fn pick(columns: &[i64], place: usize, out: &mut [i64])
+pub(crate) fn pick(columns: &[i64], place: usize, out: &mut [i64])
     requires { ⌜ place < columnWidth ⌝ }
     requires { ⌜ (length (now columns) ≡ columnCells) × (length (now out) ≡ deckColumns) ⌝ }
     ensures { λ _. ⌜ now (out .exit) ≡ picked place deckColumns (now (columns .entry)) ⌝ }

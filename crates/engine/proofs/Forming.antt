@@ -93,17 +93,7 @@ module _ (P : Posed) (L : Lent) (q : Passes P L) where
     laid-basis = ap (basis (m P)) laid-table
 
     laid-within : Within t
-<<<<<<< ours
     laid-within = subst Within (sym (a .is)) (flat-all (formed P .table) (form-within (a .kept)))
-=======
-    unfolding form
-    laid-within =
-        let z : length (zeros (L .tableau)) ≡ L .tableau = length-replicate (L .tableau) (pos 0) in
-        subst Within (sym (a .is))
-        (flat-all (formed P .table)
-        (eliminate-all (length (matrix P) + n P) (tableau (n P) (matrix P))
-        (all-flat (tableau (n P) (matrix P)) (table-within (formable (zeros (L .tableau)) z))) (a .kept)))
->>>>>>> theirs
 
     pub laid-parted : Parted (P .problem) t
     laid-parted = record {

@@ -7,12 +7,12 @@ ghost use Rattle.settling.specs.Views.{vectors};
 ghost use Rattle.engine.specs.Finish.{finishedWith, settledBy, settledOver, finished, Finishable};
 ghost use Rattle.engine.specs.Placed.{Placed, Stridable};
 use crate::views::basis_place;
-use lattice::copy;
 use problem::Answer;
 use problem::Problem;
 use problem::Refusal;
 use settling::Basis;
 use settling::seating::seat;
+use whole::buffers::copy;
 
 // Settles the values over a basis, and gives its strides.
 fn settle_on(

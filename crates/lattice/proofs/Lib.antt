@@ -1,5 +1,4 @@
 -- The root of the laws that the proofs cite.
-pub mod Writing
 pub mod Scanning
 pub mod LentParts
 pub mod Coset

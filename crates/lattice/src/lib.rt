@@ -1,32 +1,7 @@
 ghost use mathlib.Core.Path.{_≡_};
 ghost use Prim.Native.Nat.{_+_};
-ghost use lib.ListN.{length, drop};
-ghost use Rattle.whole.specs.Lists.{zeros};
+ghost use lib.ListN.{drop};
 ghost use Rattle.lattice.specs.Rows as Rows;
-
-// Copies a row onto one of the same length.
-pub fn copy(to: &mut [i64], from: &[i64])
-    requires { ⌜ length (now to) ≡ length (now from) ⌝ }
-    ensures { λ _. ⌜ now (to .exit) ≡ now (from .entry) ⌝ }
-{
-    let mut i = 0;
-    while i < from.len() {
-        let x = from[i];
-        to[i] = x;
-        i += 1;
-    }
-}
-
-// Sets every number to 0.
-pub fn wipe(row: &mut [i64])
-    ensures { λ _. ⌜ now (row .exit) ≡ zeros (length (now (row .entry))) ⌝ }
-{
-    let mut i = 0;
-    while i < row.len() {
-        row[i] = 0;
-        i += 1;
-    }
-}
 
 // The column of the first number other than 0 at `from` or behind; the row's length if there is none, and `from` if that lies behind its end.
 pub fn lead_from(row: &[i64], from: usize) -> usize

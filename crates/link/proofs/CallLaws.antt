@@ -1,5 +1,5 @@
--- The laws of specs/Calls.
---   called-told, called-untold   which of the two it is
+-- What a call for C comes to by the length of the report.
+--   called-told, called-untold   the call's own answer, or refusal 2
 -- Assumes nothing.
 use mathlib.Core.Path.{_≡_}
 use mathlib.Core.List.{List}

@@ -1,5 +1,5 @@
--- The laws of specs/Reads.
---   read-called-told, read-called-untold   which of the two it is
+-- What the reader's call for C comes to by the length of the sizes.
+--   read-called-told, read-called-untold   the reader's own answer, or refusal 2
 -- Assumes nothing.
 use mathlib.Core.Path.{_≡_}
 use mathlib.Core.List.{List}

@@ -1,6 +1,7 @@
 -- The calls as C makes them: what they return and what they leave in each lent buffer.
+--   problemOf n m limit   a problem's numbers as one value
 --   verdictNumber a    1 FITTED, 2 OUTSIDE, 3 SPENT; 0 with a refusal
---   reportOf a         the three numbers that tell of a: the verdict's, and the steps of the two parts
+--   reportOf a         the reportLength numbers that tell of a: the verdict's, and the steps of the two parts
 --   Called             what a call returns, and what the buffers that it fills and the report then hold; `returned` makes one of the three
 --   told d             of a whole assignment or a Continue that has done d: the refusal's number, 0 for a verdict, and the report
 --   untold B r         where the report r has a wrong length: refusal 2, "nothing changed"

@@ -1,6 +1,6 @@
 -- The reader as C calls it: what it returns and what it leaves in each lent buffer.
 --   readingNumber r   0 for a text that is read, or the refusal's number
---   sizesOf r         the two numbers that tell of r: n and m; 0 and 0 with a refusal
+--   sizesOf r         the sizesLength numbers that tell of r: n and m; 0 and 0 with a refusal
 --   ReadCalled        what the call returns, and what the buffers that it fills and the sizes then hold; `readReturned` makes one of the three
 --   readTold d        of a reader that has done d: the number, the five buffers of a problem, and the sizes
 --   readUntold B z    where the sizes z have a wrong length: refusal 2, "nothing changed"

@@ -54,7 +54,8 @@ pub extern "C" fn koralimbu_assign(
 ) -> u32
     ensures { λ r. ⌜ returned r (buffers (now (tableau .exit)) (now (values .exit)) (now (strides .exit))) (now (report .exit))
         ≡ called assign
-        (posedBy (problemOf n m limit) (now (coefficients .entry)) (now (rights .entry)) (now (lower .entry)) (now (upper .entry)) (now (goals .entry)))
+        (posedBy (problemOf n m limit) (now (coefficients .entry)) (now (rights .entry))
+        (now (lower .entry)) (now (upper .entry)) (now (goals .entry)))
         (buffers (now (tableau .entry)) (now (values .entry)) (now (strides .entry))) (now (report .entry)) ⌝ }
 {
     if report.len() != REPORT {
@@ -98,7 +99,8 @@ pub extern "C" fn koralimbu_continue(
 ) -> u32
     ensures { λ r. ⌜ returned r (buffers (now (tableau .exit)) (now (values .exit)) (now (strides .exit))) (now (report .exit))
         ≡ called continue
-        (posedBy (problemOf n m limit) (now (coefficients .entry)) (now (rights .entry)) (now (lower .entry)) (now (upper .entry)) (now (goals .entry)))
+        (posedBy (problemOf n m limit) (now (coefficients .entry)) (now (rights .entry))
+        (now (lower .entry)) (now (upper .entry)) (now (goals .entry)))
         (buffers (now (tableau .entry)) (now (values .entry)) (now (strides .entry))) (now (report .entry)) ⌝ }
 {
     if report.len() != REPORT {

@@ -1,4 +1,10 @@
--- Laws of the listing: how long its lines are, its columns one at a time, and what the call leaves. Assumes nothing.
+-- Laws of the listing: how long its lines are, its columns one at a time, and what the call leaves.
+--   length-line, -verdict, -refusal, abs-fits   a line is short, where its numbers are of 64 bits
+--   refusal-none, -other               the line of a refusal's number
+--   lines-more, -end, length-more      the columns' lines, one at a time
+--   listing-is, -lines, -length, length-listed   the whole listing: the first line, and then those of the columns that are listed
+--   write-uneven, -short, -done        what the call leaves
+-- Assumes nothing.
 -- ---- lengths: a number of 64 bits has at most 20 digits
 use mathlib.Core.Path.{_≡_, sym, ap, _∙_}
 use mathlib.Core.List.{List, [], _++_, append-nil}
@@ -17,7 +23,8 @@ use Rattle.problem.specs.declared.Counts.{Counts}
 use Rattle.problem.specs.declared.Refusal.the-variants.{NoWholeNumbers}
 use Rattle.problem.specs.declared.Answer.{Answer}
 use Rattle.problem.specs.declared.Answer.the-variants.{Fitted, Outside, Spent, Refused}
-use Rattle.report.specs.Listing.{NONE, lineEnd, verdict, line, linesFrom, numbered, refusal, headline, listing, linesOf, listingDone, writeListing}
+use Rattle.report.specs.Listing.{NONE, lineEnd, verdict, line, linesFrom, numbered, refusal}
+use Rattle.report.specs.Listing.{headline, listing, linesOf, listingDone, writeListing}
 use Rattle.report.specs.declared.Written.the-variants.{Bytes, Uneven, NoRoom}
 use Rattle.report.proofs.Lengths.{line-most, verdict-most, refusal-most}
 
@@ -51,7 +58,8 @@ module _ (v : List ℤ) (d : List ℕ) (i : ℕ) where
   pub length-more : length v ≡ length d → i < length v
       → length (linesFrom i (drop i v) (drop i d))
       ≡ length (line (i + 1) (getD v i (pos 0)) (getD d i 0)) + length (linesFrom (i + 1) (drop (i + 1) v) (drop (i + 1) d))
-  length-more e h = ap length (lines-more e h) ∙ length-append (line (i + 1) (getD v i (pos 0)) (getD d i 0)) (linesFrom (i + 1) (drop (i + 1) v) (drop (i + 1) d))
+  length-more e h = ap length (lines-more e h) ∙
+      length-append (line (i + 1) (getD v i (pos 0)) (getD d i 0)) (linesFrom (i + 1) (drop (i + 1) v) (drop (i + 1) d))
 
   pub lines-end : length v ≤ i → linesFrom i (drop i v) (drop i d) ≡ []
   unfolding linesFrom
@@ -94,7 +102,8 @@ module _ (o : List ℕ) (a : Answer) (v : List ℤ) (d : List ℕ) where
   unfolding writeListing
   write-short h l = rw (eq-eqb (linesOf a (length d)) (linesOf a (length v)) h, lt-leb (length (listing a v d)) (length o) l)
 
-  pub write-done : (r : ℕ) (p : List ℕ) → linesOf a (length d) ≡ linesOf a (length v) → length (listing a v d) ≤ length o → Wrote o 0 (listing a v d) r p
+  pub write-done : (r : ℕ) (p : List ℕ) → linesOf a (length d) ≡ linesOf a (length v) → length (listing a v d) ≤ length o
+      → Wrote o 0 (listing a v d) r p
       → writeListing o a v d ≡ listingDone (Bytes r) p
   unfolding writeListing
   write-done r p h l w =

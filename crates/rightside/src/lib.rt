@@ -12,13 +12,13 @@ ghost use Rattle.tableau.specs.RightSide.{leading};
 ghost use Rattle.tableau.specs.RowSteps.{Leads};
 ghost use Rattle.tableau.specs.Within.{Within};
 use lattice::all_zero;
-use lattice::copy;
 use lattice::lead_from;
-use lattice::wipe;
 use problem::Problem;
 use tableau::MAX_WIDTH;
 use tableau::form;
 use tableau::reduce;
+use whole::buffers::copy;
+use whole::buffers::wipe;
 use whole::negated;
 
 // What the right side finds: a number beyond M on the way, no whole numbers, or a starting list.

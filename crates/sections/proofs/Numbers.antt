@@ -1,5 +1,9 @@
--- Laws of numbers read in a range, and of what a range says of them. Assumes nothing.
--- ---- outcomes
+-- Laws of numbers read in a range, and of what a range says of them.
+--   same-ok, ok-not-no                equal outcomes were read alike, and none of them is a refusal
+--   within-number, -bad, -end         a number at a place, by the token there
+--   within-in, abs-between, abs-within, count-in   what a range says of the number that was read
+--   coefficient-zero, -read, -no      a coefficient
+-- Assumes nothing.
 use mathlib.Core.Path.{_≡_, refl, sym, subst}
 use mathlib.Core.Bool.{Bool, true, false, cond, _&&_}
 use mathlib.Core.List.{List}
@@ -19,6 +23,7 @@ use Rattle.problem.specs.Limits.{maxCoefficient}
 use Rattle.sections.specs.Rules.{ok, no, inside, onNext, within}
 use Rattle.sections.specs.Sections.{spanning, coefficient}
 
+-- ---- outcomes
 pub same-ok : {A : Type 0} {a b : A} {p q : ℕ} → ok a p ≡ ok b q → a ≡ b
 same-ok h = cc
 
@@ -63,7 +68,8 @@ abs-within (pos m) k (negsuc n) l h e = absurd (subst T (sym h) tt)
 abs-within (negsuc m) k (negsuc n) l h e = omega (arith, leb-true n m h)
 
 -- a count that was read
-pub count-in : (s : List ℕ) (lo hi : ℕ) (why : Refusal) (v : ℤ) (p q : ℕ) → within s (pos lo) (pos hi) why p ≡ ok v q → (lo ≤ natAbs v) × (natAbs v ≤ hi)
+pub count-in : (s : List ℕ) (lo hi : ℕ) (why : Refusal) (v : ℤ) (p q : ℕ) → within s (pos lo) (pos hi) why p ≡ ok v q
+    → (lo ≤ natAbs v) × (natAbs v ≤ hi)
 count-in s lo hi why v p q h = let w = within-in (pos lo) (pos hi) why v q s p h in abs-between lo hi v (w .0) (w .1)
 
 -- ---- a coefficient

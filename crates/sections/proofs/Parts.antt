@@ -1,5 +1,11 @@
--- Laws of the parts of a text, one for each way through the code: an interval, a term, a row and their lists. Assumes nothing.
--- ---- an interval
+-- Laws of the parts of a text, one for each way through the code: what was read, or at which number it was refused.
+--   interval-read, -lower, -upper, -goal    an interval; intervals-more, -stop, -end, so many of them
+--   row-even, slack-few, number-small       a kind's row, how many columns it adds, and how large its number is
+--   kind-read, -no, row-read, -kind, -number   a row's kind and number
+--   term-read, -index, -coefficient, -in    a term; terms-more, -stop, -end, so many of them
+--   line-read, -row, -count, -terms, -room  a row with its terms; lines-more, -stop, -end, so many of them
+--   intervals-count, -no, rows-count, -no   sections, with their counts
+-- Assumes nothing.
 use mathlib.Core.Path.{_≡_, refl, ap, subst}
 use mathlib.Core.Bool.{Bool, true, false}
 use mathlib.Core.List.{List, [], _∷_, _++_}
@@ -16,7 +22,8 @@ use Rattle.problem.specs.declared.Row.{Row}
 use Rattle.problem.specs.declared.Refusal.{Refusal}
 use Rattle.problem.specs.declared.Refusal.the-variants.{Size, Coefficient, Bound, Goal, Term as WrongTerm}
 use Rattle.sections.specs.Rules.{Outcome, ok, no, then, within}
-use Rattle.sections.specs.Sections.{deckColumns, deckRows, spanning, upperFrom, topGoal, interval, intervals, rowOf, kindOf, withRoom, kindNumber, leastNumber, row, coefficient, term, terms, Line, line, lines, intervalSection, rowSection}
+use Rattle.sections.specs.Sections.{deckColumns, deckRows, spanning, upperFrom, topGoal, interval, intervals, rowOf, kindOf, withRoom}
+use Rattle.sections.specs.Sections.{kindNumber, leastNumber, row, coefficient, term, terms, Line, line, lines, intervalSection, rowSection}
 use Rattle.sections.specs.declared.Interval.{Interval}
 use Rattle.sections.specs.declared.Term.{Term}
 use Rattle.sections.proofs.Numbers.{same-ok, ok-not-no, within-in, abs-within, count-in}
@@ -32,7 +39,8 @@ module _ (s : List ℕ) (t₀ t₁ t₂ t₃ : ℕ) (lo up g : ℤ) where
   pub interval-upper : (why : Refusal) → spanning s maxBound Bound t₀ ≡ ok lo t₁ → upperFrom s lo t₁ ≡ no why → interval s t₀ ≡ no why
   interval-upper why p q = rw p (rw q)
 
-  pub interval-goal : (why : Refusal) → spanning s maxBound Bound t₀ ≡ ok lo t₁ → upperFrom s lo t₁ ≡ ok up t₂ → within s (pos 0) (topGoal lo) Goal t₂ ≡ no why
+  pub interval-goal : (why : Refusal) → spanning s maxBound Bound t₀ ≡ ok lo t₁ → upperFrom s lo t₁ ≡ ok up t₂
+      → within s (pos 0) (topGoal lo) Goal t₂ ≡ no why
       → interval s t₀ ≡ no why
   interval-goal why p q r = rw p (rw q (rw r))
 
@@ -77,7 +85,8 @@ least-small AtLeast = omega arith
 least-small AtMost = omega arith
 least-small (Even h) = omega arith
 
-pub number-small : (s : List ℕ) (k : Kind) (v : ℤ) (ts us : ℕ) → within s (leastNumber k) (pos maxRight) Coefficient ts ≡ ok v us → natAbs v ≤ maxRight
+pub number-small : (s : List ℕ) (k : Kind) (v : ℤ) (ts us : ℕ) → within s (leastNumber k) (pos maxRight) Coefficient ts ≡ ok v us
+    → natAbs v ≤ maxRight
 number-small s k v ts us h =
     let w = within-in (leastNumber k) (pos maxRight) Coefficient v us s ts h in
     abs-within (leastNumber k) maxRight v (least-small k) (w .0) (w .1)
@@ -90,13 +99,15 @@ module _ (s : List ℕ) (columns : ℕ) (t₀ t₁ : ℕ) (v : ℤ) where
   kind-no why p = rw p
 
 module _ (s : List ℕ) (columns : ℕ) (t₀ t₁ t₂ : ℕ) (k : ℕ) (b : ℤ) where
-  pub row-read : kindNumber s columns t₀ ≡ ok k t₁ → within s (leastNumber (kindOf k)) (pos maxRight) Coefficient t₁ ≡ ok b t₂ → row s columns t₀ ≡ ok (rowOf k b) t₂
+  pub row-read : kindNumber s columns t₀ ≡ ok k t₁ → within s (leastNumber (kindOf k)) (pos maxRight) Coefficient t₁ ≡ ok b t₂
+      → row s columns t₀ ≡ ok (rowOf k b) t₂
   row-read p q = rw p (rw q)
 
   pub row-kind : (why : Refusal) → kindNumber s columns t₀ ≡ no why → row s columns t₀ ≡ no why
   row-kind why p = rw p
 
-  pub row-number : (why : Refusal) → kindNumber s columns t₀ ≡ ok k t₁ → within s (leastNumber (kindOf k)) (pos maxRight) Coefficient t₁ ≡ no why → row s columns t₀ ≡ no why
+  pub row-number : (why : Refusal) → kindNumber s columns t₀ ≡ ok k t₁ → within s (leastNumber (kindOf k)) (pos maxRight) Coefficient t₁ ≡ no why
+      → row s columns t₀ ≡ no why
   row-number why p q = rw p (rw q)
 
 room-in : (columns k j : ℕ) (ts us : ℕ) → withRoom columns k ts ≡ ok j us → columns + slackCount (kindOf j) ≤ deckColumns
@@ -138,7 +149,8 @@ module _ (s : List ℕ) (last count : ℕ) (t₀ t₁ t₂ : ℕ) (j c : ℤ) wh
   pub term-index : (why : Refusal) → within s (pos (last + 1)) (pos count) WrongTerm t₀ ≡ no why → term s last count t₀ ≡ no why
   term-index why p = rw p
 
-  pub term-coefficient : (why : Refusal) → within s (pos (last + 1)) (pos count) WrongTerm t₀ ≡ ok j t₁ → coefficient s t₁ ≡ no why → term s last count t₀ ≡ no why
+  pub term-coefficient : (why : Refusal) → within s (pos (last + 1)) (pos count) WrongTerm t₀ ≡ ok j t₁ → coefficient s t₁ ≡ no why
+      → term s last count t₀ ≡ no why
   term-coefficient why p q = rw p (rw q)
 
 -- an index that was read is above the last and at most the count
@@ -181,17 +193,21 @@ module _ (s : List ℕ) (count columns : ℕ) (t₀ t₁ t₂ t₃ : ℕ) (r : R
   pub line-row : (why : Refusal) → row s columns t₀ ≡ no why → line s count columns t₀ ≡ no why
   line-row why p = rw p
 
-  pub line-count : (why : Refusal) → row s columns t₀ ≡ ok r t₁ → within s (pos 0) (pos count) WrongTerm t₁ ≡ no why → line s count columns t₀ ≡ no why
+  pub line-count : (why : Refusal) → row s columns t₀ ≡ ok r t₁ → within s (pos 0) (pos count) WrongTerm t₁ ≡ no why
+      → line s count columns t₀ ≡ no why
   line-count why p q = rw p (rw q)
 
-  pub line-terms : (why : Refusal) → row s columns t₀ ≡ ok r t₁ → within s (pos 0) (pos count) WrongTerm t₁ ≡ ok k t₂ → terms s (natAbs k) 0 count [] t₂ ≡ no why
+  pub line-terms : (why : Refusal) → row s columns t₀ ≡ ok r t₁ → within s (pos 0) (pos count) WrongTerm t₁ ≡ ok k t₂
+      → terms s (natAbs k) 0 count [] t₂ ≡ no why
       → line s count columns t₀ ≡ no why
   line-terms why p q e = rw p (rw q (rw e))
 
-pub line-room : (s : List ℕ) (count columns : ℕ) (ts us : ℕ) (l : Line) → line s count columns ts ≡ ok l us → columns + slackCount (l .row .kind) ≤ deckColumns
+pub line-room : (s : List ℕ) (count columns : ℕ) (ts us : ℕ) (l : Line) → line s count columns ts ≡ ok l us
+    → columns + slackCount (l .row .kind) ≤ deckColumns
 line-room s count columns ts us l h = heads (row s columns ts) refl
   where
-    lists : (r : Row) (o : Outcome (List Term)) → columns + slackCount (r .kind) ≤ deckColumns → then o (λ ks vs. ok (record { row = r; terms = ks }) vs) ≡ ok l us
+    lists : (r : Row) (o : Outcome (List Term)) → columns + slackCount (r .kind) ≤ deckColumns
+        → then o (λ ks vs. ok (record { row = r; terms = ks }) vs) ≡ ok l us
         → columns + slackCount (l .row .kind) ≤ deckColumns
     lists r (ok ks vs) e f = subst (λ (x : Line). columns + slackCount (x .row .kind) ≤ deckColumns) (same-ok f) e
     lists r (no why) e f = absurd (ok-not-no f)

@@ -1,8 +1,16 @@
--- Laws of what is stored: buffers filled from the front, columns side by side, rows as wide as the largest. Assumes nothing.
--- ---- lists
+-- Laws of what is stored: buffers filled from the front, columns side by side, rows as wide as the largest.
+--   map-two, length-snoc, blank-is, length-blank   lists
+--   padded-none, padded-written, from-blank, wiped   a buffer of 0 that is filled from the front, and one that is set to 0
+--   cells-two, -one, -more, length-cells       columns side by side in their table
+--   length-slack, slacks-more                  the y's of rows
+--   placed-none, -more, length-withSlack, length-row   a row's coefficients
+--   rows-more, length-rows, few-cells          rows one after the other, and how many numbers they have within the limits
+--   columns-more, rights-more, table-more      the next row's column, right side and coefficients
+-- Assumes nothing.
 use mathlib.Core.Path.{_≡_, refl, sym, ap, _∙_}
 use mathlib.Core.List.{List, [], _∷_, _++_, map, append-nil, append-assoc}
 use Prim.Native.Nat.{ℕ, _+_, _-_, _*_, _≤_, _<_}
+use native.Mathlib.Nat.{mul-le-mul}
 use native.Mathlib.Omega.{arith}
 use lib.IntN.{ℤ, pos}
 use lib.ListN.{length, take, drop, set, replicate, length-append, length-map, length-replicate, length-set}
@@ -12,13 +20,14 @@ use Rattle.whole.proofs.Lists.{drop-zeros}
 use Rattle.text.specs.Overwriting.{overwritten}
 use Rattle.problem.specs.Kinds.{Slack, none, slack, slackOf, slackCount}
 use Rattle.problem.specs.Kinds as kinds
-use Rattle.sections.specs.Sections.{deckColumns, Line}
+use Rattle.sections.specs.Sections.{deckColumns, deckRows, coefficientCount, Line}
 use Rattle.sections.specs.StatedColumns.{rightOf, placed, withSlack, slackColumn, slackColumns, coefficientRow, coefficientRows}
 use Rattle.sections.specs.StatedColumns.{columnWidth, columnCells, cell, cells, padded, blank}
 use Rattle.sections.specs.declared.Interval.{Interval}
 use Rattle.sections.specs.declared.Term.{Term}
-use Rattle.text.proofs.Copying.{written-all, written-then}
+use Rattle.text.proofs.Copying.{written-then}
 
+-- ---- lists
 pub map-two : {A B : Type 0} (f : A → B) (u v : List A) → map f (u ++ v) ≡ map f u ++ map f v
 map-two f [] v = refl
 map-two f (x ∷ u) v = ap (λ (t : List _). f x ∷ t) (map-two f u v)
@@ -55,10 +64,8 @@ pub from-blank : (size : ℕ) (o u w : List ℤ) → length w ≤ size → o ≡
 from-blank size o u w h e f = f ∙ (rw (e, padded-none size) (padded-written size 0 [] w refl (omega arith)))
 
 -- a buffer that is set to 0 from end to end
-pub wiped : (size : ℕ) (o u : List ℤ) → length o ≡ size → u ≡ overwritten o 0 (replicate (size - 0) (pos 0)) → u ≡ blank size
-wiped size o u h e =
-    let z : size - 0 ≡ size = omega arith in
-    e ∙ (rw z (written-all o (replicate size (pos 0)) (length-replicate size (pos 0) ∙ sym h) ∙ sym (blank-is size)))
+pub wiped : (size : ℕ) (o u : List ℤ) → length o ≡ size → u ≡ zeros (length o) → u ≡ blank size
+wiped size o u h e = e ∙ ap zeros h ∙ sym (blank-is size)
 
 -- ---- columns side by side in their table
 pub cells-two : (u v : List Interval) → cells (u ++ v) ≡ cells u ++ cells v
@@ -75,7 +82,8 @@ unfolding cells
 length-cells [] = omega arith
 length-cells (i ∷ is) = length-append (cell i) (cells is) ∙ (rw (length-cells is) (omega arith))
 
-pub cells-more : (i : ℕ) (done : List Interval) (a : Interval) (o k : List ℤ) → length done ≡ i → i < deckColumns → o ≡ padded columnCells (cells done)
+pub cells-more : (i : ℕ) (done : List Interval) (a : Interval) (o k : List ℤ) → length done ≡ i → i < deckColumns
+    → o ≡ padded columnCells (cells done)
     → k ≡ overwritten o (i * columnWidth) (cell a) → k ≡ padded columnCells (cells (done ++ (a ∷ [])))
 cells-more i done a o k c h e f =
     let m : length (cells done) ≡ i * columnWidth = length-cells done ∙ ap (λ (j : ℕ). j * columnWidth) c in
@@ -140,6 +148,10 @@ length-rows n c (d ∷ ls) =
     length-append (coefficientRow n c d) (coefficientRows n (c + slackCount (d .row .kind)) ls) ∙
     (rw (length-row n c d, length-rows n (c + slackCount (d .row .kind)) ls) (omega arith))
 
+-- rows within the limits
+pub few-cells : (n m : ℕ) → n ≤ deckColumns → m ≤ deckRows → m * n ≤ coefficientCount
+few-cells n m h k = mul-le-mul k h
+
 -- ---- the next row's column, right side and coefficients
 module _ (c : ℕ) (done : List Line) (l : Line) where
   pub columns-more : (n : ℕ) (o u v : List ℤ) → n ≡ c + length (slackColumns done) → n + slackCount (l .row .kind) ≤ deckColumns
@@ -157,7 +169,8 @@ module _ (c : ℕ) (done : List Line) (l : Line) where
       (written-then o (c * columnWidth) (cells (slackColumns done)) (cells y) (omega arith) ∙
       ap (overwritten o (c * columnWidth)) (sym (cells-two (slackColumns done) y) ∙ ap cells (sym (slacks-more done l)))))
 
-  pub rights-more : (i : ℕ) (o u v : List ℤ) → length done ≡ i → i < length o → u ≡ overwritten o 0 (map rightOf done) → v ≡ overwritten u i (l .row .right ∷ [])
+  pub rights-more : (i : ℕ) (o u v : List ℤ) → length done ≡ i → i < length o → u ≡ overwritten o 0 (map rightOf done)
+      → v ≡ overwritten u i (l .row .right ∷ [])
       → v ≡ overwritten o 0 (map rightOf (done ++ (l ∷ [])))
   rights-more i o u v e h p q =
       let m : length (map rightOf done) ≡ length done = length-map done rightOf in
@@ -176,4 +189,5 @@ module _ (c : ℕ) (done : List Line) (l : Line) where
       q ∙
       (rw (p, a)
       (written-then o 0 (coefficientRows deckColumns c done) (coefficientRow deckColumns n l) (omega arith) ∙
-      ap (overwritten o 0) (ap (λ (x : ℕ). coefficientRows deckColumns c done ++ coefficientRow deckColumns x l) k ∙ sym (rows-more deckColumns c done l))))
+      ap (overwritten o 0)
+      (ap (λ (x : ℕ). coefficientRows deckColumns c done ++ coefficientRow deckColumns x l) k ∙ sym (rows-more deckColumns c done l))))

@@ -3,9 +3,9 @@
 --   Outcome A              something read, with the place after it in the text; or the refusal
 --   then                   one after the other: the first refusal decides
 --   inside lo hi why v e   the number v, with the place e after it, which is lo to hi or else refused
---   within s lo hi why at  the next number of the text s at or after a place, which is lo to hi or else refused
+--   within s lo hi why at  the next number of the text s at or after a place, which is lo to hi or else refused; onNext is that of a token
 --   nonzero why            what was read is not 0 or else refused
---   closed s a at          no number or other run is left
+--   closed s a at          no number or other run is left; onEnd is that of a token
 -- Assumes nothing.
 use mathlib.Core.Bool.{cond}
 use mathlib.Core.List.{List}

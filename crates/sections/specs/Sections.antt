@@ -1,11 +1,16 @@
 -- Document 01, "Continue, text, listing": the sections of a text. "Sections: the count of intervals, then for each its lower, upper and goal; the
 -- count of rows, then for each its kind, its number, its count of terms (0 to the count of intervals), then index and coefficient for each term."
---   deckColumns, deckRows   the most columns and rows of a text
+--   deckColumns, deckRows   the most columns and rows of a text: the problem's
 --   coefficientCount        the most coefficients
 --   maxText                 "a text over 32,768 bytes is 11"
 --   deckSizes               columns, rows and bytes; `Sizes::limits` in src/ holds the code's constants to these
 --   Interval, Term          declared in src/; Row and Kind are the problem's
 --   Line                    a row with its terms
+--   spanning s k why at     a number in −k to k
+--   interval, intervals     an interval, by upperFrom and topGoal, and so many of them
+--   row                     a row's kind and number, by rowOf, kindOf, withRoom, kindNumber and leastNumber
+--   term, terms             a term, with its coefficient, and so many of them
+--   line, lines             a row with its terms, and so many of them
 --   intervalSection s at    the section of intervals of the text s, from a place on
 --   rowSection s n at       the section of rows of a text with n intervals
 -- Each section starts at the place where the one before ended, so that another can be put between them.
@@ -16,7 +21,7 @@ use Prim.Native.Nat.{ℕ, zero, suc, _+_, _*_}
 use lib.Dec.{ltb}
 use lib.IntN.{ℤ, pos, natAbs, negℤ}
 use lib.Signed.{leZ}
-use Rattle.problem.specs.Limits.{maxCoefficient, maxRight, maxBound, maxGoal}
+use Rattle.problem.specs.Limits.{maxColumns, maxRows, maxCoefficient, maxRight, maxBound, maxGoal}
 use Rattle.problem.specs.Kinds.{slackCount}
 use Rattle.problem.specs.declared.Kind.{Kind}
 use Rattle.problem.specs.declared.Kind.the-variants.{Equal, AtLeast, AtMost, Even}
@@ -29,10 +34,10 @@ use Rattle.sections.specs.declared.Interval.{Interval}
 use Rattle.sections.specs.declared.Term.{Term}
 
 abbrev pub deckColumns : ℕ
-deckColumns = 48
+deckColumns = maxColumns
 
 abbrev pub deckRows : ℕ
-deckRows = 48
+deckRows = maxRows
 
 abbrev pub coefficientCount : ℕ
 coefficientCount = deckRows * deckColumns

@@ -1,6 +1,8 @@
 -- What the reader's functions answer, as outcomes, and what they leave in the buffers that they are lent.
---   gotOf g, ..              what was read, as an outcome
---   TermsRead, LineRead, ..  what was read of a row or of a section, as an outcome, with what it left where it was not refused
+--   gotOf, intervalGotOf, kindGotOf, rowGotOf, termGotOf   what was read, as an outcome; slackIs, the y of a row
+--   TermsRead, LineRead, OneRead, IntervalsRead, RowsRead  what was read of a row or of a section, as an outcome, with what it left where it was
+--                            not refused: TermsStored, LineStored, OneStored
+--   RowStored                what a row whose terms are in its line leaves; Lengths, of buffers of the largest size
 --   Cursor                   where reading has come to (declared in src/); `cursor` makes one of the place, the intervals, the columns and the rows
 --   IntervalsDone            what the section of intervals answers and leaves; `intervalsDone` makes one
 --   intervalsLeft o          that of the outcome o, in a table that held 0: its columns, or 0 again

@@ -1,8 +1,9 @@
 -- Document 01, "Continue, text, listing": the columns and the rows that the lines of a text state, and how the reader holds them.
 --   slackInterval lo   "Each y goes up to 1,000,000, has no goal, and takes the next column after the intervals, in row order."
 --   slackColumns ls    the y of each row that has one
---   coefficientRow ..  a row's n coefficients, with its y at column c
---   cell i             a column as it lies in the reader's table of columns: lower, upper, goal; columnWidth numbers
+--   coefficientRow ..  a row's n coefficients: its terms `placed`, and `withSlack` its y at column c; coefficientRows, those of the rows
+--   lowerOf, upperOf, goalOf, rightOf   the numbers of an interval and of a row
+--   cell i             a column as it lies in the reader's table of columns: lower, upper, goal; columnWidth numbers. `cells`, of all columns
 --   columnCells        the most numbers of that table
 --   padded size u      a buffer of size numbers that starts with the list u: "the rest becomes 0"
 --   blank n            n numbers that are 0; shut, since a long list of them is written out wherever it is open

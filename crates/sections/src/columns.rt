@@ -10,7 +10,7 @@ ghost use Rattle.sections.specs.Sections.{deckColumns};
 ghost use Rattle.sections.specs.StatedColumns.{columnWidth, columnCells, cell};
 
 // Puts a column's numbers side by side.
-pub fn put_column(columns: &mut [i64], i: usize, v: Interval)
+pub(crate) fn put_column(columns: &mut [i64], i: usize, v: Interval)
     requires { ⌜ (i < deckColumns) × (length (now columns) ≡ columnCells) ⌝ }
     ensures { λ _. ⌜ now (columns .exit) ≡ overwritten (now (columns .entry)) (i * columnWidth) (cell v) ⌝ }
 {

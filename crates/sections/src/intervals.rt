@@ -12,7 +12,7 @@ use crate::rules::spanning;
 use crate::rules::within;
 use problem::Problem;
 use problem::Refusal;
-use text::buffers::fill;
+use whole::buffers::wipe;
 ghost use mathlib.Core.Path.{_≡_};
 ghost use Rattle.sections.specs.Sections.{topGoal, interval as interval·rule, intervalSection};
 ghost use Rattle.sections.specs.StatedColumns.{columnCells, blank};
@@ -104,7 +104,7 @@ pub fn read_intervals(s: &[u8], at: usize, columns: &mut [i64]) -> Section
     match a {
         Section::Read(c) => Section::Read(c),
         Section::Refused(why) => {
-            fill(columns, 0, Sizes::CELLS, 0);
+            wipe(columns);
             Section::Refused(why)
         }
     }

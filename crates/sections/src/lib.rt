@@ -4,11 +4,12 @@ pub mod intervals;
 pub mod rows;
 mod rules;
 
+use problem::Problem;
 use problem::Refusal;
 ghost use mathlib.Core.Path.{_≡_};
 ghost use Rattle.sections.specs.Sections.{deckSizes};
 
-// The limits of a text: columns, rows and bytes.
+// The limits of a text: columns and rows are the problem's, and its bytes.
 pub struct Sizes {
     pub columns: usize,
     pub rows: usize,
@@ -16,9 +17,9 @@ pub struct Sizes {
 }
 
 impl Sizes {
-    pub const COLUMNS: usize = 48;
+    pub const COLUMNS: usize = Problem::MAX_COLUMNS;
 
-    pub const ROWS: usize = 48;
+    pub const ROWS: usize = Problem::MAX_ROWS;
 
     pub const COEFFICIENTS: usize = Sizes::ROWS * Sizes::COLUMNS;
 

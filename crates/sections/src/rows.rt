@@ -15,7 +15,7 @@ use problem::Problem;
 use problem::Refusal;
 use problem::Row;
 use text::buffers::copy;
-use text::buffers::fill;
+use whole::buffers::wipe;
 ghost use mathlib.Core.Path.{_≡_};
 ghost use mathlib.Core.List.{[]};
 ghost use Prim.Native.Nat.{_+_, _*_, _<_, _≤_};
@@ -399,9 +399,9 @@ pub fn read_rows(
     match a {
         Section::Read(c) => Section::Read(c),
         Section::Refused(why) => {
-            fill(columns, 0, Sizes::CELLS, 0);
-            fill(rights, 0, Sizes::ROWS, 0);
-            fill(table, 0, Sizes::COEFFICIENTS, 0);
+            wipe(columns);
+            wipe(rights);
+            wipe(table);
             Section::Refused(why)
         }
     }

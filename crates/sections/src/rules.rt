@@ -11,19 +11,19 @@ ghost use Rattle.sections.specs.Rules.{inside, within as within·rule};
 ghost use Rattle.sections.specs.Sections.{spanning as spanning·rule};
 ghost use Rattle.sections.specs.SectionsRead.{gotOf};
 
-pub fn at_most(a: i64, b: i64) -> bool
+pub(crate) fn at_most(a: i64, b: i64) -> bool
     ensures { λ r. ⌜ r ≡ leZ a b ⌝ }
 {
     a <= b
 }
 
-pub fn natural(v: i64) -> usize
+pub(crate) fn natural(v: i64) -> usize
     ensures { λ r. ⌜ r ≡ natAbs v ⌝ }
 {
     whole::magnitude(v) as usize
 }
 
-pub fn signed(n: usize) -> i64
+pub(crate) fn signed(n: usize) -> i64
     requires { ⌜ n < 2 ^ 63 ⌝ }
     ensures { λ r. ⌜ r ≡ pos n ⌝ }
 {
@@ -45,7 +45,7 @@ fn in_range(v: i64, next: usize, low: i64, high: i64, why: Refusal) -> Got
 }
 
 // The next number, from low to high, or else the refusal.
-pub fn within(s: &[u8], at: usize, low: i64, high: i64, why: Refusal) -> Got
+pub(crate) fn within(s: &[u8], at: usize, low: i64, high: i64, why: Refusal) -> Got
     ensures { λ r. ⌜ within·rule (now (s .entry)) low high why at ≡ gotOf r ⌝ }
 {
     let n = text::scanner::next_token(s, at);
@@ -59,7 +59,7 @@ pub fn within(s: &[u8], at: usize, low: i64, high: i64, why: Refusal) -> Got
 }
 
 // The next number, of a magnitude of at most k.
-pub fn spanning(s: &[u8], at: usize, k: u64, why: Refusal) -> Got
+pub(crate) fn spanning(s: &[u8], at: usize, k: u64, why: Refusal) -> Got
     requires { ⌜ k < 2 ^ 63 ⌝ }
     ensures { λ r. ⌜ spanning·rule (now (s .entry)) k why at ≡ gotOf r ⌝ }
 {

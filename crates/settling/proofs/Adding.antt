@@ -22,7 +22,7 @@ use Rattle.whole.proofs.Integers.{add-none}
 use Rattle.lattice.specs.Rows.{plus, lead}
 use Rattle.lattice.proofs.RowLaws.{length-plus, entry-plus}
 use Rattle.lattice.specs.Hermite.{Rising}
-use Rattle.lattice.proofs.Writing.{WrittenTo, starts, goes-on, passes, ends}
+use Rattle.whole.proofs.Writing.{WrittenTo, starts, goes-on, passes, ends}
 use Rattle.problem.specs.Limits.{M, beyond, anyBeyond}
 use Rattle.settling.specs.declared.Basis.{Basis}
 use Rattle.settling.specs.Moves.{vector}

@@ -139,27 +139,12 @@ taken-ready B v t b i o r e =
         few = r .few;
         few-vectors = r .few-vectors;
         basis = r .basis;
-<<<<<<< ours
         values-long = u .long;
         values-small = u .small;
-=======
-        values-long = moved-length (vectors B b) o v ∙ r .values-long;
-        values-small = λ j. ⊎-elim
-            (λ h. allowed-near (partOf C v) (cell C (moved (vectors B b) o v) j) (r .columns j .lower) (r .columns j .upper) (m .1 j h)) (past j)
-            (lt-or-ge j (B .columns));
->>>>>>> theirs
         table-long = r .table-long;
         columns = r .columns;
       },
     )
-<<<<<<< ours
-=======
-  where
-    past : (j : ℕ) → B .columns ≤ j → natAbs (entry j (moved (vectors B b) o v)) ≤ M
-    past j h =
-        rw (List·getD-eq-default (moved (vectors B b) o v) (pos 0) {n = j} (omega (arith, moved-length (vectors B b) o v, r .values-long)))
-        (omega arith)
->>>>>>> theirs
 
 -- ---- by what the next step is
 module _ (C : Columns) (N : List (List ℤ)) (k : Counts) (v : List ℤ) where

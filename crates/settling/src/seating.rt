@@ -16,9 +16,9 @@ use crate::Basis;
 use crate::columns::cell_at;
 use crate::columns::wish_at;
 use crate::ideal;
-use lattice::copy;
 use lattice::lead_from;
 use problem::Problem;
+use whole::buffers::copy;
 use whole::floor_quotient;
 use whole::magnitude;
 

@@ -5,7 +5,7 @@ use Rattle.whole.specs.Divisor.{divisorBy, divisor}
 use Rattle.lattice.specs.Rows.{plus, neg, allZero, lead}
 use Rattle.lattice.specs.Sums.{dot, sums}
 use Rattle.text.specs.Tokens.{allDigits, value}
-use Rattle.text.specs.Positions.{gap, run}
+use Rattle.text.specs.Positions.{stretch}
 use Rattle.text.specs.Decimals.{decimal}
 use Rattle.problem.specs.Limits.{anyBeyond}
 use Rattle.problem.specs.Checks.{firstCause}
@@ -28,7 +28,7 @@ use Rattle.solve.specs.Program.{printed}
 use Rattle.solve.specs.Cases.{DeckCases}
 
 pub deck-cases : DeckCases
-unfolding every divisorBy divisor plus neg allZero lead dot sums gap run allDigits value decimal anyBeyond firstCause tableauFrom tableau lowered
+unfolding every divisorBy divisor plus neg allZero lead dot sums stretch allDigits value decimal anyBeyond firstCause tableauFrom tableau lowered
     reduced each choose exchange clear round gather passColumn passColumns eliminate sweep leading remaining rightSide form solve goalIdeal ideal
     seatOne seat singles pairsWith pairs moves moved measure isRanked passes improves insert rankFrom firstMove firstColumn stepAt stepOf nextStep
     settleFrom settle stride stridesFrom settleOn assign intervals terms lines readDeck slackColumns placed coefficientRows posed linesFrom listing

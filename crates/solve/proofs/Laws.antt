@@ -1,8 +1,10 @@
 -- Laws of the listing program: the parts of buffers of the largest size, and what a text comes to by what the reader returns.
---   clear n          n numbers that are 0, and clearStrides for strides; shut, since a long list of them is written out wherever it is open
---   few-cells, few-tableau   a problem within the limits has its coefficients and its tableau within the largest buffers
+--   write-even       lists of one length are listed
+--   clearStrides n   n strides that are 0; shut, as `blank` is
+--   few-tableau      a problem within the limits has its tableau within the largest buffer
 --   put-back, part-back      a part that was lent is again the part of its buffer
---   listed-into      the parts of clear buffers are zeroBuffers, and an assignment's lists are of one length, so that its listing is put into the buffer
+--   cleared P        the parts of blank buffers that a problem needs
+--   listed-into      they are its zeroBuffers, and an assignment's lists are of one length, so that its listing is put into the buffer
 --   refused-headline         a refusal lists no column
 --   largest, largest-fit     the buffers that the reader is lent, which have the lengths that it asks for
 --   refused-into     a text that is turned back
@@ -29,8 +31,8 @@ use Rattle.problem.specs.declared.Refusal.the-variants.{Size}
 use Rattle.problem.specs.declared.Answer.{Answer}
 use Rattle.problem.specs.declared.Answer.the-variants.{Refused}
 use Rattle.sections.specs.Rules.{Outcome, ok, no}
-use Rattle.sections.specs.Sections.{deckColumns, deckRows}
-use Rattle.sections.specs.StatedColumns.{coefficientRows, lowerOf, upperOf, goalOf, rightOf, padded}
+use Rattle.sections.specs.Sections.{deckColumns, deckRows, coefficientCount}
+use Rattle.sections.specs.StatedColumns.{coefficientRows, lowerOf, upperOf, goalOf, rightOf, padded, blank}
 use Rattle.deck.specs.Posing.{Deck, readDeck, columnsOf, posed}
 use Rattle.deck.specs.Reader.{DeckBuffers, ReadDone, deckBuffers, readDone, lengthsFit, onDeck, read}
 use Rattle.deck.specs.declared.Reading.{Reading}
@@ -43,16 +45,10 @@ use Rattle.solve.specs.Program.{programLimit, zeroBuffers, listed, print
 abbrev tableauSize : ℕ
 tableauSize = deckColumns * (deckRows + deckColumns)
 
-unfoldable pub clear : ℕ → List ℤ
-clear n = zeros n
-
 unfoldable pub clearStrides : ℕ → List ℕ
 clearStrides n = replicate n 0
 
 -- ---- lengths
-pub few-cells : (n m : ℕ) → n ≤ deckColumns → m ≤ deckRows → m * n ≤ deckRows * deckColumns
-few-cells n m h k = mul-le-mul k h
-
 pub few-tableau : (n m : ℕ) → n ≤ deckColumns → m ≤ deckRows → n * (m + n) ≤ tableauSize
 few-tableau n m h k = let s : m + n ≤ deckRows + deckColumns = omega arith in mul-le-mul h s
 
@@ -62,9 +58,9 @@ take-replicate zero n a h = refl
 take-replicate (suc k) zero a h = absurd (omega arith)
 take-replicate (suc k) (suc n) a h = ap (λ (r : List _). a ∷ r) (take-replicate k n a (omega arith))
 
-take-clear : (k n : ℕ) (t : List ℤ) → t ≡ clear n → k ≤ n → take k t ≡ zeros k
-unfolding clear
-take-clear k n t e h = ap (take k) e ∙ take-replicate k n (pos 0) h
+take-blank : (k n : ℕ) (t : List ℤ) → t ≡ blank n → k ≤ n → take k t ≡ zeros k
+unfolding blank
+take-blank k n t e h = ap (take k) e ∙ take-replicate k n (pos 0) h
 
 take-strides : (k n : ℕ) (d : List ℕ) → d ≡ clearStrides n → k ≤ n → take k d ≡ replicate k 0
 unfolding clearStrides
@@ -87,18 +83,19 @@ pub write-even : (o : List ℕ) (a : Answer) (v : List ℤ) (d : List ℕ) → l
 unfolding writeListing
 write-even o a v d h = rw (eq-eqb (linesOf a (length d)) (linesOf a (length v)) (ap (linesOf a) (sym h)))
 
--- the parts of clear buffers that a problem needs
+-- the parts of blank buffers that a problem needs
 abbrev pub cleared : Posed → Buffers
-cleared P = buffers (take (n P * (m P + n P)) (clear tableauSize)) (take (n P) (clear deckColumns)) (take (n P) (clearStrides deckColumns))
+cleared P = buffers (take (n P * (m P + n P)) (blank tableauSize)) (take (n P) (blank deckColumns)) (take (n P) (clearStrides deckColumns))
 
 cleared-blank : (P : Posed) → n P ≤ deckColumns → m P ≤ deckRows → cleared P ≡ zeroBuffers P
 cleared-blank P h k =
-    let pt = take-clear (n P * (m P + n P)) tableauSize _ refl (few-tableau (n P) (m P) h k) in
-    let pv = take-clear (n P) deckColumns _ refl h in
+    let pt = take-blank (n P * (m P + n P)) tableauSize _ refl (few-tableau (n P) (m P) h k) in
+    let pv = take-blank (n P) deckColumns _ refl h in
     let pd = take-strides (n P) deckColumns _ refl h in
     λ i. buffers (pt i) (pv i) (pd i)
 
-pub listed-into : (o : List ℕ) (P : Posed) (a : Answer) (t v : List ℤ) (d : List ℕ) → n P ≤ deckColumns → m P ≤ deckRows → done a t v d ≡ assign P (cleared P)
+pub listed-into : (o : List ℕ) (P : Posed) (a : Answer) (t v : List ℤ) (d : List ℕ) → n P ≤ deckColumns → m P ≤ deckRows
+    → done a t v d ≡ assign P (cleared P)
     → length v ≡ length d → writeListing o a v d ≡ listInto o P
 unfolding listInto
 listed-into o P a t v d h k e l = write-even o a v d l ∙ ap (λ (x : Done). placedIn o (listed x)) (e ∙ ap (assign P) (cleared-blank P h k))
@@ -111,10 +108,10 @@ refused-headline o why v d l = write-even o (Refused why) v d l
 -- ---- a text, by what the reader returns
 -- the buffers that it is lent
 abbrev pub largest : DeckBuffers
-largest = deckBuffers (clear (deckRows * deckColumns)) (clear deckRows) (clear deckColumns) (clear deckColumns) (clear deckColumns)
+largest = deckBuffers (blank coefficientCount) (blank deckRows) (blank deckColumns) (blank deckColumns) (blank deckColumns)
 
 pub largest-fit : lengthsFit largest ≡ true
-unfolding clear
+unfolding blank
 largest-fit = refl
 
 read-fit : (s : List ℕ) (B : DeckBuffers) → lengthsFit B ≡ true → read s B ≡ onDeck (readDeck s) B
@@ -160,7 +157,8 @@ pub record Taken (s : List ℕ) (n m : ℕ) (c b l u g : List ℤ) : Type 0 wher
   pub upper : u ≡ padded deckColumns (map upperOf (columnsOf deck))
   pub goals : g ≡ padded deckColumns (map goalOf (columnsOf deck))
 
-pub taken : (s : List ℕ) (B : DeckBuffers) (n m : ℕ) (c b l u g : List ℤ) → lengthsFit B ≡ true → readDone (Read n m) (deckBuffers c b l u g) ≡ read s B
+pub taken : (s : List ℕ) (B : DeckBuffers) (n m : ℕ) (c b l u g : List ℤ) → lengthsFit B ≡ true
+    → readDone (Read n m) (deckBuffers c b l u g) ≡ read s B
     → Taken s n m c b l u g
 unfolding posed
 taken s B n m c b l u g f e = by (readDeck s) refl
@@ -188,7 +186,8 @@ problemPart n m c b l u g =
 
 module _ {s : List ℕ} {n m : ℕ} {c b l u g : List ℤ} (T : Taken s n m c b l u g) where
   pub few-columns : length l ≡ deckColumns → n ≤ deckColumns
-  few-columns q = within deckColumns n (map lowerOf (columnsOf (T .deck))) l (T .lower) (T .columns ∙ sym (length-map (columnsOf (T .deck)) lowerOf)) q
+  few-columns q = within deckColumns n (map lowerOf (columnsOf (T .deck))) l (T .lower) (T .columns ∙ sym (length-map (columnsOf (T .deck)) lowerOf))
+      q
 
   pub few-rows : length b ≡ deckRows → m ≤ deckRows
   few-rows q = within deckRows m (map rightOf (T .deck .lines)) b (T .rights) (T .rows ∙ sym (length-map (T .deck .lines) rightOf)) q

@@ -1,8 +1,10 @@
 -- The deck cases that document 01 marks with *, as one table of the definitions.
 --   problem ..    a problem in lists: n, m, the rows' coefficients, the right sides, lower bounds, upper bounds, goals and the step limit
---   assigned P    its whole assignment, in buffers that held 7s before: the answer, the values and the strides
---   seatedOf P    what seating makes of the starting list and the basis that are found for P
---   fiveIdeals v  the ideals to which seating pulls columns with the five goals, at the values v
+--   Shown         an answer, with the values and the strides; `gives` makes one, and `shown` those of a call
+--   assigned P    what the whole assignment of P shows, in buffers that held 7s before, `used P`
+--   seatedOf P    what seating makes of the starting list and the basis that are found for P, by seatFound
+--   fiveIdeals v  the ideals to which seating pulls columns with the goals of fiveGoals, at the values v
+--   sumAndDifference, threeTwo, tied, pavingText, pavingListing   problems, a text and its listing; curve, a line of the text
 --   DeckCases     the cases, one to a field, in document 01's order
 -- Assumes nothing.
 use mathlib.Core.Path.{_≡_}
@@ -11,25 +13,19 @@ use Prim.Native.Nat.{ℕ, _+_, _*_}
 use lib.IntN.{ℤ, pos, negsuc}
 use lib.ListN.{replicate}
 use Rattle.problem.specs.Checks.{Posed}
-use Rattle.problem.specs.declared.Counts.{Counts}
 use Rattle.problem.specs.declared.Refusal.the-variants.{NoWholeNumbers}
 use Rattle.problem.specs.declared.Answer.{Answer}
 use Rattle.problem.specs.declared.Answer.the-variants.{Fitted, Outside, Spent, Refused}
 use Rattle.tableau.specs.RightSide.{Found, none, some}
 use Rattle.settling.specs.Columns.{Columns, listed}
 use Rattle.settling.specs.Seating.{Seated, seated, far, idealAt, seat}
-use Rattle.engine.specs.Assign.{Buffers, Done, n, m, columns, solved, assign}
+use Rattle.engine.specs.Assign.{Buffers, Done, posedBy, n, m, columns, solved, assign}
+use Rattle.report.specs.Listing.{countsOf}
 use Rattle.solve.specs.Program.{printed}
 
 abbrev pub problem : ℕ → ℕ → List ℤ → List ℤ → List ℤ → List ℤ → List ℤ → ℕ → Posed
-problem n m coefficients rights lower upper goals limit = record {
-  problem = record { columns = n; rows = m; limit = limit };
-  coefficients = coefficients;
-  rights = rights;
-  lower = lower;
-  upper = upper;
-  goals = goals;
-}
+problem n m coefficients rights lower upper goals limit =
+    posedBy (record { columns = n; rows = m; limit = limit }) coefficients rights lower upper goals
 
 pub record Shown : Type 0 where
   pub answer : Answer
@@ -47,9 +43,6 @@ assigned P = shown (assign P (used P))
 
 abbrev pub gives : Answer → List ℤ → List ℕ → Shown
 gives a v d = record { answer = a; values = v; strides = d }
-
-abbrev pub steps : ℕ → ℕ → Counts
-steps bounds goals = record { bounds = bounds; goals = goals }
 
 -- where none is found, nothing is seated
 abbrev pub seatFound : Posed → Found → Seated
@@ -102,7 +95,7 @@ pub record DeckCases : Type 0 where
   -- "2v = 2, bounds 1..9, no goal: FITTED 0 0 with 1, stride 0."
   pub whole :
       assigned (problem 1 1 (pos 2 ∷ []) (pos 2 ∷ []) (pos 1 ∷ []) (pos 9 ∷ []) (pos 0 ∷ []) 10000)
-      ≡ gives (Fitted (steps 0 0)) (pos 1 ∷ []) (0 ∷ [])
+      ≡ gives (Fitted (countsOf 0 0)) (pos 1 ∷ []) (0 ∷ [])
   -- "v1 + v2 = 1 with v1 − v2 = 0: 8."
   pub crossed : assigned sumAndDifference ≡ gives (Refused NoWholeNumbers) (pos 7 ∷ pos 7 ∷ []) (7 ∷ 7 ∷ [])
   -- "v = 1 with v = 2: 8."
@@ -110,19 +103,19 @@ pub record DeckCases : Type 0 where
       assigned (problem 1 2 (pos 1 ∷ pos 1 ∷ []) (pos 1 ∷ pos 2 ∷ []) (pos 1 ∷ []) (pos 9 ∷ []) (pos 0 ∷ []) 10000)
       ≡ gives (Refused NoWholeNumbers) (pos 7 ∷ []) (7 ∷ [])
   -- "No rows, bounds 3..5, no goal: FITTED 0 0 with 3, stride 1."
-  pub free : assigned (problem 1 0 [] [] (pos 3 ∷ []) (pos 5 ∷ []) (pos 0 ∷ []) 10000) ≡ gives (Fitted (steps 0 0)) (pos 3 ∷ []) (1 ∷ [])
+  pub free : assigned (problem 1 0 [] [] (pos 3 ∷ []) (pos 5 ∷ []) (pos 0 ∷ []) 10000) ≡ gives (Fitted (countsOf 0 0)) (pos 3 ∷ []) (1 ∷ [])
   -- "Goals 400, 1414, 1415, 2449, 2450: ideals 1, 1, 2, 2, 3."
   pub ideals : (v : List ℤ) → fiveIdeals v ≡ pos 1 ∷ pos 1 ∷ pos 2 ∷ pos 2 ∷ pos 3 ∷ []
   -- "3v1 = 2v2, bounds 1..100, goals 2500 and 4000: seated 4, 6; FITTED 0 1 with 2, 3; strides 2, 3."
   pub basis : solved threeTwo .found ≡ some (pos 0 ∷ pos 0 ∷ []) ((pos 2 ∷ pos 3 ∷ []) ∷ [])
   pub seats : seatedOf threeTwo ≡ seated (pos 4 ∷ pos 6 ∷ [])
-  pub three-two : assigned threeTwo ≡ gives (Fitted (steps 0 1)) (pos 2 ∷ pos 3 ∷ []) (2 ∷ 3 ∷ [])
+  pub three-two : assigned threeTwo ≡ gives (Fitted (countsOf 0 1)) (pos 2 ∷ pos 3 ∷ []) (2 ∷ 3 ∷ [])
   -- "v1 = 2v2, bounds 1..1 and 1..10, no goals: OUTSIDE 0 0 with 2, 1."
   pub outside :
       assigned (problem 2 1 (pos 1 ∷ negsuc 1 ∷ []) (pos 0 ∷ []) (pos 1 ∷ pos 1 ∷ []) (pos 1 ∷ pos 10 ∷ []) (pos 0 ∷ pos 0 ∷ []) 10000)
-      ≡ gives (Outside (steps 0 0)) (pos 2 ∷ pos 1 ∷ []) (2 ∷ 1 ∷ [])
+      ≡ gives (Outside (countsOf 0 0)) (pos 2 ∷ pos 1 ∷ []) (2 ∷ 1 ∷ [])
   -- "v1 = v2, bounds 1..10 and 5..10, no goals: FITTED 4 0 with 5, 5." "Limit 3: SPENT 3 0 with 4, 4."
-  pub fitted : assigned (tied 10000) ≡ gives (Fitted (steps 4 0)) (pos 5 ∷ pos 5 ∷ []) (1 ∷ 1 ∷ [])
-  pub spent : assigned (tied 3) ≡ gives (Spent (steps 3 0)) (pos 4 ∷ pos 4 ∷ []) (1 ∷ 1 ∷ [])
+  pub fitted : assigned (tied 10000) ≡ gives (Fitted (countsOf 4 0)) (pos 5 ∷ pos 5 ∷ []) (1 ∷ 1 ∷ [])
+  pub spent : assigned (tied 3) ≡ gives (Spent (countsOf 3 0)) (pos 4 ∷ pos 4 ∷ []) (1 ∷ 1 ∷ [])
   -- "Paving."
   pub paving : printed pavingText ≡ pavingListing

@@ -23,8 +23,8 @@ use Rattle.whole.proofs.Lists.{set-behind}
 use Rattle.whole.proofs.Signed.{lt-zero}
 use Rattle.lattice.specs.Rows.{neg, ZeroTo}
 use Rattle.lattice.proofs.FlatLaws.{one-less}
-use Rattle.lattice.proofs.Writing as Writing
-use Rattle.lattice.proofs.Writing.{WrittenTo}
+use Rattle.whole.proofs.Writing as Writing
+use Rattle.whole.proofs.Writing.{WrittenTo}
 use Rattle.tableau.specs.Elimination.{signed}
 use Rattle.tableau.specs.Tails.{lowerFirst, brought, Lifted}
 

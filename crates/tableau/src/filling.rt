@@ -25,7 +25,7 @@ fn fill_unit(to: &mut [i64], j: usize)
     requires { ⌜ j < length (now to) ⌝ }
     ensures { λ _. ⌜ now (to .exit) ≡ unit (length (now (to .entry))) j ⌝ }
 {
-    lattice::wipe(to);
+    whole::buffers::wipe(to);
     to[j] = 1;
 }
 

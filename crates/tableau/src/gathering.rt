@@ -10,7 +10,7 @@ ghost use Rattle.tableau.specs.Within.{Within};
 use crate::rows::Way;
 use crate::rows::negate;
 use crate::tables::each;
-use lattice::copy;
+use whole::buffers::copy;
 use whole::less;
 use whole::magnitude;
 

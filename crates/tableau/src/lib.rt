@@ -16,11 +16,11 @@ mod tables;
 
 use elimination::pass_all;
 use filling::fill;
-use lattice::wipe;
 use problem::Problem;
 use problem::groups::Group;
 use rows::Way;
 use rows::step;
+use whole::buffers::wipe;
 
 // The most numbers that a row of a table can have.
 pub const MAX_WIDTH: usize = Group::MAX_ROWS + Group::MAX_COLUMNS;

@@ -1,10 +1,17 @@
--- Laws of `written`: lists overwritten one after the other, for any element. Assumes nothing.
+-- Laws of `overwritten` for any element, and of `Wrote`.
+--   length-written                 a list that fits leaves the buffer as long as it was
+--   written-none, -all, -one       no element, as many as the buffer has, and one
+--   written-then                   two lists, one after the other
+--   copied-none, -more, -all       a loop that copies: none, one more, and all elements stand in the buffer
+--   wrote-none, -length, -then     the same of words, each with the place after it
+--   room-first, -next, wrote-both  two words in a buffer that has room for both
+-- Assumes nothing.
 use mathlib.Core.Path.{_≡_, sym, ap, _∙_}
 use mathlib.Core.List.{List, [], _∷_, _++_, append-nil, append-assoc}
-use Prim.Native.Nat.{ℕ, _+_, _-_, _≤_, _<_}
+use Prim.Native.Nat.{ℕ, _+_, _≤_, _<_}
 use native.Mathlib.Numerals.{add-one}
 use native.Mathlib.Omega.{arith}
-use lib.ListN.{replicate, length-replicate, replicate-append-replicate, length, take, drop, set, getD, length-append, length-drop, take-append-drop}
+use lib.ListN.{length, take, drop, set, getD, length-append, length-drop, take-append-drop}
 use lib.Seq.{set-split, take-at, drop-at, drop-drop, drop-length, length-take-le, take-length, paste, paste-zero, paste-suc}
 use Rattle.text.specs.Overwriting.{overwritten, Wrote}
 
@@ -50,24 +57,6 @@ module _ {A : Type 0} where
 
   pub copied-all : (o p : List A) (at i : ℕ) (w : List A) → i ≡ length w → p ≡ paste o at w i → p ≡ overwritten o at w
   copied-all o p at i w h e = (rw h at e) ∙ (rw (take-length w) (append-assoc (take at o) w (drop (at + length w) o)))
-
--- ---- a loop that fills a buffer from one place on: after some turns it is overwritten up to i
-pub fill-none : {A : Type 0} (o : List A) (from : ℕ) (x : A) → o ≡ overwritten o from (replicate (from - from) x)
-fill-none o from x = let z : from - from ≡ 0 = omega arith in rw z (written-none o from)
-
-pub fill-more : {A : Type 0} (o p : List A) (from i : ℕ) (x : A) → from ≤ i → i < length o → p ≡ overwritten o from (replicate (i - from) x)
-    → set p i x ≡ overwritten o from (replicate (i + 1 - from) x)
-fill-more o p from i x h l e =
-    let k = length-replicate (i - from) x in
-    let a : i ≡ from + length (replicate (i - from) x) = omega arith in
-    let b : overwritten o from (replicate (i - from) x) ≡ p = sym e in
-    let w : length p ≡ length o = ap length e ∙ length-written o from (replicate (i - from) x) (omega arith) in
-    let q : i + 1 - from ≡ i - from + 1 = omega arith in
-    written-one p i x (omega arith) ∙
-    (ap (λ (j : ℕ). overwritten p j (x ∷ [])) a ∙
-    (ap (λ (u : List _). overwritten u (from + length (replicate (i - from) x)) (x ∷ [])) e ∙
-    (written-then o from (replicate (i - from) x) (x ∷ []) (omega arith) ∙
-    ap (overwritten o from) (replicate-append-replicate (i - from) 1 x ∙ ap (λ (j : ℕ). replicate j x) (sym q)))))
 
 -- ---- words, each with the place after it
 pub wrote-none : (o : List ℕ) (at : ℕ) → Wrote o at [] at o

@@ -1,4 +1,10 @@
--- Laws of `natural` and `integer`: their clauses, with the room for digits out of sight, how long they are, and how they are written. Assumes nothing.
+-- Laws of `natural` and `integer`.
+--   tenth-less                       a number of two digits or more has a smaller tenth
+--   natural-small, -more             its clauses, with the room for digits out of sight
+--   length-natural, length-integer   a number below a power of ten has no more digits than the power says
+--   integer-low, -high               with a sign, and without
+--   length-more, wrote-small, -more  written: one digit, and the last digit behind those of the tenth
+-- Assumes nothing.
 use mathlib.Core.Path.{_≡_, refl, ap, subst}
 use mathlib.Core.Bool.{Bool, true, false, cond}
 use mathlib.Core.List.{List, [], _∷_, _++_}

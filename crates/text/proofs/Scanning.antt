@@ -1,5 +1,14 @@
--- Laws of specs/Tokens and specs/Positions at the code's positions. The last two, tokens-found and tokens-end, say that what `nextAt` finds from a
--- position on is the head of the tokens from there. Assumes nothing.
+-- Laws of tokens at the code's positions.
+--   stretch-more, -stop, -end   a gap or a run, a byte at a time; run-le: it ends within the text
+--   runs-blank, -gap, -first    what opens a text does not count, and then comes the first run
+--   digit-low, -high            a digit is 48 to 57
+--   worth-none, -more, -stop    what digits are worth, a byte at a time; value-below, plain-below: which is below a power of ten
+--   needed-none, -zero, -other  the test of a needless zero
+--   unsigned-is, -not, minus-is, -not   a run's token, from what its digits are worth
+--   token-none, -minus, -plain  a run by its first byte
+--   next-is, next-end           what stands at or after a position
+--   tokens-found, tokens-end    what `nextAt` finds from a position on is the head of the tokens from there, and the rest stands after it
+-- Assumes nothing.
 -- ---- gaps and runs, a byte at a time
 use mathlib.Core.Path.{_≡_, refl, sym, ap, _∙_, subst}
 use mathlib.Core.Bool.{Bool, true, false, cond, not}
@@ -8,7 +17,7 @@ use Prim.Native.Nat.{ℕ, suc, _+_, _-_, _*_, _^_, _≤_, _<_, zero-le}
 use native.Mathlib.Numerals.{add-one}
 use native.Mathlib.Omega.{arith}
 use native.Mathlib.Nat.{pow-zero, pow-succ', mul-assoc, one-mul, pow-le-pow-right, lt-of-lt-of-le}
-use borrow.Author.Tests.{not-true, not-false, leb-true, eq-eqb, ne-eqb, lt-ltb, le-ltb, ltb-true, ltb-false}
+use borrow.Author.Tests.{not-true, leb-true, eq-eqb, ne-eqb, lt-ltb, le-ltb, ltb-true, ltb-false}
 use lib.IntN.{pos, negℤ}
 use lib.ListN.{length, take, drop, getD, drop-of-length-le, length-drop}
 use lib.Dec.{T, ltb, leb, eqb, eqb·suc-suc, lit<}
@@ -17,46 +26,36 @@ use Rattle.text.specs.declared.Token.{Token}
 use Rattle.text.specs.declared.Token.the-variants.{Number, Bad}
 use Rattle.text.specs.declared.scanner.Worth.the-variants.{Digits, Other}
 use Rattle.text.specs.declared.Next.the-variants.{Found, End}
-use Rattle.text.specs.Tokens.{isBlank, opens, join, runs, isDigit, allDigits, value, noNeedlessZero, isPlain, unsigned, afterMinus, tokenOf, tokens}
-use Rattle.text.specs.Positions.{gap, run, nextFrom, nextAt, plainWorth}
+use Rattle.text.specs.Tokens.{isBlank, opens, join, runs, isDigit, allDigits, value}
+use Rattle.text.specs.Tokens.{noNeedlessZero, isPlain, unsigned, afterMinus, tokenOf, tokens}
+use Rattle.text.specs.Positions.{belongs, stretch, gap, run, nextFrom, nextAt, plainWorth}
 
-pub gap-more : (s : List ℕ) (i : ℕ) → i < length s → isBlank (getD s i 0) ≡ true → gap (drop i s) ≡ gap (drop (i + 1) s) + 1
-unfolding gap
-gap-more s i h e = rw (drop-cons s i 0 h) (rw e (rw (add-one i, add-one (gap (drop (suc i) s)))))
+module _ (t : Bool) (s : List ℕ) (i : ℕ) where
+  pub stretch-more : i < length s → belongs t (getD s i 0) ≡ true → stretch t (drop i s) ≡ stretch t (drop (i + 1) s) + 1
+  unfolding stretch
+  stretch-more h e = rw (drop-cons s i 0 h) (rw e (rw (add-one i, add-one (stretch t (drop (suc i) s)))))
 
-pub gap-stop : (s : List ℕ) (i : ℕ) → i < length s → isBlank (getD s i 0) ≡ false → gap (drop i s) ≡ 0
-unfolding gap
-gap-stop s i h e = rw (drop-cons s i 0 h) (rw e)
+  pub stretch-stop : i < length s → belongs t (getD s i 0) ≡ false → stretch t (drop i s) ≡ 0
+  unfolding stretch
+  stretch-stop h e = rw (drop-cons s i 0 h) (rw e)
 
-pub gap-end : (s : List ℕ) (i : ℕ) → length s ≤ i → gap (drop i s) ≡ 0
-unfolding gap
-gap-end s i h = rw (drop-of-length-le s h)
-
-pub run-more : (s : List ℕ) (i : ℕ) → i < length s → isBlank (getD s i 0) ≡ false → run (drop i s) ≡ run (drop (i + 1) s) + 1
-unfolding run
-run-more s i h e = rw (drop-cons s i 0 h) (rw e (rw (add-one i, add-one (run (drop (suc i) s)))))
-
-pub run-stop : (s : List ℕ) (i : ℕ) → i < length s → isBlank (getD s i 0) ≡ true → run (drop i s) ≡ 0
-unfolding run
-run-stop s i h e = rw (drop-cons s i 0 h) (rw e)
-
-pub run-end : (s : List ℕ) (i : ℕ) → length s ≤ i → run (drop i s) ≡ 0
-unfolding run
-run-end s i h = rw (drop-of-length-le s h)
+  pub stretch-end : length s ≤ i → stretch t (drop i s) ≡ 0
+  unfolding stretch
+  stretch-end h = rw (drop-of-length-le s h)
 
 pub run-le : (s : List ℕ) → run s ≤ length s
-unfolding run
+unfolding stretch
 run-le [] = zero-le
-run-le (b ∷ s) = below (isBlank b) (run-le s)
+run-le (b ∷ s) = below (not (isBlank b)) (run-le s)
   where
-    below : (t : Bool) → run s ≤ length s → cond t 0 (suc (run s)) ≤ suc (length s)
-    below true h = zero-le
-    below false h = omega arith
+    below : (t : Bool) → run s ≤ length s → cond t (suc (run s)) 0 ≤ suc (length s)
+    below true h = omega arith
+    below false h = zero-le
 
 run-closed : (s : List ℕ) → opens s ≡ false → run s ≡ 0
-unfolding run
+unfolding stretch
 run-closed [] h = refl
-run-closed (b ∷ s) h = rw (not-false (isBlank b) h)
+run-closed (b ∷ s) h = rw h
 
 -- ---- runs: what opens a text does not count, and then comes the first run
 pub runs-blank : (b : ℕ) (s : List ℕ) → isBlank b ≡ true → runs (b ∷ s) ≡ runs s
@@ -64,15 +63,15 @@ unfolding runs
 runs-blank b s e = rw e
 
 gap-blank : (b : ℕ) (s : List ℕ) → isBlank b ≡ true → gap (b ∷ s) ≡ suc (gap s)
-unfolding gap
+unfolding stretch
 gap-blank b s e = rw e
 
 gap-other : (b : ℕ) (s : List ℕ) → isBlank b ≡ false → gap (b ∷ s) ≡ 0
-unfolding gap
+unfolding stretch
 gap-other b s e = rw e
 
 run-other : (b : ℕ) (s : List ℕ) → isBlank b ≡ false → run (b ∷ s) ≡ suc (run s)
-unfolding run
+unfolding stretch
 run-other b s e = rw e
 
 runs-other : (b : ℕ) (s : List ℕ) → isBlank b ≡ false → runs (b ∷ s) ≡ join (opens s) b (runs s)
@@ -80,7 +79,7 @@ unfolding runs
 runs-other b s e = rw e
 
 pub runs-gap : (s : List ℕ) → runs s ≡ runs (drop (gap s) s)
-unfolding gap
+unfolding stretch
 runs-gap [] = refl
 runs-gap (b ∷ s) = at (isBlank b) refl (runs-gap s)
   where
@@ -89,14 +88,15 @@ runs-gap (b ∷ s) = at (isBlank b) refl (runs-gap s)
     at false e h = rw (gap-other b s e)
 
 pub runs-first : (s : List ℕ) → opens s ≡ true → runs s ≡ take (run s) s ∷ runs (drop (run s) s)
-unfolding runs run
+unfolding runs stretch
 runs-first [] h = absurd (subst T (sym h) tt)
 runs-first (b ∷ s) h = rw (runs-other b s e, run-other b s e) (at (opens s) refl (runs-first s))
   where
     e : isBlank b ≡ false
     e = not-true (isBlank b) h
 
-    at : (t : Bool) → opens s ≡ t → (opens s ≡ true → runs s ≡ take (run s) s ∷ runs (drop (run s) s)) → join (opens s) b (runs s) ≡ (b ∷ take (run s) s) ∷ runs (drop (run s) s)
+    at : (t : Bool) → opens s ≡ t → (opens s ≡ true → runs s ≡ take (run s) s ∷ runs (drop (run s) s))
+        → join (opens s) b (runs s) ≡ (b ∷ take (run s) s) ∷ runs (drop (run s) s)
     at true k f = rw (k, f k)
     at false k f = rw (k, run-closed s k)
 
@@ -229,7 +229,7 @@ pub next-end : (s : List ℕ) (at a : ℕ) → a ≡ at + gap (drop at s) → le
 next-end s at a p q = ap (nextFrom s) (sym p) ∙ (rw (le-ltb a (length s) q))
 
 gap-opens : (s : List ℕ) → gap s < length s → opens (drop (gap s) s) ≡ true
-unfolding gap
+unfolding stretch
 gap-opens [] h = absurd (omega arith)
 gap-opens (b ∷ s) h = at (isBlank b) refl (gap-opens s)
   where

@@ -1,6 +1,6 @@
 -- Buffers of any element that are overwritten from a place on.
---   overwritten o at w     the buffer o with the list w in place of what stood from at on
---   Wrote o at w r p   w was overwritten into o at a place: the buffer is p, and the place after w is r
+--   overwritten o at w   the buffer o with the list w in place of what stood from at on
+--   Wrote o at w r p     w is written into o from the place at on: the buffer is then p, and the place after w is r
 -- Assumes nothing.
 use mathlib.Core.Path.{_≡_}
 use mathlib.Core.List.{List, _++_}

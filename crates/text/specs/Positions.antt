@@ -1,11 +1,13 @@
 -- How a text is walked: from a position on.
---   gap s, run s     how many bytes that part numbers, and how many others, open the text s
+--   stretch t s      how many bytes open the text s that part numbers, where t is true, or how many others; `belongs` tests a byte
+--   gap s, run s     both of them
 --   worthOf w        what bytes are worth if all are digits (Worth is declared in src/)
 --   plainWorth w     what they are worth if they are a number with no sign
---   nextAt s at      the first token at or after a position, and where it ends (Next is declared in src/); the laws tokens-found and
---                    tokens-end of proofs/Scanning say that it is the head of `tokens (drop at s)`, and that the rest stands after it
+--   nextAt s at      the first token at or after a position, and where it ends (Next is declared in src/); nextFrom takes the place after the
+--                    gap. The laws tokens-found and tokens-end of proofs/Scanning say that it is the head of `tokens (drop at s)`, and that the
+--                    rest stands after it
 -- Assumes nothing.
-use mathlib.Core.Bool.{cond}
+use mathlib.Core.Bool.{Bool, true, false, cond, not}
 use mathlib.Core.List.{List, [], _∷_}
 use Prim.Native.Nat.{ℕ, suc, _+_}
 use lib.Dec.{ltb}
@@ -16,13 +18,19 @@ use Rattle.text.specs.declared.scanner.Worth.{Worth}
 use Rattle.text.specs.declared.scanner.Worth.the-variants.{Digits, Other}
 use Rattle.text.specs.Tokens.{isBlank, allDigits, value, isPlain, tokenOf}
 
-unfoldable pub gap : List ℕ → ℕ
-gap [] = 0
-gap (b ∷ s) = cond (isBlank b) (suc (gap s)) 0
+abbrev pub belongs : Bool → ℕ → Bool
+belongs true b = isBlank b
+belongs false b = not (isBlank b)
 
-unfoldable pub run : List ℕ → ℕ
-run [] = 0
-run (b ∷ s) = cond (isBlank b) 0 (suc (run s))
+unfoldable pub stretch : Bool → List ℕ → ℕ
+stretch t [] = 0
+stretch t (b ∷ s) = cond (belongs t b) (suc (stretch t s)) 0
+
+abbrev pub gap : List ℕ → ℕ
+gap s = stretch true s
+
+abbrev pub run : List ℕ → ℕ
+run s = stretch false s
 
 abbrev pub worthOf : List ℕ → Worth
 worthOf w = cond (allDigits w) (Digits (value 0 w)) Other

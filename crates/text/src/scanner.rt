@@ -7,7 +7,7 @@ ghost use Prim.Native.Nat.{_+_, _-_, _*_, _<_, _≤_, _^_};
 ghost use lib.IntN.{pos, negℤ};
 ghost use lib.ListN.{length, drop};
 ghost use Rattle.text.specs.Tokens.{isBlank, isDigit, noNeedlessZero, unsigned, afterMinus, tokenOf};
-ghost use Rattle.text.specs.Positions.{gap, run, worthOf, plainWorth, nextAt};
+ghost use Rattle.text.specs.Positions.{belongs as belongs·rule, stretch, worthOf, plainWorth, nextAt};
 
 // What digits are worth.
 enum Worth {
@@ -27,31 +27,24 @@ fn is_digit(b: u8) -> bool
     if b'0' <= b { b <= b'9' } else { false }
 }
 
-// Where the bytes that part numbers end.
-fn skip(s: &[u8], at: usize) -> usize
-    ensures { λ r. ⌜ r ≡ at + gap (drop at (now (s .entry))) ⌝ }
+// Whether a byte is of a gap, or of a run.
+fn belongs(b: u8, blank: bool) -> bool
+    ensures { λ r. ⌜ r ≡ belongs·rule blank b ⌝ }
+{
+    if blank { is_blank(b) } else { !is_blank(b) }
+}
+
+// Where a gap or a run ends that starts at a position.
+fn stretch_end(s: &[u8], at: usize, blank: bool) -> usize
+    ensures { λ r. ⌜ r ≡ at + stretch blank (drop at (now (s .entry))) ⌝ }
 {
     let mut i = at;
     while i < s.len() {
-        if is_blank(s[i]) {
+        if belongs(s[i], blank) {
             i += 1;
         } else {
             return i;
         }
-    }
-    i
-}
-
-// Where a run of other bytes ends.
-fn run_end(s: &[u8], at: usize) -> usize
-    ensures { λ r. ⌜ r ≡ at + run (drop at (now (s .entry))) ⌝ }
-{
-    let mut i = at;
-    while i < s.len() {
-        if is_blank(s[i]) {
-            return i;
-        }
-        i += 1;
     }
     i
 }
@@ -168,9 +161,9 @@ fn token_of(w: &[u8]) -> Token
 pub fn next_token(s: &[u8], at: usize) -> Next
     ensures { λ r. ⌜ r ≡ nextAt (now (s .entry)) at ⌝ }
 {
-    let a = skip(s, at);
+    let a = stretch_end(s, at, true);
     if a < s.len() {
-        let e = run_end(s, a);
+        let e = stretch_end(s, a, false);
         let t = token_of(&s[a..e]);
         Next::Found(t, e)
     } else {

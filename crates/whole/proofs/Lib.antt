@@ -6,3 +6,4 @@ pub mod Euclid
 pub mod Counted
 pub mod Never
 pub mod Integers
+pub mod Writing

@@ -1,3 +1,5 @@
+pub mod buffers;
+
 ghost use mathlib.Core.Path.{_≡_};
 ghost use Prim.Native.Nat.{_<_};
 ghost use lib.IntN.{ℤ, pos, natAbs, negℤ, _+ℤ_, _*ℤ_};

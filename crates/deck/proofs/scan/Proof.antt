@@ -1,15 +1,65 @@
 -- `deck::scan` meets its contract: the sections' tables are the deck's, and nothing may be left behind them. Assumes nothing.
 use mathlib.Core.Path.{_≡_, sym, ap, _∙_}
+use mathlib.Core.List.{List}
+use Prim.Native.Nat.{ℕ}
+use lib.IntN.{ℤ}
 use lib.ListN.{length}
-use Rattle.sections.specs.Rules.{no}
-use Rattle.sections.specs.Sections.{deckRows, intervalSection, rowSection}
+use Rattle.sections.specs.Rules.{Outcome, no}
+use Rattle.sections.specs.Sections.{deckRows, Line, intervalSection, rowSection}
 use Rattle.sections.specs.StatedColumns.{columnCells}
-use Rattle.sections.specs.SectionsRead.{intervalsDone, rowsDone}
+use Rattle.sections.specs.SectionsRead.{intervalsDone, RowsDone, rowsDone}
+use Rattle.sections.specs.declared.Cursor.{Cursor}
+use Rattle.sections.specs.declared.Section.{Section}
 use Rattle.sections.proofs.Storage.{length-blank}
-use Rattle.deck.proofs.Whole.{IntervalsFound, intervals-found, intervals-refused, few-intervals, rows-found, rows-refused, deck-intervals, deck-rows, left-over, stored}
+use Rattle.deck.proofs.Whole.{IntervalsFound, RowsFound, intervals-found, intervals-refused, few-intervals, rows-found, rows-refused}
+use Rattle.deck.proofs.Whole.{deck-intervals, deck-rows, left-over, stored}
 use borrow.Author.Needs.{needs}
 use Rattle.deck.proofs.scan.Statement.{statement}
 use Rattle.deck.proofs.scan.Tie as tie
+
+-- the intervals that were read, with the columns that they left
+module _ (d : tie.After-a) where
+  abbrev after-intervals : tie.After-read-intervals
+  after-intervals = d .before .before .before
+
+  abbrev start : tie.Start
+  start = after-intervals .before .before .before
+
+  abbrev text : List ℕ
+  text = start .args .s .now
+
+  abbrev cursor : Cursor
+  cursor = d .a .given .0 .0
+
+  abbrev columns : List ℤ
+  columns = after-intervals .read-intervals .last .1 .1 .0
+
+  long : length columns ≡ columnCells
+  long = after-intervals .read-intervals .kept .1 .1 .0 ∙ (ap length (start .pre .0) ∙ length-blank columnCells)
+
+  found : IntervalsFound (intervalSection text 0) cursor columns
+  found = intervals-found _ _ _ (ap (λ (r : _). intervalsDone r columns) (sym (d .a .given .1)) ∙ after-intervals .read-intervals .ensures)
+
+-- the call for the rows, and what it left in the tables
+module _ (d : tie.After-read-rows) where
+  abbrev after-a : tie.After-a
+  after-a = d .before .before .before .before .before
+
+  abbrev answered : Section → RowsDone
+  answered r = rowsDone r (d .read-rows .last .1 .1 .0) (d .read-rows .last .1 .1 .1 .0) (d .read-rows .last .1 .1 .1 .1 .0)
+
+  abbrev section : Outcome (List Line)
+  section = rowSection (text after-a) (cursor after-a .intervals) (cursor after-a .at)
+
+-- the rows that were read
+module _ (d : tie.After-b) where
+  abbrev after-rows : tie.After-read-rows
+  after-rows = d .before .before .before .before .before
+
+  rows : let a = after-a after-rows in let w = after-rows .read-rows in
+      RowsFound (cursor a .intervals) (columns a) (section after-rows) (d .b .given .0 .0) (w .last .1 .1 .0) (w .last .1 .1 .1 .0)
+      (w .last .1 .1 .1 .1 .0)
+  rows = rows-found _ _ _ _ _ _ _ (ap (answered after-rows) (sym (d .b .given .1)) ∙ after-rows .read-rows .ensures)
 
 read-intervals-requires : tie.Need-read-intervals-requires
 read-intervals-requires c κs = search needs
@@ -19,12 +69,9 @@ enum-known-a c = search needs
 
 read-rows-requires : tie.Need-read-rows-requires
 read-rows-requires c κs =
-    let x = c .before .before .before .before .before .before .before .before .before .before .args in
-    let v = c .before .before .before .before .before .before .before .read-intervals in
-    let k = v .last .1 .1 .0 in
-    let h = v .kept .1 .1 .0 ∙ (ap length (c .before .before .before .before .before .before .before .before .before .before .pre .0) ∙ length-blank columnCells) in
-    let i : IntervalsFound (intervalSection (x .s .now) 0) (c .before .before .before .before .a .given .0 .0) k = intervals-found _ _ _ (ap (λ (r : _). intervalsDone r k) (sym (c .before .before .before .before .a .given .1)) ∙ v .ensures) in
-    ((few-intervals i h, i .columns, i .rows), (h, c .before .before .before .before .before .before .before .before .before .before .pre .1, c .before .before .before .before .before .before .before .before .before .before .pre .2))
+    let a = c .before .before .before .before in
+    let i = found a in
+    ((few-intervals i (long a), i .columns, i .rows), (long a, start a .pre .1, start a .pre .2))
 
 enum-known-b : tie.Need-enum-known-b
 enum-known-b c = search needs
@@ -49,17 +96,11 @@ same-length-3 c = search needs
 
 returns : tie.Need-returns
 returns c =
-    let x = c .before .before .before .before .before .before .before .before .before .before .before .before .before .before .before .before .before .before .before .args in
-    let v = c .before .before .before .before .before .before .before .before .before .before .before .before .before .before .before .before .read-intervals in
-    let w = c .before .before .before .before .before .before .before .before .read-rows in
-    let k = v .last .1 .1 .0 in
-    let k' = w .last .1 .1 .0 in
-    let b' = w .last .1 .1 .1 .0 in
-    let t' = w .last .1 .1 .1 .1 .0 in
-    let h = v .kept .1 .1 .0 ∙ (ap length (c .before .before .before .before .before .before .before .before .before .before .before .before .before .before .before .before .before .before .before .pre .0) ∙ length-blank columnCells) in
-    let i : IntervalsFound (intervalSection (x .s .now) 0) (c .before .before .before .before .before .before .before .before .before .before .before .before .before .a .given .0 .0) k = intervals-found _ _ _ (ap (λ (r : _). intervalsDone r k) (sym (c .before .before .before .before .before .before .before .before .before .before .before .before .before .a .given .1)) ∙ v .ensures) in
-    let r = rows-found (c .before .before .before .before .before .before .before .before .before .before .before .before .before .a .given .0 .0 .intervals) k k' b' t' (rowSection (x .s .now) (c .before .before .before .before .before .before .before .before .before .before .before .before .before .a .given .0 .0 .intervals) (c .before .before .before .before .before .before .before .before .before .before .before .before .before .a .given .0 .0 .at)) (c .before .before .before .b .given .0 .0) (ap (λ (r : _). rowsDone r k' b' t') (sym (c .before .before .before .b .given .1)) ∙ w .ensures) in
-    stored (x .s .now) (c .before .before .before .before .before .before .before .before .before .before .before .before .before .a .given .0 .0) (c .before .before .before .b .given .0 .0) k k' b' t' i r h (w .kept .1 .1 .0 ∙ h) (w .kept .1 .1 .1 .0 ∙ (ap length (c .before .before .before .before .before .before .before .before .before .before .before .before .before .before .before .before .before .before .before .pre .1) ∙ length-blank deckRows)) (sym (c .before .is-closed .ensures) ∙ c .if1 .taken)
+    let d = c .before .before .before in
+    let w = after-rows d .read-rows in
+    let a = after-a (after-rows d) in
+    stored (text a) (cursor a) (d .b .given .0 .0) (columns a) _ _ _ (found a) (rows d) (long a) (w .kept .1 .1 .0 ∙ long a)
+    (w .kept .1 .1 .1 .0 ∙ (ap length (start a .pre .1) ∙ length-blank deckRows)) (sym (c .before .is-closed .ensures) ∙ c .if1 .taken)
 
 same-length-4 : tie.Need-same-length-4
 same-length-4 c = search needs
@@ -72,16 +113,9 @@ same-length-6 c = search needs
 
 returns-2 : tie.Need-returns-2
 returns-2 c =
-    let x = c .before .before .before .before .before .before .before .before .before .before .before .before .before .before .before .before .before .before .before .args in
-    let v = c .before .before .before .before .before .before .before .before .before .before .before .before .before .before .before .before .read-intervals in
-    let w = c .before .before .before .before .before .before .before .before .read-rows in
-    let k = v .last .1 .1 .0 in
-    let k' = w .last .1 .1 .0 in
-    let b' = w .last .1 .1 .1 .0 in
-    let t' = w .last .1 .1 .1 .1 .0 in
-    let i : IntervalsFound (intervalSection (x .s .now) 0) (c .before .before .before .before .before .before .before .before .before .before .before .before .before .a .given .0 .0) k = intervals-found _ _ _ (ap (λ (r : _). intervalsDone r k) (sym (c .before .before .before .before .before .before .before .before .before .before .before .before .before .a .given .1)) ∙ v .ensures) in
-    let r = rows-found (c .before .before .before .before .before .before .before .before .before .before .before .before .before .a .given .0 .0 .intervals) k k' b' t' (rowSection (x .s .now) (c .before .before .before .before .before .before .before .before .before .before .before .before .before .a .given .0 .0 .intervals) (c .before .before .before .before .before .before .before .before .before .before .before .before .before .a .given .0 .0 .at)) (c .before .before .before .b .given .0 .0) (ap (λ (r : _). rowsDone r k' b' t') (sym (c .before .before .before .b .given .1)) ∙ w .ensures) in
-    left-over (x .s .now) (c .before .before .before .before .before .before .before .before .before .before .before .before .before .a .given .0 .0) (c .before .before .before .b .given .0 .0) k k' b' t' i r (sym (c .before .is-closed .ensures) ∙ c .if1 .left)
+    let d = c .before .before .before in
+    let a = after-a (after-rows d) in
+    left-over (text a) (cursor a) (d .b .given .0 .0) (columns a) _ _ _ (found a) (rows d) (sym (c .before .is-closed .ensures) ∙ c .if1 .left)
 
 same-length-7 : tie.Need-same-length-7
 same-length-7 c = search needs
@@ -94,24 +128,23 @@ same-length-9 c = search needs
 
 returns-3 : tie.Need-returns-3
 returns-3 c =
-    let x = c .before .before .before .before .before .before .before .before .before .before .before .before .before .before .before .before .before .args in
-    let v = c .before .before .before .before .before .before .before .before .before .before .before .before .before .before .read-intervals in
-    let w = c .before .before .before .before .before .before .read-rows in
-    let k = v .last .1 .1 .0 in
-    let k' = w .last .1 .1 .0 in
-    let b' = w .last .1 .1 .1 .0 in
-    let t' = w .last .1 .1 .1 .1 .0 in
-    let i : IntervalsFound (intervalSection (x .s .now) 0) (c .before .before .before .before .before .before .before .before .before .before .before .a .given .0 .0) k = intervals-found _ _ _ (ap (λ (r : _). intervalsDone r k) (sym (c .before .before .before .before .before .before .before .before .before .before .before .a .given .1)) ∙ v .ensures) in
-    let r : rowSection (x .s .now) (c .before .before .before .before .before .before .before .before .before .before .before .a .given .0 .0 .intervals) (c .before .before .before .before .before .before .before .before .before .before .before .a .given .0 .0 .at) ≡ no (c .before .b2 .given .0 .0) = rows-refused (c .before .before .before .before .before .before .before .before .before .before .before .a .given .0 .0 .intervals) k k' b' t' _ _ (ap (λ (r : _). rowsDone r k' b' t') (sym (c .before .b2 .given .1)) ∙ w .ensures) in
-    deck-rows (x .s .now) (i .is) _ _ (i .read) (rw (i .intervals) at r)
+    let after-columns = c .before .before .before .before .before in
+    let d = after-columns .before in
+    let a = after-a d in
+    let i = found a in
+    let r : section d ≡ no (c .before .b2 .given .0 .0) =
+    rows-refused _ _ _ _ _ _ _ (ap (answered d) (sym (c .before .b2 .given .1)) ∙ d .read-rows .ensures) in
+    deck-rows (text a) (i .is) _ _ (i .read) (ap (λ (n : ℕ). rowSection (text a) n (cursor a .at)) (sym (i .intervals)) ∙ r)
 
 same-length-10 : tie.Need-same-length-10
 same-length-10 c = search needs
 
 returns-4 : tie.Need-returns-4
 returns-4 c =
-    let x = c .before .before .before .before .before .before .before .args in
-    let v = c .before .before .before .before .read-intervals in
+    let after-read-intervals = c .before .before .before .before in
+    let start = after-read-intervals .before .before .before in
+    let x = start .args in
+    let v = after-read-intervals .read-intervals in
     let k = v .last .1 .1 .0 in
     deck-intervals (x .s .now) _ (intervals-refused _ _ k (ap (λ (r : _). intervalsDone r k) (sym (c .before .a2 .given .1)) ∙ v .ensures))
 

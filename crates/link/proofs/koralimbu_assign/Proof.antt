@@ -9,7 +9,8 @@ use Rattle.link.proofs.koralimbu_assign.Tie as tie
 
 module _ (a : tie.Start) where
   abbrev P : Posed
-  P = posedBy (problemOf (a .args .n) (a .args .m) (a .args .limit)) (a .args .coefficients .now) (a .args .rights .now) (a .args .lower .now) (a .args .upper .now) (a .args .goals .now)
+  P = posedBy (problemOf (a .args .n) (a .args .m) (a .args .limit)) (a .args .coefficients .now) (a .args .rights .now) (a .args .lower .now)
+      (a .args .upper .now) (a .args .goals .now)
 
   abbrev B : Buffers
   B = buffers (a .args .tableau .now) (a .args .values .now) (a .args .strides .now)
@@ -45,10 +46,15 @@ same-length-4 c = search needs
 
 returns-2 : tie.Need-returns-2
 returns-2 c =
-    let a = c .before .before .before .before .before .before .before .before .before .before .before .before .before .before .before .before in
-    let e = c .before .before .before .before .before .before .before .before .before .assign in
-    is-told assign (P a) (B a) (a .args .report .now) (e .result) _ _ _ _ _ (c .before .before .before .before .before .before .before .before .before .before .before .before .before .if1 .left)
-    (e .ensures) (c .before .before .before .tell .ensures) (c .number2 .ensures)
+    let after-tell = c .before .before .before in
+    let after-tableau = after-tell .before .before .before .before .before in
+    let after-assign = after-tableau .before in
+    let else1 = after-assign .before .before .before .before in
+    let start = else1 .before .before .before in
+    let a = start in
+    let e = after-assign .assign in
+    is-told assign (P a) (B a) (a .args .report .now) (e .result) _ _ _ _ _ (else1 .if1 .left)
+    (e .ensures) (after-tell .tell .ensures) (c .number2 .ensures)
 
 pub koralimbu-assign-spec : {M : Type 1} → statement M
 koralimbu-assign-spec =

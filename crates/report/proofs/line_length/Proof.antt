@@ -15,7 +15,8 @@ slice-aggregate-put-line c = search needs
 put-line-requires : tie.Need-put-line-requires
 put-line-requires c κs =
     let x = c .before .args in
-    let h : length (line (x .column) (x .value) (x .stride)) ≤ 64 = length-line (x .column) (x .value) (x .stride) (c .before .fits .column .fits) (abs-fits (x .value) (c .before .fits .value)) (c .before .fits .stride .fits) in
+    let h : length (line (x .column) (x .value) (x .stride)) ≤ 64 = length-line (x .column) (x .value) (x .stride) (c .before .fits .column .fits)
+    (abs-fits (x .value) (c .before .fits .value)) (c .before .fits .stride .fits) in
     rw (toZ-ofZ (c .before .fits .value)) (omega (arith, h))
 
 returns : tie.Need-returns

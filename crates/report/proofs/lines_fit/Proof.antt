@@ -14,7 +14,8 @@ use Rattle.report.proofs.lines_fit.Statement.{statement}
 use Rattle.report.proofs.lines_fit.Tie as tie
 
 abbrev Inv-loop : tie.InvT-loop
-Inv-loop room values strides left₀ i₀ i-end left i = (i ≤ length values) × (left + length (linesFrom 0 values strides) ≡ room + length (linesFrom i (drop i values) (drop i strides)))
+Inv-loop room values strides left₀ i₀ i-end left i =
+    (i ≤ length values) × (left + length (linesFrom 0 values strides) ≡ room + length (linesFrom i (drop i values) (drop i strides)))
 
 abbrev μ-loop : tie.MeasureT-loop
 μ-loop room values strides left₀ i₀ i-end left i = length values - i
@@ -42,12 +43,15 @@ line-length-requires c κs = search needs
 
 returns : tie.Need-returns Inv-loop μ-loop
 returns c =
-    let x = c .before .before .before .before .before .before .before .args in
-    let l = c .before .before .before .before .before .loop in
+    let at-loop = c .before .before .before .before .before in
+    let start = at-loop .before .before in
+    let x = start .args in
+    let l = at-loop .loop in
     let v : ℤ = getD (x .values .now) (l .i) (pos 0) in
     let b : toZ w64 (ofZ w64 v) ≡ v = search needs in
-    let k : c .before .line-length .result ≡ length (line (l .i + 1) v (getD (x .strides .now) (l .i) 0)) = rw b at (c .before .line-length .ensures) in
-    let m = length-more (x .values .now) (x .strides .now) (l .i) (c .before .before .before .before .before .before .before .pre) (omega arith) in
+    let k : c .before .line-length .result ≡ length (line (l .i + 1) v (getD (x .strides .now) (l .i) 0)) =
+    rw b at (c .before .line-length .ensures) in
+    let m = length-more (x .values .now) (x .strides .now) (l .i) (start .pre) (omega arith) in
     sym (lt-leb (length (linesFrom 0 (x .values .now) (x .strides .now))) (x .room) (omega (arith, l .inv .1)))
 
 add-i : tie.Need-add-i Inv-loop μ-loop
@@ -58,12 +62,15 @@ loop-less c = omega arith
 
 loop-again : tie.Need-loop-again Inv-loop μ-loop
 loop-again c =
-    let x = c .before .before .before .before .before .before .before .args in
-    let l = c .before .before .before .before .before .loop in
+    let at-loop = c .before .before .before .before .before in
+    let start = at-loop .before .before in
+    let x = start .args in
+    let l = at-loop .loop in
     let v : ℤ = getD (x .values .now) (l .i) (pos 0) in
     let b : toZ w64 (ofZ w64 v) ≡ v = search needs in
-    let k : c .before .line-length .result ≡ length (line (l .i + 1) v (getD (x .strides .now) (l .i) 0)) = rw b at (c .before .line-length .ensures) in
-    let m = length-more (x .values .now) (x .strides .now) (l .i) (c .before .before .before .before .before .before .before .pre) (omega arith) in
+    let k : c .before .line-length .result ≡ length (line (l .i + 1) v (getD (x .strides .now) (l .i) 0)) =
+    rw b at (c .before .line-length .ensures) in
+    let m = length-more (x .values .now) (x .strides .now) (l .i) (start .pre) (omega arith) in
     (omega arith, omega (arith, l .inv .1))
 
 returns-2 : tie.Need-returns-2 Inv-loop μ-loop

@@ -19,7 +19,11 @@ same-length : tie.Need-same-length
 same-length c = search needs
 
 returns : tie.Need-returns
-returns c = wrote-both (32 ∷ []) (natural (c .before .before .before .before .before .before .before .before .before .before .args .n)) (c .before .before .before .before .before .before .put .ensures) (c .before .before .put-natural .ensures) (c .before .before .before .before .before .before .before .before .before .before .pre)
+returns c =
+    let after-put-natural = c .before .before in
+    let after-put = after-put-natural .before .before .before .before in
+    let start = after-put .before .before .before .before in
+    wrote-both (32 ∷ []) (natural (start .args .n)) (after-put .put .ensures) (after-put-natural .put-natural .ensures) (start .pre)
 
 pub put-field-spec : {M : Type 1} → statement M
 put-field-spec =

@@ -35,7 +35,8 @@ module _ (o : List ℕ) (at : ℕ) (v : List ℤ) (d : List ℕ) (even : length 
   more out p i out' p' f h w k =
       let l : List ℕ = line (i + 1) (getD v i (pos 0)) (getD d i 0) in
       let z : List ℕ = linesFrom (i + 1) (drop (i + 1) v) (drop (i + 1) d) in
-      let e : (f .done ++ l) ++ z ≡ linesFrom 0 v d = append-assoc (f .done) l z ∙ (ap (λ (x : List ℕ). f .done ++ x) (sym (lines-more v d i even h)) ∙ f .rest) in
+      let e : (f .done ++ l) ++ z ≡ linesFrom 0 v d =
+      append-assoc (f .done) l z ∙ (ap (λ (x : List ℕ). f .done ++ x) (sym (lines-more v d i even h)) ∙ f .rest) in
       let r : at + length ((f .done ++ l) ++ z) ≤ length o = rw e room in
       record {
         size = k ∙ f .size;
@@ -69,16 +70,22 @@ mul-put-line-2 : tie.Need-mul-put-line-2 Inv-loop μ-loop
 mul-put-line-2 c = search needs
 
 shared-slice-read-put-line : tie.Need-shared-slice-read-put-line Inv-loop μ-loop
-shared-slice-read-put-line c = omega (arith, c .before .before .before .before .before .before .before .pre .0)
+shared-slice-read-put-line c =
+    let after-shared-slice-known = c .before .before .before .before .before in
+    let start = after-shared-slice-known .before .before in
+    omega (arith, start .pre .0)
 
 put-line-requires : tie.Need-put-line-requires Inv-loop μ-loop
 put-line-requires c κs =
-    let x = c .before .before .before .before .before .before .before .args in
-    let l = c .before .before .before .before .loop in
+    let at-loop = c .before .before .before .before in
+    let start = at-loop .before .before .before in
+    let x = start .args in
+    let l = at-loop .loop in
     let v : ℤ = getD (x .values .now) (l .i) (pos 0) in
     let b : toZ w64 (ofZ w64 v) ≡ v = search needs in
     let h : l .i < length (x .values .now) = omega arith in
-    rw b (room-first _ _ (line (l .i + 1) v (getD (x .strides .now) (l .i) 0)) _ (next-room (x .out .now) (x .at) (x .values .now) (x .strides .now) (c .before .before .before .before .before .before .before .pre .0) (c .before .before .before .before .before .before .before .pre .1) (l .out) (l .p) (l .i) (l .inv) h))
+    rw b (room-first _ _ (line (l .i + 1) v (getD (x .strides .now) (l .i) 0)) _
+    (next-room (x .out .now) (x .at) (x .values .now) (x .strides .now) (start .pre .0) (start .pre .1) (l .out) (l .p) (l .i) (l .inv) h))
 
 add-i : tie.Need-add-i Inv-loop μ-loop
 add-i c = omega arith
@@ -88,13 +95,17 @@ loop-less c = omega arith
 
 loop-again : tie.Need-loop-again Inv-loop μ-loop
 loop-again c =
-    let x = c .before .before .before .before .before .before .before .before .before .before .args in
-    let l = c .before .before .before .before .before .before .before .loop in
-    let w = c .before .before .put-line in
+    let after-put-line = c .before .before in
+    let at-loop = after-put-line .before .before .before .before .before in
+    let start = at-loop .before .before .before in
+    let x = start .args in
+    let l = at-loop .loop in
+    let w = after-put-line .put-line in
     let v : ℤ = getD (x .values .now) (l .i) (pos 0) in
     let b : toZ w64 (ofZ w64 v) ≡ v = search needs in
     let h : l .i < length (x .values .now) = omega arith in
-    more (x .out .now) (x .at) (x .values .now) (x .strides .now) (c .before .before .before .before .before .before .before .before .before .before .pre .0) (c .before .before .before .before .before .before .before .before .before .before .pre .1) (l .out) (l .p) (l .i) (w .last .0) (w .result) (l .inv) h (rw b at (w .ensures)) (w .kept .0)
+    more (x .out .now) (x .at) (x .values .now) (x .strides .now) (start .pre .0) (start .pre .1) (l .out) (l .p) (l .i) (w .last .0) (w .result)
+    (l .inv) h (rw b at (w .ensures)) (w .kept .0)
 
 same-length : tie.Need-same-length Inv-loop μ-loop
 same-length c = c .before .loop .inv .size
@@ -103,7 +114,8 @@ returns : tie.Need-returns Inv-loop μ-loop
 returns c =
     let x = c .before .before .before .before .args in
     let l = c .before .loop in
-    let e : l .inv .done ≡ linesFrom 0 (x .values .now) (x .strides .now) = sym (append-nil (l .inv .done)) ∙ (rw (lines-end (x .values .now) (x .strides .now) (l .i) (omega arith)) at (l .inv .rest)) in
+    let e : l .inv .done ≡ linesFrom 0 (x .values .now) (x .strides .now) =
+    sym (append-nil (l .inv .done)) ∙ (rw (lines-end (x .values .now) (x .strides .now) (l .i) (omega arith)) at (l .inv .rest)) in
     rw e at (l .inv .wrote)
 
 pub put-lines-spec : {M : Type 1} → statement M

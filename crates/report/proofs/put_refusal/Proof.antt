@@ -20,7 +20,8 @@ slice-aggregate-put c = search needs
 
 put-requires : tie.Need-put-requires
 put-requires c κs =
-    let w = refusal-none (c .before .before .before .before .before .args .number) (c .before .before .if1 .taken ∙ c .before .before .before .number .ensures) in
+    let w = refusal-none (c .before .before .before .before .before .args .number)
+    (c .before .before .if1 .taken ∙ c .before .before .before .number .ensures) in
     omega (arith, ap length w, c .before .before .before .before .before .pre)
 
 same-length : tie.Need-same-length
@@ -28,7 +29,10 @@ same-length c = search needs
 
 returns : tie.Need-returns
 returns c =
-    let w = refusal-none (c .before .before .before .before .before .before .before .before .args .number) (c .before .before .before .before .before .if1 .taken ∙ c .before .before .before .before .before .before .number .ensures) in
+    let then1 = c .before .before .before .before .before in
+    let after-number = then1 .before in
+    let start = after-number .before .before in
+    let w = refusal-none (start .args .number) (then1 .if1 .taken ∙ after-number .number .ensures) in
     rw w (c .before .before .put .ensures)
 
 slice-aggregate-put-2 : tie.Need-slice-aggregate-put-2
@@ -43,34 +47,50 @@ put-requires-2 c κs =
 
 put-field-requires : tie.Need-put-field-requires
 put-field-requires c κs =
-    let x = c .before .before .before .before .before .before .before .before .before .args in
-    let w = refusal-other (x .number) (λ h. c .before .before .before .before .before .before .if1 .left (h ∙ sym (c .before .before .before .before .before .before .before .number .ensures))) in
-    let h : 0 + length (numbered (x .number)) ≤ length (x .out .now) = omega (arith, ap length w, c .before .before .before .before .before .before .before .before .before .pre) in
+    let after-put2 = c .before .before .before in
+    let else1 = after-put2 .before .before .before in
+    let after-number = else1 .before in
+    let start = after-number .before .before in
+    let x = start .args in
+    let w = refusal-other (x .number) (λ h. else1 .if1 .left (h ∙ sym (after-number .number .ensures))) in
+    let h : 0 + length (numbered (x .number)) ≤ length (x .out .now) = omega (arith, ap length w, start .pre) in
     let k : List ℕ = field (natural (x .number)) in
-    room-first _ _ k lineEnd (room-next REFUSED (k ++ lineEnd) (c .before .before .before .put2 .ensures) h)
+    room-first _ _ k lineEnd (room-next REFUSED (k ++ lineEnd) (after-put2 .put2 .ensures) h)
 
 slice-aggregate-put-3 : tie.Need-slice-aggregate-put-3
 slice-aggregate-put-3 c = search needs
 
 put-requires-3 : tie.Need-put-requires-3
 put-requires-3 c κs =
-    let x = c .before .before .before .before .before .before .before .before .before .before .before .before .before .before .args in
-    let w = refusal-other (x .number) (λ h. c .before .before .before .before .before .before .before .before .before .before .before .if1 .left (h ∙ sym (c .before .before .before .before .before .before .before .before .before .before .before .before .number .ensures))) in
-    let h : 0 + length (numbered (x .number)) ≤ length (x .out .now) = omega (arith, ap length w, c .before .before .before .before .before .before .before .before .before .before .before .before .before .before .pre) in
+    let after-put-field = c .before .before .before .before in
+    let after-put2 = after-put-field .before .before .before .before in
+    let else1 = after-put2 .before .before .before in
+    let after-number = else1 .before in
+    let start = after-number .before .before in
+    let x = start .args in
+    let w = refusal-other (x .number) (λ h. else1 .if1 .left (h ∙ sym (after-number .number .ensures))) in
+    let h : 0 + length (numbered (x .number)) ≤ length (x .out .now) = omega (arith, ap length w, start .pre) in
     let k : List ℕ = field (natural (x .number)) in
-    room-next k lineEnd (c .before .before .before .before .put-field .ensures) (room-next REFUSED (k ++ lineEnd) (c .before .before .before .before .before .before .before .before .put2 .ensures) h)
+    room-next k lineEnd (after-put-field .put-field .ensures) (room-next REFUSED (k ++ lineEnd) (after-put2 .put2 .ensures) h)
 
 same-length-2 : tie.Need-same-length-2
 same-length-2 c = search needs
 
 returns-2 : tie.Need-returns-2
 returns-2 c =
-    let x = c .before .before .before .before .before .before .before .before .before .before .before .before .before .before .before .before .before .args in
-    let w = refusal-other (x .number) (λ h. c .before .before .before .before .before .before .before .before .before .before .before .before .before .before .if1 .left (h ∙ sym (c .before .before .before .before .before .before .before .before .before .before .before .before .before .before .before .number .ensures))) in
-    let h : 0 + length (numbered (x .number)) ≤ length (x .out .now) = omega (arith, ap length w, c .before .before .before .before .before .before .before .before .before .before .before .before .before .before .before .before .before .pre) in
+    let after-put3 = c .before .before in
+    let after-put-field = after-put3 .before .before .before .before .before in
+    let after-put2 = after-put-field .before .before .before .before in
+    let else1 = after-put2 .before .before .before in
+    let after-number = else1 .before in
+    let start = after-number .before .before in
+    let x = start .args in
+    let w = refusal-other (x .number) (λ h. else1 .if1 .left (h ∙ sym (after-number .number .ensures))) in
+    let h : 0 + length (numbered (x .number)) ≤ length (x .out .now) = omega (arith, ap length w, start .pre) in
     let k : List ℕ = field (natural (x .number)) in
-    let r = room-next REFUSED (k ++ lineEnd) (c .before .before .before .before .before .before .before .before .before .before .before .put2 .ensures) h in
-    rw w (wrote-both REFUSED (k ++ lineEnd) (c .before .before .before .before .before .before .before .before .before .before .before .put2 .ensures) (wrote-both k lineEnd (c .before .before .before .before .before .before .before .put-field .ensures) (c .before .before .put3 .ensures) r) h)
+    let r = room-next REFUSED (k ++ lineEnd) (after-put2 .put2 .ensures) h in
+    rw w (wrote-both REFUSED (k ++ lineEnd) (after-put2 .put2 .ensures)
+    (wrote-both k lineEnd (after-put-field .put-field .ensures) (after-put3 .put3 .ensures) r) h)
 
 pub put-refusal-spec : {M : Type 1} → statement M
 put-refusal-spec =

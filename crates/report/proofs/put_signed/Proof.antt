@@ -14,13 +14,21 @@ put-requires : tie.Need-put-requires
 put-requires c κs = search needs
 
 put-integer-requires : tie.Need-put-integer-requires
-put-integer-requires c κs = rw (toZ-ofZ (c .before .before .before .before .before .before .before .fits .v)) (room-next (32 ∷ []) (integer (c .before .before .before .before .before .before .before .args .v)) (c .before .before .before .put .ensures) (c .before .before .before .before .before .before .before .pre))
+put-integer-requires c κs =
+    let after-put = c .before .before .before in
+    let start = after-put .before .before .before .before in
+    rw (toZ-ofZ (start .fits .v)) (room-next (32 ∷ []) (integer (start .args .v)) (after-put .put .ensures) (start .pre))
 
 same-length : tie.Need-same-length
 same-length c = search needs
 
 returns : tie.Need-returns
-returns c = wrote-both (32 ∷ []) (integer (c .before .before .before .before .before .before .before .before .before .before .args .v)) (c .before .before .before .before .before .before .put .ensures) (rw (toZ-ofZ (c .before .before .before .before .before .before .before .before .before .before .fits .v)) at (c .before .before .put-integer .ensures)) (c .before .before .before .before .before .before .before .before .before .before .pre)
+returns c =
+    let after-put-integer = c .before .before in
+    let after-put = after-put-integer .before .before .before .before in
+    let start = after-put .before .before .before .before in
+    wrote-both (32 ∷ []) (integer (start .args .v)) (after-put .put .ensures)
+    (rw (toZ-ofZ (start .fits .v)) at (after-put-integer .put-integer .ensures)) (start .pre)
 
 pub put-signed-spec : {M : Type 1} → statement M
 put-signed-spec =

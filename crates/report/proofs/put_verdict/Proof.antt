@@ -22,10 +22,12 @@ cast-put-field c = search needs
 
 put-field-requires : tie.Need-put-field-requires
 put-field-requires c κs =
-    let x = c .before .before .before .before .before .before .before .before .args in
+    let after-put = c .before .before .before .before in
+    let start = after-put .before .before .before .before in
+    let x = start .args in
     let g : List ℕ = field (natural (x .counts .goals)) ++ lineEnd in
-    let h : 0 + length (verdict (x .word .now) (x .counts)) ≤ length (x .out .now) = omega (arith, c .before .before .before .before .before .before .before .before .pre) in
-    let r = room-next (x .word .now) (field (natural (x .counts .bounds)) ++ g) (c .before .before .before .before .put .ensures) h in
+    let h : 0 + length (verdict (x .word .now) (x .counts)) ≤ length (x .out .now) = omega (arith, start .pre) in
+    let r = room-next (x .word .now) (field (natural (x .counts .bounds)) ++ g) (after-put .put .ensures) h in
     room-first _ _ (field (natural (x .counts .bounds))) g r
 
 cast-put-field-2 : tie.Need-cast-put-field-2
@@ -33,11 +35,14 @@ cast-put-field-2 c = search needs
 
 put-field-requires-2 : tie.Need-put-field-requires-2
 put-field-requires-2 c κs =
-    let x = c .before .before .before .before .before .before .before .before .before .before .before .before .before .args in
+    let after-put-field = c .before .before .before .before in
+    let after-put = after-put-field .before .before .before .before .before in
+    let start = after-put .before .before .before .before in
+    let x = start .args in
     let g : List ℕ = field (natural (x .counts .goals)) ++ lineEnd in
-    let h : 0 + length (verdict (x .word .now) (x .counts)) ≤ length (x .out .now) = omega (arith, c .before .before .before .before .before .before .before .before .before .before .before .before .before .pre) in
-    let r = room-next (x .word .now) (field (natural (x .counts .bounds)) ++ g) (c .before .before .before .before .before .before .before .before .before .put .ensures) h in
-    let s = room-next (field (natural (x .counts .bounds))) g (c .before .before .before .before .put-field .ensures) r in
+    let h : 0 + length (verdict (x .word .now) (x .counts)) ≤ length (x .out .now) = omega (arith, start .pre) in
+    let r = room-next (x .word .now) (field (natural (x .counts .bounds)) ++ g) (after-put .put .ensures) h in
+    let s = room-next (field (natural (x .counts .bounds))) g (after-put-field .put-field .ensures) r in
     room-first _ _ (field (natural (x .counts .goals))) lineEnd s
 
 slice-aggregate-put : tie.Need-slice-aggregate-put
@@ -45,25 +50,35 @@ slice-aggregate-put c = search needs
 
 put-requires-2 : tie.Need-put-requires-2
 put-requires-2 c κs =
-    let x = c .before .before .before .before .before .before .before .before .before .before .before .before .before .before .before .before .before .before .args in
+    let after-put-field2 = c .before .before .before .before in
+    let after-put-field = after-put-field2 .before .before .before .before .before in
+    let after-put = after-put-field .before .before .before .before .before in
+    let start = after-put .before .before .before .before in
+    let x = start .args in
     let g : List ℕ = field (natural (x .counts .goals)) ++ lineEnd in
-    let h : 0 + length (verdict (x .word .now) (x .counts)) ≤ length (x .out .now) = omega (arith, c .before .before .before .before .before .before .before .before .before .before .before .before .before .before .before .before .before .before .pre) in
-    let r = room-next (x .word .now) (field (natural (x .counts .bounds)) ++ g) (c .before .before .before .before .before .before .before .before .before .before .before .before .before .before .put .ensures) h in
-    let s = room-next (field (natural (x .counts .bounds))) g (c .before .before .before .before .before .before .before .before .before .put-field .ensures) r in
-    room-next (field (natural (x .counts .goals))) lineEnd (c .before .before .before .before .put-field2 .ensures) s
+    let h : 0 + length (verdict (x .word .now) (x .counts)) ≤ length (x .out .now) = omega (arith, start .pre) in
+    let r = room-next (x .word .now) (field (natural (x .counts .bounds)) ++ g) (after-put .put .ensures) h in
+    let s = room-next (field (natural (x .counts .bounds))) g (after-put-field .put-field .ensures) r in
+    room-next (field (natural (x .counts .goals))) lineEnd (after-put-field2 .put-field2 .ensures) s
 
 same-length : tie.Need-same-length
 same-length c = search needs
 
 returns : tie.Need-returns
 returns c =
-    let x = c .before .before .before .before .before .before .before .before .before .before .before .before .before .before .before .before .before .before .before .before .before .args in
+    let after-put2 = c .before .before in
+    let after-put-field2 = after-put2 .before .before .before .before .before in
+    let after-put-field = after-put-field2 .before .before .before .before .before in
+    let after-put = after-put-field .before .before .before .before .before in
+    let start = after-put .before .before .before .before in
+    let x = start .args in
     let g : List ℕ = field (natural (x .counts .goals)) ++ lineEnd in
-    let h : 0 + length (verdict (x .word .now) (x .counts)) ≤ length (x .out .now) = omega (arith, c .before .before .before .before .before .before .before .before .before .before .before .before .before .before .before .before .before .before .before .before .before .pre) in
-    let r = room-next (x .word .now) (field (natural (x .counts .bounds)) ++ g) (c .before .before .before .before .before .before .before .before .before .before .before .before .before .before .before .before .before .put .ensures) h in
-    let s = room-next (field (natural (x .counts .bounds))) g (c .before .before .before .before .before .before .before .before .before .before .before .before .put-field .ensures) r in
-    wrote-both (x .word .now) (field (natural (x .counts .bounds)) ++ g) (c .before .before .before .before .before .before .before .before .before .before .before .before .before .before .before .before .before .put .ensures)
-    (wrote-both (field (natural (x .counts .bounds))) g (c .before .before .before .before .before .before .before .before .before .before .before .before .put-field .ensures) (wrote-both (field (natural (x .counts .goals))) lineEnd (c .before .before .before .before .before .before .before .put-field2 .ensures) (c .before .before .put2 .ensures) s) r) h
+    let h : 0 + length (verdict (x .word .now) (x .counts)) ≤ length (x .out .now) = omega (arith, start .pre) in
+    let r = room-next (x .word .now) (field (natural (x .counts .bounds)) ++ g) (after-put .put .ensures) h in
+    let s = room-next (field (natural (x .counts .bounds))) g (after-put-field .put-field .ensures) r in
+    wrote-both (x .word .now) (field (natural (x .counts .bounds)) ++ g) (after-put .put .ensures)
+    (wrote-both (field (natural (x .counts .bounds))) g (after-put-field .put-field .ensures)
+    (wrote-both (field (natural (x .counts .goals))) lineEnd (after-put-field2 .put-field2 .ensures) (after-put2 .put2 .ensures) s) r) h
 
 pub put-verdict-spec : {M : Type 1} → statement M
 put-verdict-spec =

@@ -11,7 +11,7 @@ use Rattle.whole.specs.Lists.{entry}
 use Rattle.whole.proofs.Signed.{back}
 use Rattle.lattice.specs.Rows.{neg}
 use Rattle.lattice.proofs.RowLaws.{length-neg, entry-neg}
-use Rattle.lattice.proofs.Writing.{WrittenTo, starts, goes-on}
+use Rattle.whole.proofs.Writing.{WrittenTo, starts, goes-on}
 use Rattle.tableau.proofs.Within.{within-entry}
 use Rattle.rightside.proofs.turn_over.Statement.{statement}
 use Rattle.rightside.proofs.turn_over.Tie as tie

@@ -1,4 +1,5 @@
--- `solve::list_assigned` meets its contract: the parts of its clear buffers are blank, and a call keeps their lengths. Assumes nothing.
+-- `solve::list_assigned` meets its contract: the parts of its blank buffers are those of the definition, and a call keeps their lengths.
+-- Assumes nothing.
 use mathlib.Core.Path.{_≡_, sym, _∙_}
 use native.Mathlib.Omega.{arith}
 use mathlib.Core.List.{List, _++_}
@@ -10,7 +11,8 @@ use Rattle.problem.specs.Checks.{Posed}
 use Rattle.engine.specs.Assign.{posedBy}
 use Rattle.sections.specs.Sections.{deckColumns}
 use Rattle.report.specs.Listing.{writeListing}
-use Rattle.solve.proofs.Laws.{clear, clearStrides, few-tableau, put-back, part-back, listed-into}
+use Rattle.sections.specs.StatedColumns.{blank}
+use Rattle.solve.proofs.Laws.{clearStrides, few-tableau, put-back, part-back, listed-into}
 use borrow.Author.Needs.{needs}
 use Rattle.solve.proofs.list_assigned.Statement.{statement}
 use Rattle.solve.proofs.list_assigned.Tie as tie
@@ -22,7 +24,7 @@ module _ (a : tie.Start) where
 -- the call keeps the lengths of the lists
 module _ (w : tie.After-assign) where
   abbrev start : tie.Start
-  start = w .before .before .before .before .before .before
+  start = let after-tableau = w .before .before .before in after-tableau .before .before .before
 
   abbrev values : List ℤ
   values = w .assign .last .1 .1 .1 .1 .1 .1 .1 .0
@@ -36,7 +38,7 @@ module _ (w : tie.After-assign) where
   strides-long : length strides ≡ start .args .p .columns
   strides-long = w .assign .kept .1 .1 .1 .1 .1 .1 .1 .1 .0 ∙ length-take-le _ _ (start .pre .0)
 
-  values-fit : start .args .p .columns ≤ length (values ++ drop (start .args .p .columns) (clear deckColumns))
+  values-fit : start .args .p .columns ≤ length (values ++ drop (start .args .p .columns) (blank deckColumns))
   values-fit = put-back _ values _ values-long
 
   strides-fit : start .args .p .columns ≤ length (strides ++ drop (start .args .p .columns) (clearStrides deckColumns))
@@ -72,11 +74,11 @@ assign-requires : tie.Need-assign-requires
 assign-requires c κs = search needs
 
 array-share-prefix-values : tie.Need-array-share-prefix-values
-unfolding clear
+unfolding blank
 array-share-prefix-values c = values-fit (c .before .before .before .before)
 
 slice-aggregate-write-listing : tie.Need-slice-aggregate-write-listing
-unfolding clear
+unfolding blank
 slice-aggregate-write-listing c = sym (length-take-le _ _ (values-fit (c .before .before .before .before .before)))
 
 array-share-prefix-strides : tie.Need-array-share-prefix-strides
@@ -85,7 +87,10 @@ array-share-prefix-strides c = strides-fit (c .before .before .before .before .b
 
 slice-aggregate-write-listing-2 : tie.Need-slice-aggregate-write-listing-2
 unfolding clearStrides
-slice-aggregate-write-listing-2 c = sym (length-take-le _ _ (strides-fit (c .before .before .before .before .before .before)))
+slice-aggregate-write-listing-2 c =
+    let after-tableau2 = c .before .before .before .before .before in
+    let after-assign = after-tableau2 .before in
+    sym (length-take-le _ _ (strides-fit after-assign))
 
 write-listing-requires : tie.Need-write-listing-requires
 write-listing-requires c κs = search needs
@@ -94,15 +99,18 @@ same-length : tie.Need-same-length
 same-length c = search needs
 
 returns : tie.Need-returns
-unfolding clear clearStrides
+unfolding blank clearStrides
 returns c =
-    let w = c .before .before .before .before .before .before .before .before .before in
+    let after-write-listing = c .before .before in
+    let after-values2 = after-write-listing .before .before .before .before .before in
+    let after-assign = after-values2 .before .before in
+    let w = after-assign in
     let a = start w in
     let o = a .args .out .now in
     let r = w .assign .result in
-    let v = part-back (a .args .p .columns) (values w) (drop (a .args .p .columns) (clear deckColumns)) (values-long w) in
+    let v = part-back (a .args .p .columns) (values w) (drop (a .args .p .columns) (blank deckColumns)) (values-long w) in
     let d = part-back (a .args .p .columns) (strides w) (drop (a .args .p .columns) (clearStrides deckColumns)) (strides-long w) in
-    c .before .before .write-listing .ensures ∙ (λ i. writeListing o r (v i) (d i))
+    after-write-listing .write-listing .ensures ∙ (λ i. writeListing o r (v i) (d i))
     ∙ listed-into o (P a) r _ _ _ (a .pre .0) (a .pre .1) (w .assign .ensures) (values-long w ∙ sym (strides-long w))
 
 pub list-assigned-spec : {M : Type 1} → statement M

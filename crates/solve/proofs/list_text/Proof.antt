@@ -7,7 +7,9 @@ use lib.Seq.{length-take-le}
 use Rattle.sections.specs.Sections.{deckColumns, deckRows}
 use Rattle.deck.specs.Reader.{DeckBuffers, deckBuffers, readDone, read}
 use Rattle.deck.specs.declared.Reading.{Reading}
-use Rattle.solve.proofs.Laws.{clear, few-cells, largest, largest-fit, refused-into, Taken, taken, few-columns, few-rows, accepted-into}
+use Rattle.sections.specs.StatedColumns.{blank}
+use Rattle.sections.proofs.Storage.{few-cells}
+use Rattle.solve.proofs.Laws.{largest, largest-fit, refused-into, Taken, taken, few-columns, few-rows, accepted-into}
 use borrow.Author.Needs.{needs}
 use Rattle.solve.proofs.list_text.Statement.{statement}
 use Rattle.solve.proofs.list_text.Tie as tie
@@ -15,13 +17,14 @@ use Rattle.solve.proofs.list_text.Tie as tie
 -- what the reader leaves
 module _ (w : tie.After-read-deck) where
   abbrev start : tie.Start
-  start = w .before .before .before .before .before .before .before .before
+  start = let after-coefficients = w .before .before .before .before .before in after-coefficients .before .before .before
 
   abbrev left : DeckBuffers
-  left = deckBuffers (w .read-deck .last .1 .0) (w .read-deck .last .1 .1 .0) (w .read-deck .last .1 .1 .1 .0) (w .read-deck .last .1 .1 .1 .1 .0) (w .read-deck .last .1 .1 .1 .1 .1 .0)
+  left = deckBuffers (w .read-deck .last .1 .0) (w .read-deck .last .1 .1 .0) (w .read-deck .last .1 .1 .1 .0) (w .read-deck .last .1 .1 .1 .1 .0)
+      (w .read-deck .last .1 .1 .1 .1 .1 .0)
 
   done-reading : readDone (w .read-deck .result) left ≡ read (start .args .text .now) largest
-  unfolding clear
+  unfolding blank
   done-reading = w .read-deck .ensures
 
   found : {r : Reading} → w .read-deck .result ≡ r → readDone r left ≡ read (start .args .text .now) largest
@@ -30,7 +33,7 @@ module _ (w : tie.After-read-deck) where
 -- what an accepted text leaves: its parts lie in the buffers
 module _ (k : tie.After-known-told2) where
   abbrev at : tie.After-read-deck
-  at = k .before .before .before .before .before .before .before .before
+  at = let after-goals = k .before .before .before in after-goals .before .before .before .before .before
 
   abbrev n : ℕ
   n = k .before .reading2 .given .0 .0
@@ -136,24 +139,34 @@ slice-aggregate-list-assigned-5 : tie.Need-slice-aggregate-list-assigned-5
 slice-aggregate-list-assigned-5 c = sym (length-take-le _ _ (goals-fit (c .before .before .before .before .before)))
 
 list-assigned-requires : tie.Need-list-assigned-requires
-list-assigned-requires c κs = (columns-few (c .before .before .before .before .before .before), rows-few (c .before .before .before .before .before .before))
+list-assigned-requires c κs =
+    let after-coefficients3 = c .before .before .before .before .before in
+    let after-known-told2 = after-coefficients3 .before in
+    (columns-few after-known-told2, rows-few after-known-told2)
 
 same-length : tie.Need-same-length
 same-length c = search needs
 
 returns : tie.Need-returns
 returns c =
-    let w = c .before .before .before .before .before .before .before .before .before .before .before .before in
+    let after-reading = c .before .before .before .before .before in
+    let after-rights2 = after-reading .before .before .before .before .before in
+    let after-read-deck = after-rights2 .before .before in
+    let w = after-read-deck in
     let a = start w .args in
-    c .before .before .list-refused .ensures ∙ refused-into (a .out .now) (a .text .now) largest (left w) _ largest-fit (found w (c .before .before .before .before .before .reading .given .1))
+    c .before .before .list-refused .ensures ∙
+    refused-into (a .out .now) (a .text .now) largest (left w) _ largest-fit (found w (after-reading .reading .given .1))
 
 same-length-2 : tie.Need-same-length-2
 same-length-2 c = search needs
 
 returns-2 : tie.Need-returns-2
 returns-2 c =
-    let k = c .before .before .before .before .before .before .before .before .before in
-    c .before .before .list-assigned .ensures ∙ accepted-into (text-taken k) (start (at k) .args .out .now)
+    let after-list-assigned = c .before .before in
+    let after-rights3 = after-list-assigned .before .before .before .before .before in
+    let after-known-told2 = after-rights3 .before .before in
+    let k = after-known-told2 in
+    after-list-assigned .list-assigned .ensures ∙ accepted-into (text-taken k) (start (at k) .args .out .now)
 
 pub list-text-spec : {M : Type 1} → statement M
 list-text-spec =

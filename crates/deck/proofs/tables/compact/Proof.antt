@@ -96,23 +96,40 @@ copy-requires : tie.Need-copy-requires Inv-loop μ-loop
 copy-requires c κs =
     let x = c .before .before .before .before .args in
     let l = c .before .before .before .loop in
-    let w = part-length (x .table .now) (x .n) (l .i) (c .before .before .before .before .pre .0 .0) (omega (arith, c .before .before .before .before .pre .0 .1)) (c .before .before .before .before .pre .1 .0) in
-    omega (arith, l .inv .many, l .inv .short, l .inv .size, c .before .before .before .before .pre .0 .0, c .before .before .before .before .pre .0 .1)
+    let w = part-length (x .table .now) (x .n) (l .i) (c .before .before .before .before .pre .0 .0)
+    (omega (arith, c .before .before .before .before .pre .0 .1)) (c .before .before .before .before .pre .1 .0) in
+    omega (
+      arith,
+      l .inv .many,
+      l .inv .short,
+      l .inv .size,
+      c .before .before .before .before .pre .0 .0,
+      c .before .before .before .before .pre .0 .1,
+    )
 
 add-to : tie.Need-add-to Inv-loop μ-loop
-add-to c = omega (arith, c .before .before .before .before .before .loop .inv .many, c .before .before .before .before .before .loop .inv .short, c .before .before .before .before .before .before .pre .0 .0, c .before .before .before .before .before .before .pre .0 .1)
+add-to c =
+    let at-loop = c .before .before .before .before .before in
+    let start = at-loop .before in
+    omega (arith, at-loop .loop .inv .many, at-loop .loop .inv .short, start .pre .0 .0, start .pre .0 .1)
 
 add-i : tie.Need-add-i Inv-loop μ-loop
-add-i c = omega (arith, c .before .before .before .before .before .before .pre .0 .1)
+add-i c =
+    let at-loop = c .before .before .before .before .before in
+    let start = at-loop .before in
+    omega (arith, start .pre .0 .1)
 
 loop-less : tie.Need-loop-less Inv-loop μ-loop
 loop-less c = omega arith
 
 loop-again : tie.Need-loop-again Inv-loop μ-loop
 loop-again c =
-    let x = c .before .before .before .before .before .before .args in
-    let l = c .before .before .before .before .before .loop in
-    more (x .table .now) (x .n) (x .m) (x .out .now) (c .before .before .before .before .before .before .pre .0 .0) (c .before .before .before .before .before .before .pre .0 .1) (c .before .before .before .before .before .before .pre .1 .0) (c .before .before .before .before .before .before .pre .1 .1) (l .i) (l .to) (l .out) (c .before .copy .last .0) (l .inv) (omega arith) (c .before .copy .ensures) (c .before .copy .kept .0)
+    let at-loop = c .before .before .before .before .before in
+    let start = at-loop .before in
+    let x = start .args in
+    let l = at-loop .loop in
+    more (x .table .now) (x .n) (x .m) (x .out .now) (start .pre .0 .0) (start .pre .0 .1) (start .pre .1 .0) (start .pre .1 .1) (l .i) (l .to)
+    (l .out) (c .before .copy .last .0) (l .inv) (omega arith) (c .before .copy .ensures) (c .before .copy .kept .0)
 
 same-length : tie.Need-same-length Inv-loop μ-loop
 same-length c = c .before .loop .inv .size ∙ sym (c .before .before .pre .1 .1)
@@ -122,7 +139,8 @@ returns c =
     let x = c .before .before .args in
     let l = c .before .loop in
     let e : x .m - l .i ≡ 0 = omega arith in
-    let d : l .inv .done ≡ compacted (x .n) (x .m) 0 (x .table .now) = sym (append-nil (l .inv .done)) ∙ (rw (e, compacted-end (x .n) (x .table .now) (l .i)) at (l .inv .rest)) in
+    let d : l .inv .done ≡ compacted (x .n) (x .m) 0 (x .table .now) =
+    sym (append-nil (l .inv .done)) ∙ (rw (e, compacted-end (x .n) (x .table .now) (l .i)) at (l .inv .rest)) in
     rw d at (l .inv .wrote)
 
 pub compact-spec : {M : Type 1} → statement M

@@ -40,16 +40,20 @@ more t f o e i out v h =
     let u : List ℤ = drop (i * columnWidth) t in
     let q : deckColumns - (i + 1) ≡ deckColumns - i - 1 = omega arith in
     let d : drop ((i + 1) * columnWidth) t ≡ drop columnWidth u =
-    ap (λ (k : ℕ). drop k t) (let k : (i + 1) * columnWidth ≡ i * columnWidth + columnWidth = omega arith in k) ∙ sym (drop-drop columnWidth (i * columnWidth) t) in
+    ap (λ (k : ℕ). drop k t) (let k : (i + 1) * columnWidth ≡ i * columnWidth + columnWidth = omega arith in k) ∙
+    sym (drop-drop columnWidth (i * columnWidth) t) in
     let n : x ∷ picked f (deckColumns - (i + 1)) (drop ((i + 1) * columnWidth) t) ≡ picked f (deckColumns - i) u =
-    rw (q, d) (ap (λ (y : ℤ). y ∷ picked f (deckColumns - i - 1) (drop columnWidth u)) (sym (entry-drop (i * columnWidth) f t)) ∙ sym (picked-more f (deckColumns - i) u (omega arith))) in
+    rw (q, d)
+    (ap (λ (y : ℤ). y ∷ picked f (deckColumns - i - 1) (drop columnWidth u)) (sym (entry-drop (i * columnWidth) f t)) ∙
+    sym (picked-more f (deckColumns - i) u (omega arith))) in
     record {
       small = omega arith;
       size = length-set out i x ∙ v .size;
       done = v .done ++ (x ∷ []);
       many = length-append (v .done) (x ∷ []) ∙ omega (arith, v .many);
       wrote = wrote-more o out (v .done) i x (v .wrote) (v .many) (omega (arith, v .size)) (omega arith);
-      rest = append-assoc (v .done) (x ∷ []) (picked f (deckColumns - (i + 1)) (drop ((i + 1) * columnWidth) t)) ∙ (ap (λ (y : List ℤ). v .done ++ y) n ∙ v .rest);
+      rest = append-assoc (v .done) (x ∷ []) (picked f (deckColumns - (i + 1)) (drop ((i + 1) * columnWidth) t)) ∙
+          (ap (λ (y : List ℤ). v .done ++ y) n ∙ v .rest);
     }
 
 abbrev Inv-loop : tie.InvT-loop
@@ -89,7 +93,8 @@ loop-again : tie.Need-loop-again Inv-loop μ-loop
 loop-again c =
     let x = c .before .before .before .args in
     let l = c .before .before .loop in
-    let b : toZ w64 (ofZ w64 (entry (l .i * columnWidth + x .place) (x .columns .now))) ≡ entry (l .i * columnWidth + x .place) (x .columns .now) = search needs in
+    let b : toZ w64 (ofZ w64 (entry (l .i * columnWidth + x .place) (x .columns .now))) ≡ entry (l .i * columnWidth + x .place) (x .columns .now) =
+    search needs in
     rw b (more (x .columns .now) (x .place) (x .out .now) (c .before .before .before .pre .1 .1) (l .i) (l .out) (l .inv) (omega arith))
 
 same-length : tie.Need-same-length Inv-loop μ-loop
@@ -100,7 +105,8 @@ returns c =
     let x = c .before .before .args in
     let l = c .before .loop in
     let e : deckColumns - l .i ≡ 0 = omega arith in
-    let d : l .inv .done ≡ picked (x .place) deckColumns (x .columns .now) = sym (append-nil (l .inv .done)) ∙ (rw (e, picked-end (x .place) (drop (l .i * columnWidth) (x .columns .now))) at (l .inv .rest)) in
+    let d : l .inv .done ≡ picked (x .place) deckColumns (x .columns .now) =
+    sym (append-nil (l .inv .done)) ∙ (rw (e, picked-end (x .place) (drop (l .i * columnWidth) (x .columns .now))) at (l .inv .rest)) in
     l .inv .wrote ∙ (written-all (x .out .now) (l .inv .done) (omega (arith, l .inv .many, l .inv .small, c .before .before .pre .1 .1)) ∙ d)
 
 pub pick-spec : {M : Type 1} → statement M

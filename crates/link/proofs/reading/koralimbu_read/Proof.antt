@@ -46,10 +46,16 @@ same-length-6 c = search needs
 
 returns-2 : tie.Need-returns-2
 returns-2 c =
-    let a = c .before .before .before .before .before .before .before .before .before .before .before .before .before .before .before .before .before .before .before in
-    let d = c .before .before .before .before .before .before .before .before .before .before in
-    is-read-told (a .args .text .now) (B a) (a .args .sizes .now) (d .read-deck .result) _ _ _ (c .before .before .before .before .before .before .before .before .before .before .before .before .before .before .before .before .if1 .left)
-    (d .read-deck .ensures) (c .before .before .before .tell-sizes .ensures) (c .reading-number .ensures)
+    let after-tell-sizes = c .before .before .before in
+    let after-rights = after-tell-sizes .before .before .before .before .before in
+    let after-read-deck = after-rights .before .before in
+    let after-read-deck-arg = after-read-deck .before .before .before .before .before in
+    let else1 = after-read-deck-arg .before in
+    let start = else1 .before .before .before in
+    let a = start in
+    let d = after-read-deck in
+    is-read-told (a .args .text .now) (B a) (a .args .sizes .now) (d .read-deck .result) _ _ _ (else1 .if1 .left)
+    (d .read-deck .ensures) (after-tell-sizes .tell-sizes .ensures) (c .reading-number .ensures)
 
 pub koralimbu-read-spec : {M : Type 1} → statement M
 koralimbu-read-spec =

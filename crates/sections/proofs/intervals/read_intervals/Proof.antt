@@ -1,6 +1,5 @@
 -- `sections::intervals::read_intervals` meets its contract: a refused section is wiped. Assumes nothing.
 use mathlib.Core.Path.{_≡_, sym, ap, _∙_}
-use native.Mathlib.Omega.{arith}
 use lib.ListN.{length}
 use Rattle.sections.specs.Rules.{no}
 use Rattle.sections.specs.Sections.{intervalSection}
@@ -21,8 +20,8 @@ enum-known-a c = search needs
 enum-known-a-2 : tie.Need-enum-known-a-2
 enum-known-a-2 c = search needs
 
-fill-requires : tie.Need-fill-requires
-fill-requires c κs = (omega arith, omega (arith, c .before .before .before .before .before .scan-intervals .kept .1 .1 .0, ap length (c .before .before .before .before .before .before .before .before .pre), length-blank columnCells))
+wipe-requires : tie.Need-wipe-requires
+wipe-requires c κs = search needs
 
 same-length : tie.Need-same-length
 same-length c = search needs
@@ -35,12 +34,15 @@ same-length-2 c = search needs
 
 returns-2 : tie.Need-returns-2
 returns-2 c =
-    let x = c .before .before .before .before .before .before .before .before .before .before .args in
-    let v = c .before .before .before .before .before .before .before .scan-intervals in
-    let why = c .before .before .before .before .a2 .given .0 .0 in
-    let o : intervalSection (x .s .now) (x .at) ≡ no why = rw (c .before .before .before .before .a2 .given .1) at (v .ensures) in
-    let w = wiped columnCells (v .last .1 .1 .0) _ (v .kept .1 .1 .0 ∙ (ap length (c .before .before .before .before .before .before .before .before .before .before .pre) ∙ length-blank columnCells)) (c .before .fill .ensures) in
-    ap (intervalsDone (Refused why)) w ∙ sym (ap intervalsLeft o)
+    let known = c .before .before .before .before in
+    let read = known .before .before .before in
+    let start = read .before .before .before in
+    let x = start .args in
+    let v = read .scan-intervals in
+    let why = known .a2 .given .0 .0 in
+    let o : intervalSection (x .s .now) (x .at) ≡ no why = rw (known .a2 .given .1) at (v .ensures) in
+    let l = v .kept .1 .1 .0 ∙ (ap length (start .pre) ∙ length-blank columnCells) in
+    ap (intervalsDone (Refused why)) (wiped columnCells (v .last .1 .1 .0) _ l (c .before .wipe .ensures)) ∙ sym (ap intervalsLeft o)
 
 pub read-intervals-spec : {M : Type 1} → statement M
 read-intervals-spec =
@@ -49,7 +51,7 @@ read-intervals-spec =
     scan-intervals-requires
     enum-known-a
     enum-known-a-2
-    fill-requires
+    wipe-requires
     same-length
     returns
     same-length-2

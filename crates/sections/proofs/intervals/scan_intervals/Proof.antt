@@ -1,5 +1,5 @@
--- `sections::intervals::scan_intervals` meets its contract. The invariant: what is left to read, after the intervals done, is what was to be read, and
--- the table holds the intervals done. Assumes nothing.
+-- `sections::intervals::scan_intervals` meets its contract. The invariant: what is left to read, after the intervals done, is what was to be read,
+-- and the table holds the intervals done. Assumes nothing.
 use mathlib.Core.Path.{_≡_, refl, sym, _∙_, ap}
 use mathlib.Core.List.{List, [], _∷_, _++_}
 use Prim.Native.Nat.{ℕ, _+_, _-_, _*_, _≤_, _<_}
@@ -33,7 +33,8 @@ record Sofar (s : List ℕ) (o : Outcome (List Interval)) (n i p : ℕ) (k : Lis
   columns : k ≡ padded columnCells (cells done)
   size : length k ≡ columnCells
 
-start : (s : List ℕ) (at : ℕ) (v : ℤ) (e n : ℕ) (k : List ℤ) → within s (pos 1) (pos deckColumns) Size at ≡ ok v e → n ≡ natAbs v → k ≡ blank columnCells
+start : (s : List ℕ) (at : ℕ) (v : ℤ) (e n : ℕ) (k : List ℤ) → within s (pos 1) (pos deckColumns) Size at ≡ ok v e → n ≡ natAbs v
+    → k ≡ blank columnCells
     → Sofar s (intervalSection s at) n 0 e k
 unfolding cells
 start s at v e n k h q a =
@@ -83,14 +84,18 @@ natural-requires c κs = search needs
 
 loop-holds : tie.Need-loop-holds Inv-loop μ-loop
 loop-holds c =
-    let x = c .before .before .before .before .before .before .before .args in
+    let after-within = c .before .before .before .before in
+    let after-signed = after-within .before in
+    let at-start = after-signed .before .before in
+    let x = at-start .args in
     let s = x .s .now in
     let a = c .before .before .a .given in
     let k : ℤ = a .0 .0 in
     let b : toZ w64 (ofZ w64 k) ≡ k = search needs in
-    let h : toZ w64 (ofZ w64 (c .before .before .before .before .before .signed .result)) ≡ pos deckColumns = toZ-ofZ (sfits-of (c .before .before .before .before .before .signed .ok)) ∙ c .before .before .before .before .before .signed .ensures in
-    let p : within s (pos 1) (pos deckColumns) Size (x .at) ≡ gotOf (c .before .before .before .before .within .result) = rw h at (c .before .before .before .before .within .ensures) in
-    start s (x .at) k (a .0 .1 .0) (c .natural .result) _ (p ∙ ap gotOf (a .1)) (rw b at (c .natural .ensures)) (c .before .before .before .before .before .before .before .pre)
+    let h : toZ w64 (ofZ w64 (after-signed .signed .result)) ≡ pos deckColumns =
+    toZ-ofZ (sfits-of (after-signed .signed .ok)) ∙ after-signed .signed .ensures in
+    let p : within s (pos 1) (pos deckColumns) Size (x .at) ≡ gotOf (after-within .within .result) = rw h at (after-within .within .ensures) in
+    start s (x .at) k (a .0 .1 .0) (c .natural .result) _ (p ∙ ap gotOf (a .1)) (rw b at (c .natural .ensures)) (at-start .pre)
 
 read-interval-requires : tie.Need-read-interval-requires Inv-loop μ-loop
 read-interval-requires c κs = search needs
@@ -99,45 +104,75 @@ enum-known-g : tie.Need-enum-known-g Inv-loop μ-loop
 enum-known-g c = search needs
 
 put-column-requires : tie.Need-put-column-requires Inv-loop μ-loop
-put-column-requires c κs = (omega (arith, c .before .before .before .before .before .before .loop .inv .most), c .before .before .before .before .before .before .loop .inv .size)
+put-column-requires c κs =
+    let after-read-interval = c .before .before .before .before in
+    let at-loop = after-read-interval .before .before in
+    (omega (arith, at-loop .loop .inv .most), at-loop .loop .inv .size)
 
 enum-known-g-2 : tie.Need-enum-known-g-2 Inv-loop μ-loop
 enum-known-g-2 c = search needs
 
 same-length : tie.Need-same-length Inv-loop μ-loop
-same-length c = c .before .before .before .before .before .loop .inv .size ∙ sym (ap length (c .before .before .before .before .before .before .before .before .before .before .before .before .before .pre) ∙ length-blank columnCells)
+same-length c =
+    let at-loop = c .before .before .before .before .before in
+    let after-within = at-loop .before .before .before .before .before in
+    let at-start = after-within .before .before .before in
+    at-loop .loop .inv .size ∙ sym (ap length (at-start .pre) ∙ length-blank columnCells)
 
 returns : tie.Need-returns Inv-loop μ-loop
 returns c =
-    let s = c .before .before .before .before .before .before .before .before .before .before .before .before .before .args .s .now in
-    let l = c .before .before .before .before .before .loop in
-    sym (l .inv .rest) ∙ intervals-stop s (l .inv .done) (l .p) 0 (c .before .before .before .before .before .before .natural .result - l .i) _ (omega arith) (c .before .before .before .read-interval .ensures ∙ ap intervalGotOf (c .before .g2 .given .1))
+    let at-loop = c .before .before .before .before .before in
+    let after-natural = at-loop .before in
+    let after-signed = after-natural .before .before .before .before .before in
+    let at-start = after-signed .before .before in
+    let s = at-start .args .s .now in
+    let l = at-loop .loop in
+    sym (l .inv .rest) ∙
+    intervals-stop s (l .inv .done) (l .p) 0 (after-natural .natural .result - l .i) _ (omega arith)
+    (c .before .before .before .read-interval .ensures ∙ ap intervalGotOf (c .before .g2 .given .1))
 
 add-i : tie.Need-add-i Inv-loop μ-loop
-add-i c = omega (arith, c .before .before .before .before .before .before .before .before .loop .inv .most)
+add-i c =
+    let after-g = c .before .before .before .before in
+    let at-loop = after-g .before .before .before .before in
+    omega (arith, at-loop .loop .inv .most)
 
 loop-less : tie.Need-loop-less Inv-loop μ-loop
 loop-less c = omega arith
 
 loop-again : tie.Need-loop-again Inv-loop μ-loop
 loop-again c =
-    let x = c .before .before .before .before .before .before .before .before .before .before .before .before .before .before .before .before .args in
-    let l = c .before .before .before .before .before .before .before .before .loop in
-    let v : Interval = c .before .before .before .before .g .given .0 .0 in
-    more (x .s .now) (intervalSection (x .s .now) (x .at)) (c .before .before .before .before .before .before .before .before .before .natural .result) (l .i) (l .p) (c .before .before .before .before .g .given .0 .1 .0) (l .columns) _ v (l .inv) (omega arith) (c .before .before .before .before .before .before .read-interval .ensures ∙ ap intervalGotOf (c .before .before .before .before .g .given .1)) (c .before .put-column .ensures) (c .before .put-column .kept .0)
+    let after-g = c .before .before .before .before in
+    let after-read-interval = after-g .before .before in
+    let at-loop = after-read-interval .before .before in
+    let after-natural = at-loop .before in
+    let after-signed = after-natural .before .before .before .before .before in
+    let at-start = after-signed .before .before in
+    let x = at-start .args in
+    let l = at-loop .loop in
+    let v : Interval = after-g .g .given .0 .0 in
+    more (x .s .now) (intervalSection (x .s .now) (x .at)) (after-natural .natural .result) (l .i) (l .p) (after-g .g .given .0 .1 .0) (l .columns) _
+    v (l .inv) (omega arith) (after-read-interval .read-interval .ensures ∙ ap intervalGotOf (after-g .g .given .1)) (c .before .put-column .ensures)
+    (c .before .put-column .kept .0)
 
 enum-known-a-2 : tie.Need-enum-known-a-2 Inv-loop μ-loop
 enum-known-a-2 c = search needs
 
 same-length-2 : tie.Need-same-length-2 Inv-loop μ-loop
-same-length-2 c = c .before .loop .inv .size ∙ sym (ap length (c .before .before .before .before .before .before .before .before .before .pre) ∙ length-blank columnCells)
+same-length-2 c =
+    let after-a = c .before .before .before .before in
+    let at-start = after-a .before .before .before .before .before in
+    c .before .loop .inv .size ∙ sym (ap length (at-start .pre) ∙ length-blank columnCells)
 
 returns-2 : tie.Need-returns-2 Inv-loop μ-loop
 returns-2 c =
-    let x = c .before .before .before .before .before .before .before .before .before .args in
+    let after-natural = c .before .before in
+    let after-signed = after-natural .before .before .before .before .before in
+    let at-start = after-signed .before .before in
+    let x = at-start .args in
     let s = x .s .now in
     let l = c .before .loop in
-    let n : ℕ = c .before .before .natural .result in
+    let n : ℕ = after-natural .natural .result in
     let e : n - l .i ≡ 0 = omega arith in
     let d : n ≡ length (l .inv .done) = omega (arith, l .inv .count, l .inv .small) in
     let o : intervalSection s (x .at) ≡ ok (l .inv .done) (l .p) = sym (l .inv .rest) ∙ (rw e (intervals-end s (l .inv .done) (l .p) 0)) in
@@ -145,10 +180,14 @@ returns-2 c =
 
 returns-3 : tie.Need-returns-3 Inv-loop μ-loop
 returns-3 c =
-    let x = c .before .before .before .before .before .before .args in
+    let after-within = c .before .before .before in
+    let after-signed = after-within .before in
+    let at-start = after-signed .before .before in
+    let x = at-start .args in
     let s = x .s .now in
-    let h : toZ w64 (ofZ w64 (c .before .before .before .before .signed .result)) ≡ pos deckColumns = toZ-ofZ (sfits-of (c .before .before .before .before .signed .ok)) ∙ c .before .before .before .before .signed .ensures in
-    let p : within s (pos 1) (pos deckColumns) Size (x .at) ≡ gotOf (c .before .before .before .within .result) = rw h at (c .before .before .before .within .ensures) in
+    let h : toZ w64 (ofZ w64 (after-signed .signed .result)) ≡ pos deckColumns =
+    toZ-ofZ (sfits-of (after-signed .signed .ok)) ∙ after-signed .signed .ensures in
+    let p : within s (pos 1) (pos deckColumns) Size (x .at) ≡ gotOf (after-within .within .result) = rw h at (after-within .within .ensures) in
     intervals-no s (x .at) 0 (pos 0) _ (p ∙ ap gotOf (c .before .a2 .given .1))
 
 pub scan-intervals-spec : {M : Type 1} → statement M

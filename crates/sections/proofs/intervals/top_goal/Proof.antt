@@ -16,12 +16,14 @@ positive-requires c κs = search needs
 
 returns : tie.Need-returns
 returns c =
-    let t : leZ (pos 1) (c .before .before .before .args .lower) ≡ true = cc (toZ-ofZ (c .before .before .before .fits .lower), c .before .before .at-most .ensures, c .before .if1 .taken) in
+    let t : leZ (pos 1) (c .before .before .before .args .lower) ≡ true =
+    cc (toZ-ofZ (c .before .before .before .fits .lower), c .before .before .at-most .ensures, c .before .if1 .taken) in
     rw t (toZ-ofZ (sfits-of (c .positive .ok)) ∙ c .positive .ensures)
 
 returns-2 : tie.Need-returns-2
 returns-2 c =
-    let t : leZ (pos 1) (c .before .before .args .lower) ≡ false = cc (toZ-ofZ (c .before .before .fits .lower), c .before .at-most .ensures, c .if1 .left) in
+    let t : leZ (pos 1) (c .before .before .args .lower) ≡ false =
+    cc (toZ-ofZ (c .before .before .fits .lower), c .before .at-most .ensures, c .if1 .left) in
     rw t
 
 pub top-goal-spec : {M : Type 1} → statement M

@@ -33,7 +33,8 @@ mul-coefficient c = search needs
 slice-set-from-coefficient : tie.Need-slice-set-from-coefficient
 slice-set-from-coefficient c =
     let y = c .before .y .given in
-    let e : slackOf (c .before .before .before .before .args .kind) ≡ slack (y .0 .0) (y .0 .1 .0) = sym (c .before .before .before .slack-of .ensures) ∙ ap slackIs (y .1) in
+    let e : slackOf (c .before .before .before .before .args .kind) ≡ slack (y .0 .0) (y .0 .1 .0) =
+    sym (c .before .before .before .slack-of .ensures) ∙ ap slackIs (y .1) in
     omega (arith, ap slackColumns e, c .before .before .before .before .pre .0, c .before .before .before .before .pre .1 .0)
 
 cast-t11 : tie.Need-cast-t11
@@ -44,9 +45,11 @@ positive-requires c κs = search needs
 
 put-column-requires : tie.Need-put-column-requires
 put-column-requires c κs =
+    let after-slack-of = c .before .before .before .before .before in
+    let start = after-slack-of .before in
     let y = c .before .before .before .y .given in
-    let e : slackOf (c .before .before .before .before .before .before .args .kind) ≡ slack (y .0 .0) (y .0 .1 .0) = sym (c .before .before .before .before .before .slack-of .ensures) ∙ ap slackIs (y .1) in
-    (omega (arith, ap slackColumns e, c .before .before .before .before .before .before .pre .0), c .before .before .before .before .before .before .pre .1 .1)
+    let e : slackOf (start .args .kind) ≡ slack (y .0 .0) (y .0 .1 .0) = sym (after-slack-of .slack-of .ensures) ∙ ap slackIs (y .1) in
+    (omega (arith, ap slackColumns e, start .pre .0), start .pre .1 .1)
 
 returns : tie.Need-returns
 unfolding cells
@@ -63,17 +66,25 @@ same-length-2 c = search needs
 
 returns-2 : tie.Need-returns-2
 returns-2 c =
-    let x = c .before .before .before .before .before .before .before .before .args in
-    let y = c .before .before .before .before .before .y .given in
+    let after-positive = c .before .before .before in
+    let after-slack-of = after-positive .before .before .before .before in
+    let start = after-slack-of .before in
+    let x = start .args in
+    let y = after-positive .before .before .y .given in
     let k : ℤ = y .0 .0 in
     let lo : ℕ = y .0 .1 .0 in
-    let e : slackOf (x .kind) ≡ slack k lo = sym (c .before .before .before .before .before .before .before .slack-of .ensures) ∙ ap slackIs (y .1) in
+    let e : slackOf (x .kind) ≡ slack k lo = sym (after-slack-of .slack-of .ensures) ∙ ap slackIs (y .1) in
     let a : toZ w64 (ofZ w64 k) ≡ k = search needs in
     let h : lo < 2 ^ 32 = search needs in
     let f : SFits w64 (pos lo) = record { sfits = omega (arith, h) } in
     let b : toZ w64 lo ≡ pos lo = toZ-ofZ f in
-    let u : toZ w64 (ofZ w64 (c .before .before .before .positive .result)) ≡ pos maxBound = toZ-ofZ (sfits-of (c .before .before .before .positive .ok)) ∙ c .before .before .before .positive .ensures in
-    rw (e, a) (refl, (rw (b, u) at (c .before .put-column .ensures)) ∙ ap (overwritten (x .columns .now) (x .column * columnWidth)) (sym (cells-one (slackInterval lo))))
+    let u : toZ w64 (ofZ w64 (after-positive .positive .result)) ≡ pos maxBound =
+    toZ-ofZ (sfits-of (after-positive .positive .ok)) ∙ after-positive .positive .ensures in
+    rw (e, a) (
+      refl,
+      (rw (b, u) at (c .before .put-column .ensures)) ∙
+          ap (overwritten (x .columns .now) (x .column * columnWidth)) (sym (cells-one (slackInterval lo))),
+    )
 
 pub put-slack-spec : {M : Type 1} → statement M
 put-slack-spec =

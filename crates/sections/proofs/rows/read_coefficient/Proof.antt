@@ -23,23 +23,28 @@ enum-known-g-2 c = search needs
 
 returns : tie.Need-returns
 returns c =
-    let x = c .before .before .before .before .before .before .before .args in
+    let after-spanning = c .before .before .before .before .before in
+    let start = after-spanning .before .before in
+    let x = start .args in
     let s = x .s .now in
     let g = c .before .before .before .g .given in
     let v : ℤ = g .0 .0 in
     let b : toZ w64 (ofZ w64 v) ≡ v = search needs in
     let z : natAbs v ≡ 0 = sym (rw b at (c .before .natural .ensures)) ∙ c .if1 .taken in
-    coefficient-zero s (x .at) _ v (c .before .before .before .before .before .spanning .ensures ∙ ap gotOf (g .1)) z
+    coefficient-zero s (x .at) _ v (after-spanning .spanning .ensures ∙ ap gotOf (g .1)) z
 
 returns-2 : tie.Need-returns-2
 returns-2 c =
-    let x = c .before .before .before .before .before .before .before .args in
+    let after-spanning = c .before .before .before .before .before in
+    let start = after-spanning .before .before in
+    let x = start .args in
     let s = x .s .now in
     let g = c .before .before .before .g .given in
     let v : ℤ = g .0 .0 in
     let b : toZ w64 (ofZ w64 v) ≡ v = search needs in
     rw b
-    (coefficient-read s (x .at) _ v (c .before .before .before .before .before .spanning .ensures ∙ ap gotOf (g .1)) (λ z. c .if1 .left ((rw b at (c .before .natural .ensures)) ∙ z)))
+    (coefficient-read s (x .at) _ v (after-spanning .spanning .ensures ∙ ap gotOf (g .1))
+    (λ z. c .if1 .left ((rw b at (c .before .natural .ensures)) ∙ z)))
 
 returns-3 : tie.Need-returns-3
 returns-3 c =

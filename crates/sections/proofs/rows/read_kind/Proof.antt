@@ -26,13 +26,15 @@ enum-known-g-2 c = search needs
 
 returns : tie.Need-returns
 returns c =
-    let x = c .before .before .before .before .before .before .before .args in
+    let after-within = c .before .before .before .before .before in
+    let start = after-within .before .before in
+    let x = start .args in
     let s = x .s .now in
     let g = c .before .before .before .g .given in
     let v : ℤ = g .0 .0 in
     let b : toZ w64 (ofZ w64 v) ≡ v = search needs in
     let n : c .before .natural .result ≡ natAbs v = rw b at (c .before .natural .ensures) in
-    kind-read s (x .columns) (x .at) _ v (c .before .before .before .before .before .within .ensures ∙ ap gotOf (g .1)) ∙
+    kind-read s (x .columns) (x .at) _ v (after-within .within .ensures ∙ ap gotOf (g .1)) ∙
     (rw n at (c .with-room .ensures))
 
 returns-2 : tie.Need-returns-2

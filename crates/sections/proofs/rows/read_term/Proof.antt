@@ -13,6 +13,13 @@ use Rattle.sections.proofs.Parts.{term-read, term-index, term-coefficie
 use Rattle.sections.proofs.rows.read_term.Statement.{statement}
 use Rattle.sections.proofs.rows.read_term.Tie as tie
 
+-- a number that was read fits
+back-a : (d : tie.After-known-told) → toZ w64 (ofZ w64 (d .before .a .given .0 .0)) ≡ d .before .a .given .0 .0
+back-a d = search needs
+
+back-b : (d : tie.After-known-told2) → toZ w64 (ofZ w64 (d .before .b .given .0 .0)) ≡ d .before .b .given .0 .0
+back-b d = search needs
+
 add-signed : tie.Need-add-signed
 add-signed c = search needs
 
@@ -45,38 +52,63 @@ enum-known-a-2 c = search needs
 
 returns : tie.Need-returns
 returns c =
-    let x = c .before .before .before .before .before .before .before .before .before .before .before .before .args in
+    let after-read-coefficient = c .before .before .before .before in
+    let after-a = after-read-coefficient .before .before in
+    let after-within = after-a .before .before in
+    let after-signed2 = after-within .before in
+    let after-signed = after-signed2 .before in
+    let start = after-signed .before .before in
+    let x = start .args in
     let s = x .s .now in
-    let a = c .before .before .before .before .before .before .a .given in
+    let a = after-a .a .given in
     let b = c .before .before .b .given in
     let j : ℤ = a .0 .0 in
     let v : ℤ = b .0 .0 in
-    let f : toZ w64 (ofZ w64 j) ≡ j = search needs in
-    let d : toZ w64 (ofZ w64 v) ≡ v = search needs in
-    let l : toZ w64 (ofZ w64 (c .before .before .before .before .before .before .before .before .before .before .signed .result)) ≡ pos (x .last + 1) = toZ-ofZ (sfits-of (c .before .before .before .before .before .before .before .before .before .before .signed .ok)) ∙ c .before .before .before .before .before .before .before .before .before .before .signed .ensures in
-    let h : toZ w64 (ofZ w64 (c .before .before .before .before .before .before .before .before .before .signed2 .result)) ≡ pos (x .count) = toZ-ofZ (sfits-of (c .before .before .before .before .before .before .before .before .before .signed2 .ok)) ∙ c .before .before .before .before .before .before .before .before .before .signed2 .ensures in
-    let p : within s (pos (x .last + 1)) (pos (x .count)) WrongTerm (x .at) ≡ gotOf (c .before .before .before .before .before .before .before .before .within .result) = rw (l, h) at (c .before .before .before .before .before .before .before .before .within .ensures) in
+    let f : toZ w64 (ofZ w64 j) ≡ j = back-a (after-read-coefficient .before) in
+    let d : toZ w64 (ofZ w64 v) ≡ v = back-b (c .before) in
+    let l : toZ w64 (ofZ w64 (after-signed .signed .result)) ≡ pos (x .last + 1) =
+    toZ-ofZ (sfits-of (after-signed .signed .ok)) ∙ after-signed .signed .ensures in
+    let h : toZ w64 (ofZ w64 (after-signed2 .signed2 .result)) ≡ pos (x .count) =
+    toZ-ofZ (sfits-of (after-signed2 .signed2 .ok)) ∙ after-signed2 .signed2 .ensures in
+    let p : within s (pos (x .last + 1)) (pos (x .count)) WrongTerm (x .at) ≡ gotOf (after-within .within .result) =
+    rw (l, h) at (after-within .within .ensures) in
     let i : c .natural .result ≡ natAbs j = rw f at (c .natural .ensures) in
     rw (d, i)
-    (term-read s (x .last) (x .count) (x .at) _ _ j v (p ∙ ap gotOf (a .1)) (c .before .before .before .before .read-coefficient .ensures ∙ ap gotOf (b .1)))
+    (term-read s (x .last) (x .count) (x .at) _ _ j v (p ∙ ap gotOf (a .1)) (after-read-coefficient .read-coefficient .ensures ∙ ap gotOf (b .1)))
 
 returns-2 : tie.Need-returns-2
 returns-2 c =
-    let x = c .before .before .before .before .before .before .before .before .before .before .before .args in
+    let after-a = c .before .before .before .before .before in
+    let after-within = after-a .before .before in
+    let after-signed2 = after-within .before in
+    let after-signed = after-signed2 .before in
+    let start = after-signed .before .before in
+    let x = start .args in
     let s = x .s .now in
-    let a = c .before .before .before .before .before .a .given in
-    let l : toZ w64 (ofZ w64 (c .before .before .before .before .before .before .before .before .before .signed .result)) ≡ pos (x .last + 1) = toZ-ofZ (sfits-of (c .before .before .before .before .before .before .before .before .before .signed .ok)) ∙ c .before .before .before .before .before .before .before .before .before .signed .ensures in
-    let h : toZ w64 (ofZ w64 (c .before .before .before .before .before .before .before .before .signed2 .result)) ≡ pos (x .count) = toZ-ofZ (sfits-of (c .before .before .before .before .before .before .before .before .signed2 .ok)) ∙ c .before .before .before .before .before .before .before .before .signed2 .ensures in
-    let p : within s (pos (x .last + 1)) (pos (x .count)) WrongTerm (x .at) ≡ gotOf (c .before .before .before .before .before .before .before .within .result) = rw (l, h) at (c .before .before .before .before .before .before .before .within .ensures) in
-    term-coefficient s (x .last) (x .count) (x .at) _ 0 (a .0 .0) (pos 0) _ (p ∙ ap gotOf (a .1)) (c .before .before .before .read-coefficient .ensures ∙ ap gotOf (c .before .b2 .given .1))
+    let a = after-a .a .given in
+    let l : toZ w64 (ofZ w64 (after-signed .signed .result)) ≡ pos (x .last + 1) =
+    toZ-ofZ (sfits-of (after-signed .signed .ok)) ∙ after-signed .signed .ensures in
+    let h : toZ w64 (ofZ w64 (after-signed2 .signed2 .result)) ≡ pos (x .count) =
+    toZ-ofZ (sfits-of (after-signed2 .signed2 .ok)) ∙ after-signed2 .signed2 .ensures in
+    let p : within s (pos (x .last + 1)) (pos (x .count)) WrongTerm (x .at) ≡ gotOf (after-within .within .result) =
+    rw (l, h) at (after-within .within .ensures) in
+    term-coefficient s (x .last) (x .count) (x .at) _ 0 (a .0 .0) (pos 0) _ (p ∙ ap gotOf (a .1))
+    (c .before .before .before .read-coefficient .ensures ∙ ap gotOf (c .before .b2 .given .1))
 
 returns-3 : tie.Need-returns-3
 returns-3 c =
-    let x = c .before .before .before .before .before .before .before .args in
+    let after-within = c .before .before .before in
+    let after-signed2 = after-within .before in
+    let after-signed = after-signed2 .before in
+    let start = after-signed .before .before in
+    let x = start .args in
     let s = x .s .now in
-    let l : toZ w64 (ofZ w64 (c .before .before .before .before .before .signed .result)) ≡ pos (x .last + 1) = toZ-ofZ (sfits-of (c .before .before .before .before .before .signed .ok)) ∙ c .before .before .before .before .before .signed .ensures in
-    let h : toZ w64 (ofZ w64 (c .before .before .before .before .signed2 .result)) ≡ pos (x .count) = toZ-ofZ (sfits-of (c .before .before .before .before .signed2 .ok)) ∙ c .before .before .before .before .signed2 .ensures in
-    let p : within s (pos (x .last + 1)) (pos (x .count)) WrongTerm (x .at) ≡ gotOf (c .before .before .before .within .result) = rw (l, h) at (c .before .before .before .within .ensures) in
+    let l : toZ w64 (ofZ w64 (after-signed .signed .result)) ≡ pos (x .last + 1) =
+    toZ-ofZ (sfits-of (after-signed .signed .ok)) ∙ after-signed .signed .ensures in
+    let h : toZ w64 (ofZ w64 (after-signed2 .signed2 .result)) ≡ pos (x .count) =
+    toZ-ofZ (sfits-of (after-signed2 .signed2 .ok)) ∙ after-signed2 .signed2 .ensures in
+    let p : within s (pos (x .last + 1)) (pos (x .count)) WrongTerm (x .at) ≡ gotOf (after-within .within .result) =
+    rw (l, h) at (after-within .within .ensures) in
     term-index s (x .last) (x .count) (x .at) 0 0 (pos 0) (pos 0) _ (p ∙ ap gotOf (c .before .a2 .given .1))
 
 pub read-term-spec : {M : Type 1} → statement M

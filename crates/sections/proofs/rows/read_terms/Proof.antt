@@ -1,5 +1,5 @@
--- `sections::rows::read_terms` meets its contract. The invariant: what is left to read, after the terms done, is what was to be read, and the line holds
--- the terms done. Assumes nothing.
+-- `sections::rows::read_terms` meets its contract. The invariant: what is left to read, after the terms done, is what was to be read, and the line
+-- holds the terms done. Assumes nothing.
 use mathlib.Core.Path.{_≡_, sym, _∙_, ap}
 use mathlib.Core.List.{List, [], _∷_, _++_}
 use Prim.Native.Nat.{ℕ, _+_, _-_, _≤_, _<_}
@@ -71,34 +71,52 @@ enum-known-g c = search needs
 
 sub-c : tie.Need-sub-c Inv-loop μ-loop
 sub-c c =
-    let s = c .before .before .before .before .before .before .before .before .args .s .now in
-    let b = in-row s (c .before .before .before .before .before .before .loop .p) (c .before .before .before .before .before .before .loop .last) (c .before .before .before .before .before .before .before .before .args .count) (c .before .before .g .given .0 .0) (c .before .before .g .given .0 .1 .0) (c .before .before .before .before .read-term .ensures ∙ ap termGotOf (c .before .before .g .given .1)) in
+    let after-g = c .before .before in
+    let at-loop = after-g .before .before .before .before in
+    let start = at-loop .before .before in
+    let s = start .args .s .now in
+    let b = in-row s (at-loop .loop .p) (at-loop .loop .last) (start .args .count) (after-g .g .given .0 .0) (after-g .g .given .0 .1 .0)
+    (after-g .before .before .read-term .ensures ∙ ap termGotOf (after-g .g .given .1)) in
     omega (arith, b .0)
 
 mul-c : tie.Need-mul-c Inv-loop μ-loop
 mul-c c =
-    let s = c .before .before .before .before .before .before .before .before .args .s .now in
-    let b = in-row s (c .before .before .before .before .before .before .loop .p) (c .before .before .before .before .before .before .loop .last) (c .before .before .before .before .before .before .before .before .args .count) (c .before .before .g .given .0 .0) (c .before .before .g .given .0 .1 .0) (c .before .before .before .before .read-term .ensures ∙ ap termGotOf (c .before .before .g .given .1)) in
-    omega (arith, b .1, c .before .before .before .before .before .before .before .before .pre .0)
+    let after-g = c .before .before in
+    let at-loop = after-g .before .before .before .before in
+    let start = at-loop .before .before in
+    let s = start .args .s .now in
+    let b = in-row s (at-loop .loop .p) (at-loop .loop .last) (start .args .count) (after-g .g .given .0 .0) (after-g .g .given .0 .1 .0)
+    (after-g .before .before .read-term .ensures ∙ ap termGotOf (after-g .g .given .1)) in
+    omega (arith, b .1, start .pre .0)
 
 slice-set-from-c : tie.Need-slice-set-from-c Inv-loop μ-loop
 slice-set-from-c c =
-    let s = c .before .before .before .before .before .before .before .before .args .s .now in
-    let b = in-row s (c .before .before .before .before .before .before .loop .p) (c .before .before .before .before .before .before .loop .last) (c .before .before .before .before .before .before .before .before .args .count) (c .before .before .g .given .0 .0) (c .before .before .g .given .0 .1 .0) (c .before .before .before .before .read-term .ensures ∙ ap termGotOf (c .before .before .g .given .1)) in
-    omega (arith, b .0, b .1, c .before .before .before .before .before .before .loop .inv .size, c .before .before .before .before .before .before .before .before .pre .0)
+    let after-g = c .before .before in
+    let at-loop = after-g .before .before .before .before in
+    let start = at-loop .before .before in
+    let s = start .args .s .now in
+    let b = in-row s (at-loop .loop .p) (at-loop .loop .last) (start .args .count) (after-g .g .given .0 .0) (after-g .g .given .0 .1 .0)
+    (after-g .before .before .read-term .ensures ∙ ap termGotOf (after-g .g .given .1)) in
+    omega (arith, b .0, b .1, at-loop .loop .inv .size, start .pre .0)
 
 enum-known-g-2 : tie.Need-enum-known-g-2 Inv-loop μ-loop
 enum-known-g-2 c = search needs
 
 same-length : tie.Need-same-length Inv-loop μ-loop
-same-length c = c .before .before .before .before .before .loop .inv .size ∙ sym (c .before .before .before .before .before .before .before .pre .1)
+same-length c =
+    let at-loop = c .before .before .before .before .before in
+    let start = at-loop .before .before in
+    at-loop .loop .inv .size ∙ sym (start .pre .1)
 
 returns : tie.Need-returns Inv-loop μ-loop
 returns c =
-    let s = c .before .before .before .before .before .before .before .args .s .now in
-    let l = c .before .before .before .before .before .loop in
+    let at-loop = c .before .before .before .before .before in
+    let start = at-loop .before .before in
+    let s = start .args .s .now in
+    let l = at-loop .loop in
     sym (l .inv .rest) ∙
-    terms-stop s (l .last) (c .before .before .before .before .before .before .before .args .count) (l .inv .done) (l .p) 0 (c .before .before .before .before .before .before .before .args .k - l .i) _ (omega arith) (c .before .before .before .read-term .ensures ∙ ap termGotOf (c .before .g2 .given .1))
+    terms-stop s (l .last) (start .args .count) (l .inv .done) (l .p) 0 (start .args .k - l .i) _ (omega arith)
+    (c .before .before .before .read-term .ensures ∙ ap termGotOf (c .before .g2 .given .1))
 
 add-i : tie.Need-add-i Inv-loop μ-loop
 add-i c = omega arith
@@ -108,13 +126,17 @@ loop-less c = omega arith
 
 loop-again : tie.Need-loop-again Inv-loop μ-loop
 loop-again c =
-    let s = c .before .before .before .before .before .before .before .before .args .s .now in
-    let l = c .before .before .before .before .before .before .loop in
-    let t : Term = c .before .before .g .given .0 .0 in
-    let e : ℕ = c .before .before .g .given .0 .1 .0 in
+    let after-g = c .before .before in
+    let at-loop = after-g .before .before .before .before in
+    let start = at-loop .before .before in
+    let s = start .args .s .now in
+    let l = at-loop .loop in
+    let t : Term = after-g .g .given .0 .0 in
+    let e : ℕ = after-g .g .given .0 .1 .0 in
     let a : toZ w64 (ofZ w64 (t .coefficient)) ≡ t .coefficient = search needs in
-    let h = c .before .before .before .before .read-term .ensures ∙ ap termGotOf (c .before .before .g .given .1) in
-    rw a (more s (c .before .before .before .before .before .before .before .before .args .at) (c .before .before .before .before .before .before .before .before .args .k) (c .before .before .before .before .before .before .before .before .args .count) (c .before .before .before .before .before .before .before .before .args .line .now) (l .i) (l .p) (l .last) (l .line) t e (l .inv) (omega arith) h)
+    let h = after-g .before .before .read-term .ensures ∙ ap termGotOf (after-g .g .given .1) in
+    rw a (more s (start .args .at) (start .args .k) (start .args .count) (start .args .line .now) (l .i) (l .p) (l .last) (l .line) t e (l .inv)
+    (omega arith) h)
 
 same-length-2 : tie.Need-same-length-2 Inv-loop μ-loop
 same-length-2 c = c .before .loop .inv .size ∙ sym (c .before .before .before .pre .1)

@@ -21,8 +21,10 @@ half-requires c κs = search needs
 
 returns-4 : tie.Need-returns-4
 returns-4 c =
-    let h : c .half .result ≡ natAbs (c .before .before .before .before .args .b) = cc (toZ-ofZ (c .before .before .before .before .fits .b), c .half .ensures) in
-    rw h (row-even (c .before .before .before .before .args .k) (c .before .before .before .before .args .b) (c .before .before .before .if1 .left) (c .before .before .if2 .left) (c .before .if3 .left))
+    let h : c .half .result ≡ natAbs (c .before .before .before .before .args .b) =
+    cc (toZ-ofZ (c .before .before .before .before .fits .b), c .half .ensures) in
+    rw h (row-even (c .before .before .before .before .args .k) (c .before .before .before .before .args .b) (c .before .before .before .if1 .left)
+    (c .before .before .if2 .left) (c .before .if3 .left))
 
 pub row-of-spec : {M : Type 1} → statement M
 row-of-spec = tie.close (tie.spec returns returns-2 returns-3 half-requires returns-4)

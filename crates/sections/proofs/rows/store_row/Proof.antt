@@ -40,13 +40,16 @@ same-length-4 c = search needs
 
 returns : tie.Need-returns
 returns c =
-    let x = c .before .before .before .before .before .before .before .before .before .before .args in
+    let after-line = c .before .before .before .before .before in
+    let after-put-slack = after-line .before in
+    let start = after-put-slack .before .before .before .before in
+    let x = start .args in
     let r = x .row in
     let b : toZ w64 (ofZ w64 (r .right)) ≡ r .right = search needs in
     record {
-      columns-is = c .before .before .before .before .before .before .put-slack .ensures .1;
-      rights-is = rw b (written-one (x .rights .now) (x .c .rows) (r .right) (omega (arith, c .before .before .before .before .before .before .before .before .before .before .pre .1 .1 .rights, c .before .before .before .before .before .before .before .before .before .before .pre .0 .1)));
-      table-is = c .before .copy .ensures ∙ ap (overwritten (x .table .now) (x .c .rows * deckColumns)) (c .before .before .before .before .before .before .put-slack .ensures .0);
+      columns-is = after-put-slack .put-slack .ensures .1;
+      rights-is = rw b (written-one (x .rights .now) (x .c .rows) (r .right) (omega (arith, start .pre .1 .1 .rights, start .pre .0 .1)));
+      table-is = c .before .copy .ensures ∙ ap (overwritten (x .table .now) (x .c .rows * deckColumns)) (after-put-slack .put-slack .ensures .0);
     }
 
 pub store-row-spec : {M : Type 1} → statement M

@@ -20,12 +20,14 @@ add-if1 c = omega (arith, c .slacks .ensures, slack-few (c .before .kind-of .res
 
 returns : tie.Need-returns
 returns c =
-    let a : c .before .slacks .result ≡ slackCount (kindOf (c .before .before .before .args .k)) = c .before .slacks .ensures ∙ ap slackCount (c .before .before .kind-of .ensures) in
+    let a : c .before .slacks .result ≡ slackCount (kindOf (c .before .before .before .args .k)) =
+    c .before .slacks .ensures ∙ ap slackCount (c .before .before .kind-of .ensures) in
     rw (lt-ltb _ _ (rw a at (c .if1 .taken)))
 
 returns-2 : tie.Need-returns-2
 returns-2 c =
-    let a : c .before .slacks .result ≡ slackCount (kindOf (c .before .before .before .args .k)) = c .before .slacks .ensures ∙ ap slackCount (c .before .before .kind-of .ensures) in
+    let a : c .before .slacks .result ≡ slackCount (kindOf (c .before .before .before .args .k)) =
+    c .before .slacks .ensures ∙ ap slackCount (c .before .before .kind-of .ensures) in
     rw (le-ltb _ _ (rw a at (c .if1 .left)))
 
 pub with-room-spec : {M : Type 1} → statement M

@@ -20,7 +20,8 @@ within-requires c κs = search needs
 returns : tie.Need-returns
 returns c =
     let k = c .before .before .before .before .args .k in
-    let a : toZ w64 (ofZ w64 (c .before .before .negative .result)) ≡ negℤ (pos k) = toZ-ofZ (sfits-of (c .before .before .negative .ok)) ∙ c .before .before .negative .ensures in
+    let a : toZ w64 (ofZ w64 (c .before .before .negative .result)) ≡ negℤ (pos k) =
+    toZ-ofZ (sfits-of (c .before .before .negative .ok)) ∙ c .before .before .negative .ensures in
     let b : toZ w64 (ofZ w64 (c .before .positive .result)) ≡ pos k = toZ-ofZ (sfits-of (c .before .positive .ok)) ∙ c .before .positive .ensures in
     rw (a, b) at (c .within .ensures)
 

@@ -30,20 +30,27 @@ enum-told-2 c = search needs
 
 returns : tie.Need-returns
 returns c =
-    let x = c .before .before .before .before .before .before .before .before .before .args in
+    let after-n = c .before .before .before .before .before in
+    let after-next-token = after-n .before .before in
+    let start = after-next-token .before .before in
+    let x = start .args in
     let s = x .s .now in
-    let n = c .before .before .before .before .before .n .given in
+    let n = after-n .n .given in
     let t = c .before .before .t .given in
     let v : ℤ = t .0 .0 in
     let b : toZ w64 (ofZ w64 v) ≡ v = search needs in
-    within-number s (x .at) (x .low) (x .high) (x .why) v (n .0 .1 .0) (sym (c .before .before .before .before .before .before .before .next-token .ensures) ∙ (n .1 ∙ ap (λ (u : _). Found u (n .0 .1 .0)) (t .1))) ∙
-    (rw (b, toZ-ofZ (c .before .before .before .before .before .before .before .before .before .fits .low), toZ-ofZ (c .before .before .before .before .before .before .before .before .before .fits .high)) at (c .in-range .ensures))
+    within-number s (x .at) (x .low) (x .high) (x .why) v (n .0 .1 .0)
+    (sym (after-next-token .next-token .ensures) ∙ (n .1 ∙ ap (λ (u : _). Found u (n .0 .1 .0)) (t .1))) ∙
+    (rw (b, toZ-ofZ (start .fits .low), toZ-ofZ (start .fits .high)) at (c .in-range .ensures))
 
 returns-2 : tie.Need-returns-2
 returns-2 c =
-    let x = c .before .before .before .before .before .before .before .args in
+    let after-next-token = c .before .before .before .before .before in
+    let start = after-next-token .before .before in
+    let x = start .args in
     let n = c .before .before .before .n .given in
-    within-bad (x .s .now) (x .at) (x .low) (x .high) (x .why) (n .0 .1 .0) (sym (c .before .before .before .before .before .next-token .ensures) ∙ (n .1 ∙ ap (λ (u : _). Found u (n .0 .1 .0)) (c .enum-told .given .1)))
+    within-bad (x .s .now) (x .at) (x .low) (x .high) (x .why) (n .0 .1 .0)
+    (sym (after-next-token .next-token .ensures) ∙ (n .1 ∙ ap (λ (u : _). Found u (n .0 .1 .0)) (c .enum-told .given .1)))
 
 returns-3 : tie.Need-returns-3
 returns-3 c =

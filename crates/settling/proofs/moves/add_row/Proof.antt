@@ -12,7 +12,7 @@ use Rattle.whole.specs.Lists.{entry}
 use Rattle.whole.proofs.Signed.{back}
 use Rattle.lattice.specs.Rows.{plus}
 use Rattle.lattice.proofs.RowLaws.{length-plus, entry-plus}
-use Rattle.lattice.proofs.Writing.{WrittenTo, starts, goes-on, ends, unread}
+use Rattle.whole.proofs.Writing.{WrittenTo, starts, goes-on, ends, unread}
 use Rattle.settling.proofs.moves.add_row.Statement.{statement}
 use Rattle.settling.proofs.moves.add_row.Tie as tie
 

@@ -17,7 +17,7 @@ use Rattle.whole.proofs.Integers.{isZero-true}
 use Rattle.whole.proofs.Signed.{abs-add}
 use Rattle.lattice.specs.Rows.{plus}
 use Rattle.lattice.proofs.RowLaws.{length-plus, entry-plus, plus-none}
-use Rattle.lattice.proofs.Writing.{starts, ends}
+use Rattle.whole.proofs.Writing.{starts, ends}
 use Rattle.problem.specs.Limits.{M}
 use Rattle.settling.specs.Moves.{vector, moved}
 use Rattle.settling.proofs.Fronts.{lt-or-ge}

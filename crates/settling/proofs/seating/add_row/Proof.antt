@@ -12,7 +12,7 @@ use Rattle.whole.specs.Lists.{entry}
 use Rattle.whole.proofs.Signed.{back}
 use Rattle.lattice.specs.Rows.{plus}
 use Rattle.lattice.proofs.RowLaws.{length-plus, entry-plus}
-use Rattle.lattice.proofs.Writing.{unread}
+use Rattle.whole.proofs.Writing.{unread}
 use Rattle.settling.specs.Seats.{within}
 use Rattle.settling.proofs.Adding.{Adds, adds-from, adds-on, adds-beyond, adds-all}
 use Rattle.settling.proofs.seating.add_row.Statement.{statement}

@@ -7,7 +7,7 @@ use lib.ListN.{length}
 use Rattle.whole.proofs.Signed.{back}
 use Rattle.lattice.specs.Rows.{chop}
 use Rattle.lattice.proofs.FlatLaws.{in-table}
-use Rattle.lattice.proofs.Writing.{WrittenTo, starts, goes-on, ends}
+use Rattle.whole.proofs.Writing.{WrittenTo, starts, goes-on, ends}
 use Rattle.tableau.specs.Table.{column}
 use Rattle.tableau.proofs.Tableaus.{column-length, column-number}
 use Rattle.tableau.proofs.filling.fill_column.Statement.{statement}

@@ -17,7 +17,7 @@ use Rattle.whole.specs.Lists.{entry}
 use Rattle.whole.proofs.Signed.{back}
 use Rattle.lattice.specs.Rows.{plus}
 use Rattle.lattice.proofs.RowLaws.{length-plus, entry-plus}
-use Rattle.lattice.proofs.Writing.{WrittenTo, starts, goes-on, ends, unread}
+use Rattle.whole.proofs.Writing.{WrittenTo, starts, goes-on, ends, unread}
 use Rattle.problem.specs.Limits.{M, beyond, anyBeyond}
 use Rattle.tableau.proofs.Within.{within-entry, beyond-none, beyond-next}
 use Rattle.tableau.proofs.rows.subtract_all.Statement.{statement}

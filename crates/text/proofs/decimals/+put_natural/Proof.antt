@@ -1,4 +1,5 @@
--- `text::decimals::put_natural` meets its contract: the digits of the tenth and then the last are the definition's, and a tenth is less. Assumes nothing.
+-- `text::decimals::put_natural` meets its contract: the digits of the tenth and then the last are the definition's, and a tenth is less.
+-- Assumes nothing.
 use mathlib.Core.Path.{ap, subst}
 use Prim.Native.Nat.{_/_, _≤_, ℕ, _<_}
 use native.Mathlib.Nat.{mod-lt}
@@ -41,7 +42,9 @@ put-natural-slice-write-out : (t : ℕ) → put-natural-lts.Need-slice-write-out
   put-natural-below t,
   put-natural.Post,
 ) (put-natural-at t) put-natural.Post
-put-natural-slice-write-out t c = omega (arith, ap length (natural-small (c .before .before .before .args .n) (c .before .if1 .taken)), c .before .before .before .pre .1)
+put-natural-slice-write-out t c =
+    let start = c .before .before .before in
+    omega (arith, ap length (natural-small (start .args .n) (c .before .if1 .taken)), start .pre .1)
 
 put-natural-add-result : (t : ℕ) → put-natural-lts.Need-add-result (
   digit-reads.Asked,
@@ -59,8 +62,10 @@ put-natural-put-natural-requires : (t : ℕ) → put-natural-lts.Need-put-natura
 ) (put-natural-at t) put-natural.Post
 put-natural-put-natural-requires t c κs =
     let n = c .before .before .before .args .n in
-    let h : 10 ≤ n = c .before .if1 .left in
-    (subst (λ (k : ℕ). n / 10 < k) (c .before .before .before .pre .0) (tenth-less n h), omega (arith, length-more n h, c .before .before .before .pre .1))
+    let h : 10 ≤ n = c .before .if1 .left in (
+      subst (λ (k : ℕ). n / 10 < k) (c .before .before .before .pre .0) (tenth-less n h),
+      omega (arith, length-more n h, c .before .before .before .pre .1),
+    )
 
 put-natural-digit-requires-2 : (t : ℕ) → put-natural-lts.Need-digit-requires-2 (
   digit-reads.Asked,
@@ -68,7 +73,9 @@ put-natural-digit-requires-2 : (t : ℕ) → put-natural-lts.Need-digit-requires
   put-natural-below t,
   put-natural.Post,
 ) (put-natural-at t) put-natural.Post
-put-natural-digit-requires-2 t c κs = mod-lt (c .before .before .before .before .before .before .args .n) {m = 10} (lit< tt)
+put-natural-digit-requires-2 t c κs =
+    let after-put-natural = c .before .before in
+    mod-lt (after-put-natural .before .before .before .before .args .n) {m = 10} (lit< tt)
 
 put-natural-slice-write-out-2 : (t : ℕ) → put-natural-lts.Need-slice-write-out-2 (
   digit-reads.Asked,
@@ -77,8 +84,11 @@ put-natural-slice-write-out-2 : (t : ℕ) → put-natural-lts.Need-slice-write-o
   put-natural.Post,
 ) (put-natural-at t) put-natural.Post
 put-natural-slice-write-out-2 t c =
-    let w = c .before .before .before .put-natural in
-    omega (arith, length-more (c .before .before .before .before .before .before .before .args .n) (c .before .before .before .before .before .if1 .left), w .ensures .next, w .kept .0, c .before .before .before .before .before .before .before .pre .1)
+    let after-put-natural = c .before .before .before in
+    let else1 = after-put-natural .before .before in
+    let start = else1 .before .before in
+    let w = after-put-natural .put-natural in
+    omega (arith, length-more (start .args .n) (else1 .if1 .left), w .ensures .next, w .kept .0, start .pre .1)
 
 put-natural-add-result-2 : (t : ℕ) → put-natural-lts.Need-add-result-2 (
   digit-reads.Asked,
@@ -87,8 +97,12 @@ put-natural-add-result-2 : (t : ℕ) → put-natural-lts.Need-add-result-2 (
   put-natural.Post,
 ) (put-natural-at t) put-natural.Post
 put-natural-add-result-2 t c =
-    let w = c .before .before .before .put-natural in
-    let h : w .result < length (w .last .0) = omega (arith, length-more (c .before .before .before .before .before .before .before .args .n) (c .before .before .before .before .before .if1 .left), w .ensures .next, w .kept .0, c .before .before .before .before .before .before .before .pre .1) in
+    let after-put-natural = c .before .before .before in
+    let else1 = after-put-natural .before .before in
+    let start = else1 .before .before in
+    let w = after-put-natural .put-natural in
+    let m = length-more (start .args .n) (else1 .if1 .left) in
+    let h : w .result < length (w .last .0) = omega (arith, m, w .ensures .next, w .kept .0, start .pre .1) in
     search needs
 
 put-natural-same-length : (t : ℕ) → put-natural-lts.Need-same-length (
@@ -124,9 +138,13 @@ put-natural-returns-2 : (t : ℕ) → put-natural-lts.Need-returns-2 (
   put-natural.Post,
 ) (put-natural-at t) put-natural.Post
 put-natural-returns-2 t c =
-    let s = c .before .before .before .before .before .before .before .args in
-    let w = c .before .before .before .put-natural in
-    wrote-more (s .out .now) (w .last .0) (s .at) (w .result) (s .n) (c .digit2 .result) (c .before .before .before .before .before .if1 .left) (c .digit2 .ensures) (c .before .before .before .before .before .before .before .pre .1) (w .ensures)
+    let after-put-natural = c .before .before .before in
+    let else1 = after-put-natural .before .before in
+    let start = else1 .before .before in
+    let s = start .args in
+    let w = after-put-natural .put-natural in
+    wrote-more (s .out .now) (w .last .0) (s .at) (w .result) (s .n) (c .digit2 .result) (else1 .if1 .left) (c .digit2 .ensures)
+    (start .pre .1) (w .ensures)
 
 pub +put-natural-spec : {M : Type 1} → statement M
 +put-natural-spec = close μ-put-natural λ t. put-natural-lts.spec (

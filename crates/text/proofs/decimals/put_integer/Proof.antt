@@ -23,7 +23,8 @@ slice-aggregate-put c = search needs
 put-requires : tie.Need-put-requires
 put-requires c κs =
     let v : ℤ = c .before .before .before .before .before .args .v in
-    let t : ltZ v (pos 0) ≡ true = cc (toZ-ofZ (c .before .before .before .before .before .fits .v), c .before .before .before .less .ensures, c .before .before .if1 .taken) in
+    let t : ltZ v (pos 0) ≡ true =
+    cc (toZ-ofZ (c .before .before .before .before .before .fits .v), c .before .before .before .less .ensures, c .before .before .if1 .taken) in
     omega (arith, ap length (integer-low v t), c .before .before .before .before .before .pre)
 
 magnitude-requires : tie.Need-magnitude-requires
@@ -31,10 +32,21 @@ magnitude-requires c κs = search needs
 
 put-natural-requires : tie.Need-put-natural-requires
 put-natural-requires c κs =
-    let v : ℤ = c .before .before .before .before .before .before .before .before .before .before .args .v in
-    let t : ltZ v (pos 0) ≡ true = cc (toZ-ofZ (c .before .before .before .before .before .before .before .before .before .before .fits .v), c .before .before .before .before .before .before .before .before .less .ensures, c .before .before .before .before .before .before .before .if1 .taken) in
-    let a : c .magnitude .result ≡ natAbs v = cc (toZ-ofZ (c .before .before .before .before .before .before .before .before .before .before .fits .v), c .magnitude .ensures) in
-    omega (arith, ap length (integer-low v t), ap (λ (m : ℕ). length (natural m)) a, c .before .before .before .before .put .ensures .next, c .before .before .before .before .put .kept .0, c .before .before .before .before .before .before .before .before .before .before .pre)
+    let after-put = c .before .before .before .before in
+    let then1 = after-put .before .before .before in
+    let after-less = then1 .before in
+    let start = after-less .before .before in
+    let v : ℤ = start .args .v in
+    let t : ltZ v (pos 0) ≡ true = cc (toZ-ofZ (start .fits .v), after-less .less .ensures, then1 .if1 .taken) in
+    let a : c .magnitude .result ≡ natAbs v = cc (toZ-ofZ (start .fits .v), c .magnitude .ensures) in
+    omega (
+      arith,
+      ap length (integer-low v t),
+      ap (λ (m : ℕ). length (natural m)) a,
+      after-put .put .ensures .next,
+      after-put .put .kept .0,
+      start .pre,
+    )
 
 magnitude-requires-2 : tie.Need-magnitude-requires-2
 magnitude-requires-2 c κs = search needs
@@ -42,7 +54,8 @@ magnitude-requires-2 c κs = search needs
 put-natural-requires-2 : tie.Need-put-natural-requires-2
 put-natural-requires-2 c κs =
     let v : ℤ = c .before .before .before .before .before .args .v in
-    let t : ltZ v (pos 0) ≡ false = cc (toZ-ofZ (c .before .before .before .before .before .fits .v), c .before .before .before .less .ensures, c .before .before .if1 .left) in
+    let t : ltZ v (pos 0) ≡ false =
+    cc (toZ-ofZ (c .before .before .before .before .before .fits .v), c .before .before .before .less .ensures, c .before .before .if1 .left) in
     let a : c .magnitude2 .result ≡ natAbs v = cc (toZ-ofZ (c .before .before .before .before .before .fits .v), c .magnitude2 .ensures) in
     omega (arith, ap length (integer-high v t), ap (λ (m : ℕ). length (natural m)) a, c .before .before .before .before .before .pre)
 
@@ -51,19 +64,29 @@ same-length c = search needs
 
 returns : tie.Need-returns
 returns c =
-    let v : ℤ = c .before .before .before .before .before .before .before .before .before .before .before .before .before .args .v in
-    let t : ltZ v (pos 0) ≡ true = cc (toZ-ofZ (c .before .before .before .before .before .before .before .before .before .before .before .before .before .fits .v), c .before .before .before .before .before .before .before .before .before .before .before .less .ensures, c .before .before .before .before .before .before .before .before .before .before .if1 .taken) in
-    let a : c .before .before .before .magnitude .result ≡ natAbs v = cc (toZ-ofZ (c .before .before .before .before .before .before .before .before .before .before .before .before .before .fits .v), c .before .before .before .magnitude .ensures) in
-    rw (integer-low v t) (wrote-then (c .before .before .before .before .before .before .before .put .ensures) (rw a at (c .before .before .put-natural .ensures)) (omega (arith, ap length (integer-low v t), c .before .before .before .before .before .before .before .before .before .before .before .before .before .pre)))
+    let after-magnitude = c .before .before .before in
+    let after-put = after-magnitude .before .before .before .before in
+    let then1 = after-put .before .before .before in
+    let after-less = then1 .before in
+    let start = after-less .before .before in
+    let v : ℤ = start .args .v in
+    let t : ltZ v (pos 0) ≡ true = cc (toZ-ofZ (start .fits .v), after-less .less .ensures, then1 .if1 .taken) in
+    let a : after-magnitude .magnitude .result ≡ natAbs v = cc (toZ-ofZ (start .fits .v), after-magnitude .magnitude .ensures) in
+    rw (integer-low v t)
+    (wrote-then (after-put .put .ensures) (rw a at (c .before .before .put-natural .ensures))
+    (omega (arith, ap length (integer-low v t), start .pre)))
 
 same-length-2 : tie.Need-same-length-2
 same-length-2 c = search needs
 
 returns-2 : tie.Need-returns-2
 returns-2 c =
-    let v : ℤ = c .before .before .before .before .before .before .before .before .args .v in
-    let t : ltZ v (pos 0) ≡ false = cc (toZ-ofZ (c .before .before .before .before .before .before .before .before .fits .v), c .before .before .before .before .before .before .less .ensures, c .before .before .before .before .before .if1 .left) in
-    let a : c .before .before .before .magnitude2 .result ≡ natAbs v = cc (toZ-ofZ (c .before .before .before .before .before .before .before .before .fits .v), c .before .before .before .magnitude2 .ensures) in
+    let after-magnitude2 = c .before .before .before in
+    let after-less = after-magnitude2 .before .before .before in
+    let start = after-less .before .before in
+    let v : ℤ = start .args .v in
+    let t : ltZ v (pos 0) ≡ false = cc (toZ-ofZ (start .fits .v), after-less .less .ensures, after-magnitude2 .before .before .if1 .left) in
+    let a : after-magnitude2 .magnitude2 .result ≡ natAbs v = cc (toZ-ofZ (start .fits .v), after-magnitude2 .magnitude2 .ensures) in
     rw (integer-high v t) (rw a at (c .before .before .put-natural2 .ensures))
 
 pub put-integer-spec : {M : Type 1} → statement M

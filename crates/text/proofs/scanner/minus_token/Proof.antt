@@ -17,24 +17,35 @@ enum-known-p c = search needs
 
 negative-requires : tie.Need-negative-requires
 negative-requires c κs =
-    omega (arith, plain-below (c .before .before .before .before .before .before .args .w .now) (c .before .before .p .given .0 .0) (sym (c .before .before .before .before .plain-worth .ensures) ∙ c .before .before .p .given .1))
+    let after-p = c .before .before in
+    let start = after-p .before .before .before .before in
+    omega (
+      arith,
+      plain-below (start .args .w .now) (after-p .p .given .0 .0)
+          (sym (after-p .before .before .plain-worth .ensures) ∙ after-p .p .given .1),
+    )
 
 enum-told : tie.Need-enum-told
 enum-told c = search needs
 
 returns : tie.Need-returns
 returns c =
-    let h = sym (c .before .before .before .before .plain-worth .ensures) ∙ c .before .before .p .given .1 in
-    sym (minus-is (c .before .before .before .before .before .before .args .w .now) (c .before .before .p .given .0 .0) h ∙ (rw (eq-eqb _ _ (c .if1 .taken))))
+    let after-p = c .before .before in
+    let start = after-p .before .before .before .before in
+    let h = sym (after-p .before .before .plain-worth .ensures) ∙ after-p .p .given .1 in
+    sym (minus-is (start .args .w .now) (after-p .p .given .0 .0) h ∙ (rw (eq-eqb _ _ (c .if1 .taken))))
 
 returns-2 : tie.Need-returns-2
 returns-2 c =
-    let h = sym (c .before .before .before .before .before .plain-worth .ensures) ∙ c .before .before .before .p .given .1 in
+    let after-p = c .before .before .before in
+    let start = after-p .before .before .before .before in
+    let h = sym (after-p .before .before .plain-worth .ensures) ∙ after-p .p .given .1 in
     ap Number (toZ-ofZ (sfits-of (c .negative .ok)) ∙ c .negative .ensures) ∙
-    sym (minus-is (c .before .before .before .before .before .before .before .args .w .now) (c .before .before .before .p .given .0 .0) h ∙ (rw (ne-eqb _ _ (c .before .if1 .left))))
+    sym (minus-is (start .args .w .now) (after-p .p .given .0 .0) h ∙ (rw (ne-eqb _ _ (c .before .if1 .left))))
 
 returns-3 : tie.Need-returns-3
-returns-3 c = sym (minus-not (c .before .before .before .before .args .w .now) (sym (c .before .before .plain-worth .ensures) ∙ c .enum-told .given .1))
+returns-3 c =
+    sym (minus-not (c .before .before .before .before .args .w .now) (sym (c .before .before .plain-worth .ensures) ∙ c .enum-told .given .1))
 
 pub minus-token-spec : {M : Type 1} → statement M
 minus-token-spec =

@@ -8,11 +8,11 @@ use Rattle.text.proofs.Scanning.{run-le, next-is, next-end}
 use Rattle.text.proofs.scanner.next_token.Statement.{statement}
 use Rattle.text.proofs.scanner.next_token.Tie as tie
 
-skip-requires : tie.Need-skip-requires
-skip-requires c κs = search needs
+stretch-end-requires : tie.Need-stretch-end-requires
+stretch-end-requires c κs = search needs
 
-run-end-requires : tie.Need-run-end-requires
-run-end-requires c κs = search needs
+stretch-end-requires-2 : tie.Need-stretch-end-requires-2
+stretch-end-requires-2 c κs = search needs
 
 sub-token-of : tie.Need-sub-token-of
 sub-token-of c = search needs
@@ -23,7 +23,7 @@ part-token-of-start c = search needs
 part-token-of-end : tie.Need-part-token-of-end
 part-token-of-end c =
     let s = c .before .before .before .before .args .s .now in
-    let a : ℕ = c .before .before .skip .result in
+    let a : ℕ = c .before .before .stretch-end .result in
     omega (arith, run-le (drop a s), length-drop a s)
 
 token-of-requires : tie.Need-token-of-requires
@@ -31,23 +31,26 @@ token-of-requires c κs = search needs
 
 returns : tie.Need-returns
 returns c =
-    let x = c .before .before .before .before .before .before .args in
-    let a = c .before .before .before .before .skip in
-    let e = c .before .before .run-end in
-    sym (next-is (x .s .now) (x .at) (a .result) (e .result) _ (a .ensures) (c .before .before .before .if1 .taken) (e .ensures) (c .token-of .ensures))
+    let after-stretch-end = c .before .before .before .before in
+    let start = after-stretch-end .before .before in
+    let x = start .args in
+    let a = after-stretch-end .stretch-end in
+    let e = c .before .before .stretch-end2 in
+    sym (next-is (x .s .now) (x .at) (a .result) (e .result) _ (a .ensures) (c .before .before .before .if1 .taken) (e .ensures)
+    (c .token-of .ensures))
 
 returns-2 : tie.Need-returns-2
 returns-2 c =
     let x = c .before .before .before .args in
-    let a = c .before .skip in
+    let a = c .before .stretch-end in
     sym (next-end (x .s .now) (x .at) (a .result) (a .ensures) (c .if1 .left))
 
 pub next-token-spec : {M : Type 1} → statement M
 next-token-spec =
     tie.close
     (tie.spec
-    skip-requires
-    run-end-requires
+    stretch-end-requires
+    stretch-end-requires-2
     sub-token-of
     part-token-of-start
     part-token-of-end

@@ -15,7 +15,8 @@ worth-of-requires : tie.Need-worth-of-requires
 worth-of-requires c κs = search needs
 
 returns-2 : tie.Need-returns-2
-returns-2 c = rw (le-leb _ _ (c .before .before .before .if1 .left), sym (c .before .before .is-needed .ensures) ∙ c .before .if2 .taken) (c .worth-of .ensures)
+returns-2 c =
+    rw (le-leb _ _ (c .before .before .before .if1 .left), sym (c .before .before .is-needed .ensures) ∙ c .before .if2 .taken) (c .worth-of .ensures)
 
 returns-3 : tie.Need-returns-3
 returns-3 c = rw (le-leb _ _ (c .before .before .if1 .left), sym (c .before .is-needed .ensures) ∙ c .if2 .left)

@@ -33,12 +33,16 @@ unsigned-token-requires c κs = search needs
 
 returns-2 : tie.Need-returns-2
 returns-2 c =
-    let w = c .before .before .before .before .before .before .args .w .now in
+    let else1 = c .before .before .before .before in
+    let start = else1 .before .before in
+    let w = start .args .w .now in
     let p : take (length w - 1) (drop 1 w) ≡ drop 1 w = take-all (length w - 1) (drop 1 w) (omega (arith, length-drop 1 w)) in
-    c .minus-token .ensures ∙ ap afterMinus p ∙ sym (token-minus w (c .before .before .before .before .if1 .left) (c .before .before .if2 .taken))
+    c .minus-token .ensures ∙ ap afterMinus p ∙ sym (token-minus w (else1 .if1 .left) (c .before .before .if2 .taken))
 
 returns-3 : tie.Need-returns-3
-returns-3 c = c .unsigned-token .ensures ∙ sym (token-plain (c .before .before .before .before .before .args .w .now) (c .before .before .before .if1 .left) (c .before .if2 .left))
+returns-3 c =
+    c .unsigned-token .ensures ∙
+    sym (token-plain (c .before .before .before .before .before .args .w .now) (c .before .before .before .if1 .left) (c .before .if2 .left))
 
 pub token-of-spec : {M : Type 1} → statement M
 token-of-spec =

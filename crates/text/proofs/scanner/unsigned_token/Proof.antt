@@ -16,18 +16,25 @@ enum-known-p c = search needs
 
 positive-requires : tie.Need-positive-requires
 positive-requires c κs =
-    omega (arith, plain-below (c .before .before .before .before .before .args .w .now) (c .before .p .given .0 .0) (sym (c .before .before .before .plain-worth .ensures) ∙ c .before .p .given .1))
+    omega (
+      arith,
+      plain-below (c .before .before .before .before .before .args .w .now) (c .before .p .given .0 .0)
+          (sym (c .before .before .before .plain-worth .ensures) ∙ c .before .p .given .1),
+    )
 
 enum-told : tie.Need-enum-told
 enum-told c = search needs
 
 returns : tie.Need-returns
 returns c =
+    let after-p = c .before .before in
+    let start = after-p .before .before .before .before in
     ap Number (toZ-ofZ (sfits-of (c .positive .ok)) ∙ c .positive .ensures) ∙
-    sym (unsigned-is (c .before .before .before .before .before .before .args .w .now) (c .before .before .p .given .0 .0) (sym (c .before .before .before .before .plain-worth .ensures) ∙ c .before .before .p .given .1))
+    sym (unsigned-is (start .args .w .now) (after-p .p .given .0 .0) (sym (after-p .before .before .plain-worth .ensures) ∙ after-p .p .given .1))
 
 returns-2 : tie.Need-returns-2
-returns-2 c = sym (unsigned-not (c .before .before .before .before .args .w .now) (sym (c .before .before .plain-worth .ensures) ∙ c .enum-told .given .1))
+returns-2 c =
+    sym (unsigned-not (c .before .before .before .before .args .w .now) (sym (c .before .before .plain-worth .ensures) ∙ c .enum-told .given .1))
 
 pub unsigned-token-spec : {M : Type 1} → statement M
 unsigned-token-spec =

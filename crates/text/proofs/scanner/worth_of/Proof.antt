@@ -15,7 +15,8 @@ use Rattle.text.proofs.scanner.worth_of.Statement.{statement}
 use Rattle.text.proofs.scanner.worth_of.Tie as tie
 
 abbrev Inv-loop : tie.InvT-loop
-Inv-loop w v₀ i₀ i-end v i = (i ≤ length w) × (v < 10 ^ i) × (cond (allDigits (drop i w)) (Digits (value v (drop i w))) Other ≡ cond (allDigits w) (Digits (value 0 w)) Other)
+Inv-loop w v₀ i₀ i-end v i =
+    (i ≤ length w) × (v < 10 ^ i) × (cond (allDigits (drop i w)) (Digits (value v (drop i w))) Other ≡ cond (allDigits w) (Digits (value 0 w)) Other)
 
 abbrev μ-loop : tie.MeasureT-loop
 μ-loop w v₀ i₀ i-end v i = length w - i
@@ -39,8 +40,10 @@ longer-requires c κs = (small c, sym (c .before .is-digit .ensures) ∙ c .if1 
 
 returns : tie.Need-returns Inv-loop μ-loop
 returns c =
-    let s = c .before .before .before .before .before .before .args .w .now in
-    let l = c .before .before .before .before .loop in
+    let at-loop = c .before .before .before .before in
+    let start = at-loop .before .before in
+    let s = start .args .w .now in
+    let l = at-loop .loop in
     sym (worth-stop s (l .i) (l .v) (omega arith) (sym (c .before .is-digit .ensures) ∙ c .if1 .left)) ∙ l .inv .2
 
 add-i : tie.Need-add-i Inv-loop μ-loop
@@ -51,8 +54,10 @@ loop-less c = omega arith
 
 loop-again : tie.Need-loop-again Inv-loop μ-loop
 loop-again c =
-    let s = c .before .before .before .before .before .before .before .args .w .now in
-    let l = c .before .before .before .before .before .loop in
+    let at-loop = c .before .before .before .before .before in
+    let start = at-loop .before .before in
+    let s = start .args .w .now in
+    let l = at-loop .loop in
     let d : isDigit (getD s (l .i) 0) ≡ true = sym (c .before .before .is-digit .ensures) ∙ c .before .if1 .taken in (
       omega arith,
       (rw (c .longer .ensures, add-one (l .i), pow-succ' 10 (l .i)) (omega (arith, digit-high (getD s (l .i) 0) d, digit-low (getD s (l .i) 0) d))),
@@ -60,7 +65,8 @@ loop-again c =
     )
 
 returns-2 : tie.Need-returns-2 Inv-loop μ-loop
-returns-2 c = sym (worth-none (c .before .before .before .args .w .now) (c .before .loop .i) (c .before .loop .v) (omega arith)) ∙ c .before .loop .inv .2
+returns-2 c =
+    sym (worth-none (c .before .before .before .args .w .now) (c .before .loop .i) (c .before .loop .v) (omega arith)) ∙ c .before .loop .inv .2
 
 pub worth-of-spec : {M : Type 1} → statement M
 worth-of-spec =

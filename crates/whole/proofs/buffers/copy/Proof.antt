@@ -1,11 +1,11 @@
--- `lattice::copy` meets its contract: from the left, each number of the one row is stored in the other. Assumes nothing.
+-- `whole::buffers::copy` meets its contract: from the left, each number of the one row is stored in the other. Assumes nothing.
 use Prim.Native.Nat.{_-_}
 use native.Mathlib.Omega.{arith}
 use lib.ListN.{length}
 use borrow.Author.Needs.{needs}
-use Rattle.lattice.proofs.Writing.{WrittenTo, starts, goes-on, ends}
-use Rattle.lattice.proofs.copy.Statement.{statement}
-use Rattle.lattice.proofs.copy.Tie as tie
+use Rattle.whole.proofs.Writing.{WrittenTo, starts, goes-on, ends}
+use Rattle.whole.proofs.buffers.copy.Statement.{statement}
+use Rattle.whole.proofs.buffers.copy.Tie as tie
 
 abbrev Inv-loop : tie.InvT-loop
 Inv-loop to₀ from i₀ to i = WrittenTo to₀ from to i

@@ -1,15 +1,15 @@
--- `lattice::wipe` meets its contract: from the left, a 0 is stored at each place. Assumes nothing.
+-- `whole::buffers::wipe` meets its contract: from the left, a 0 is stored at each place. Assumes nothing.
 use mathlib.Core.Path.{sym}
 use Prim.Native.Nat.{ℕ, _-_}
 use native.Mathlib.Omega.{arith}
 use lib.IntN.{pos}
 use lib.ListN.{length, length-replicate}
 use borrow.Author.Needs.{needs}
-use Rattle.whole.specs.Lists.{zeros}
 use Rattle.whole.proofs.Lists.{entry-zeros}
-use Rattle.lattice.proofs.Writing.{WrittenTo, starts, goes-on, ends}
-use Rattle.lattice.proofs.wipe.Statement.{statement}
-use Rattle.lattice.proofs.wipe.Tie as tie
+use Rattle.whole.specs.Lists.{zeros}
+use Rattle.whole.proofs.Writing.{WrittenTo, starts, goes-on, ends}
+use Rattle.whole.proofs.buffers.wipe.Statement.{statement}
+use Rattle.whole.proofs.buffers.wipe.Tie as tie
 
 abbrev Inv-loop : tie.InvT-loop
 Inv-loop row₀ i₀ row i = WrittenTo row₀ (zeros (length row₀)) row i

@@ -1,0 +1,1 @@
+"""The plain model's tests, a file for each room."""

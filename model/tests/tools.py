@@ -1,0 +1,112 @@
+"""Tools of the tests: single checks, problems, calls, and problems of the generator."""
+
+import engine
+import generate
+from engine import Lent, Problem
+
+TESTS = []
+COUNTS = {"passed": 0, "failed": 0}
+
+
+def test(function):
+    """Marks a function as a test."""
+    TESTS.append(function)
+    return function
+
+
+def tests_of(name):
+    """The tests of the module with this name, in their order."""
+    return [function for function in TESTS if function.__module__ == name]
+
+
+def check(what, got, wanted):
+    """One single check."""
+    if got == wanted:
+        COUNTS["passed"] += 1
+    else:
+        COUNTS["failed"] += 1
+        print("FAILED %s: got %r, wanted %r" % (what, got, wanted))
+
+
+def make(n, rows, rights, bounds, goals=None, limit=10000):
+    """A problem; bounds is one pair for all columns or a list of pairs."""
+    pairs = [bounds] * n if isinstance(bounds, tuple) else bounds
+    return Problem(n, len(rows), [a for row in rows for a in row], list(rights),
+                   [low for low, _ in pairs], [high for _, high in pairs],
+                   list(goals or [0] * n), limit)
+
+
+def marked_lent(n, m):
+    """Lent buffers full of marks, to see what a call writes."""
+    return Lent([777] * (n * (m + n)), [-888] * n, [999] * n)
+
+
+def all_numbers(problem, lent):
+    """Copies of all buffers of a call."""
+    return [list(buffer) for buffer in
+            (problem.coefficients, problem.rights, problem.lower, problem.upper,
+             problem.goals, lent.tableau, lent.values, lent.strides)]
+
+
+def solve(problem):
+    """A whole assignment: the answer and the lent buffers after it."""
+    lent = marked_lent(problem.n, problem.m)
+    return engine.assign(problem, lent), lent
+
+
+def resume(problem, values):
+    """A Continue: the answer and the lent buffers after it."""
+    lent = marked_lent(problem.n, problem.m)
+    lent.values = list(values)
+    return engine.cont(problem, lent), lent
+
+
+def form_of(problem):
+    """The form of the tableau, flat."""
+    table = engine.fill(problem)
+    engine.bring_to_form(table)
+    return engine.flat(table)
+
+
+def check_case(what, problem, answer, values=None, strides=None):
+    """One deck case on buffers; a refusal must leave the lists as before."""
+    got, lent = solve(problem)
+    check(what, got, answer)
+    if values is not None:
+        check(what + ": values", lent.values, values)
+    if strides is not None:
+        check(what + ": strides", lent.strides, strides)
+    if isinstance(answer[0], int):
+        check(what + ": lists as before", (lent.values, lent.strides),
+              ([-888] * problem.n, [999] * problem.n))
+
+
+def with_limit(problem, limit):
+    """The same problem under another step limit."""
+    return Problem(problem.n, problem.m, problem.coefficients, problem.rights,
+                   problem.lower, problem.upper, problem.goals, limit)
+
+
+def chain(n, bounds, goals=None, limit=10000):
+    """1000 × v(k) = v(k + 1)."""
+    rows = [[1000 if j == k else -1 if j == k + 1 else 0 for j in range(n)]
+            for k in range(n - 1)]
+    return make(n, rows, [0] * (n - 1), bounds, goals, limit)
+
+
+def sound_problem():
+    """v1 + v2 = 4, fitted by (2, 2)."""
+    return make(2, [[1, 1]], [4], (1, 9), [2000, 2000])
+
+
+def random_problems(seed, count, families):
+    """Problems of some families of the generator, with the list hidden in them."""
+    for number in range(count):
+        rng = generate.rng_for(seed, number)
+        problem, hidden = rng.choice(families)(rng)
+        problem.limit = min(problem.limit, 200)
+        yield rng, problem, hidden
+
+
+ORDINARY = [generate.small_problem, generate.small_problem, generate.middle_problem,
+            generate.wild_problem]
