@@ -9,7 +9,7 @@
 --   continue-off, -over, -settled   a Continue of a list that does not stand, past the limit, and over the form
 -- Assumes nothing.
 use mathlib.Core.Path.{_≡_, refl, sym, _∙_, ap, ap₂, subst}
-use mathlib.Core.Bool.{Bool, true, false, cond, _||_, true≢false}
+use mathlib.Core.Bool.{Bool, true, false, cond, _||_}
 use mathlib.Core.List.{List}
 use Prim.Native.Nat.{ℕ}
 use lib.IntN.{ℤ}
@@ -26,6 +26,7 @@ use Rattle.problem.specs.declared.Refusal.{Refusal}
 use Rattle.problem.specs.declared.Refusal.the-variants.{NoWholeNumbers, Standing}
 use Rattle.tableau.specs.RightSide.{basis, Found, none, some, Solved, rightSide, solve}
 use Rattle.tableau.specs.Generators.{Sized}
+use Rattle.whole.proofs.Tests.{neither}
 use Rattle.tableau.proofs.Theorems.{problem-basis, basis-rising, solve-tells}
 use Rattle.rightside.specs.Solutions.{answerOf, solutionOf}
 use Rattle.rightside.specs.declared.Solution.the-variants.{Over, None, Found as Met}
@@ -80,13 +81,9 @@ by-form : (T : List (List ℤ)) (t : Bool) (x y : Solved) → x .form ≡ T → 
 by-form T true x y e f = e
 by-form T false x y e f = f
 
-either : (a b : Bool) → a || b ≡ false → a ≡ false
-either true b e = absurd (true≢false e)
-either false b e = refl
-
 by-kept : (o a b : Bool) (t : Bool) (x y : Solved) → x .over ≡ o || a → y .over ≡ o || b → cond t x y .over ≡ false → o ≡ false
-by-kept o a b true x y e f h = either o a (sym e ∙ h)
-by-kept o a b false x y e f h = either o b (sym f ∙ h)
+by-kept o a b true x y e f h = neither o a (sym e ∙ h) .0
+by-kept o a b false x y e f h = neither o b (sym f ∙ h) .0
 
 by-found : (s v : List ℤ) (N K : List (List ℤ)) (t : Bool) (x y : Solved) → x .found ≡ some v K → y .found ≡ none
     → cond t x y .found ≡ some s N → N ≡ K

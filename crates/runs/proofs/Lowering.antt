@@ -15,9 +15,10 @@ use mathlib.Core.List.{List, [], _∷_}
 use Prim.Native.Nat.{ℕ, zero, suc, _+_, _<_, _≤_}
 use native.Mathlib.Omega.{arith}
 use lib.ListN.{length, getD}
+use Rattle.settling.specs.Rankings.{Each, Down}
 use Rattle.settling.specs.Steps.{insert}
 use Rattle.settling.proofs.Orders.{Weak, self, under-past, alike, back, past-under, strict}
-use Rattle.settling.proofs.Insertion.{Each, each-insert, Down, insert-down}
+use Rattle.settling.proofs.Insertion.{each-insert, insert-down}
 use Rattle.runs.specs.Sorted.{above, sorted, lower, LowerAt}
 
 lower-at : {A : Type 0} (lt : A → A → Bool) (d : A) (K L : List A) → lower lt K L ≡ true → LowerAt lt d K L

@@ -34,7 +34,7 @@ use Rattle.settling.specs.Measures.{fraction, below}
 use Rattle.settling.specs.Steps.{inBounds, partIf, partOf, stepOf, nextStep}
 use Rattle.settling.specs.Settle.{Settled, ended, atRest, counted, onStep, settleFrom, settle}
 use Rattle.settling.proofs.Orders.{Determinate, below-weak}
-use Rattle.settling.proofs.Insertion.{Each}
+use Rattle.settling.specs.Rankings.{Each}
 use Rattle.settling.proofs.Stepping.{step-taken, taken-allowed}
 use Rattle.runs.specs.Sorted.{sorted, lower}
 use Rattle.runs.specs.Runs.{measures, distances, ratios, lowerThan, afterStep, standing, listAt, totalSteps, Descent, Ends, Stepped}

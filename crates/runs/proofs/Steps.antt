@@ -27,7 +27,7 @@ use Rattle.settling.specs.Measures.{fraction, below, ratio, measure}
 use Rattle.settling.specs.Steps.{partOf, isRanked, isCompared, measureAt, nextStep}
 use Rattle.settling.specs.Verdicts.{Improving}
 use Rattle.settling.proofs.Orders.{Determinate, below-weak}
-use Rattle.settling.proofs.Insertion.{Each, Down}
+use Rattle.settling.specs.Rankings.{Each, Down}
 use Rattle.settling.proofs.Stepping.{next-taken, taken-changes, taken-below, moved-still}
 use Rattle.runs.specs.Sorted.{above, sorted}
 use Rattle.runs.specs.Runs.{measuresFrom, measures, lowerThan}

@@ -19,6 +19,7 @@ use Rattle.whole.specs.Lists.{entry}
 use Rattle.whole.proofs.Counted.{every-at}
 use Rattle.whole.proofs.Never.{never}
 use Rattle.problem.specs.Limits.{M}
+use Rattle.settling.specs.Rankings.{Proper}
 use Rattle.settling.specs.declared.Basis.{Basis}
 use Rattle.settling.specs.declared.Part.{Part}
 use Rattle.settling.specs.declared.Part.the-variants.{Bounds, Goals}
@@ -28,7 +29,7 @@ use Rattle.settling.specs.Steps.{inBounds, partIf, partOf, isAllowed, rankedAt}
 use Rattle.settling.specs.Ready.{Ready}
 use Rattle.settling.specs.Sizes.{FitCell}
 use Rattle.settling.proofs.Sizes.{allowed-sized, fit-sized}
-use Rattle.settling.proofs.Blocking.{Proper, fit-proper}
+use Rattle.settling.proofs.Blocking.{fit-proper}
 use Rattle.search.specs.declared.Search.{Search}
 use Rattle.search.specs.Searches.{columnsOf, Measurable, Searchable}
 

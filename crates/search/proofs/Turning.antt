@@ -18,6 +18,7 @@ use lib.ListN.{length, take, getD, length-take}
 use Rattle.whole.proofs.Counted.{every-at, every-all}
 use Rattle.whole.proofs.Never.{never}
 use Rattle.problem.specs.Limits.{maxColumns}
+use Rattle.settling.specs.Rankings.{Each, Proper}
 use Rattle.settling.specs.declared.Basis.{Basis}
 use Rattle.settling.specs.declared.Move.{Move}
 use Rattle.settling.specs.declared.Part.{Part}
@@ -30,8 +31,8 @@ use Rattle.settling.specs.Ready.{Ready}
 use Rattle.settling.specs.Steps.{inBounds, partIf, partOf, isRanked, isAllowed, rankedAt, largerAt, ranking, firstColumn, stepAt, stepOf, nextStep}
 use Rattle.settling.specs.Views.{vectors}
 use Rattle.settling.proofs.Views.{moved-length}
-use Rattle.settling.proofs.Blocking.{Proper, weak}
-use Rattle.settling.proofs.Insertion.{Each, each-at, each-ranked, ranked-each}
+use Rattle.settling.proofs.Blocking.{weak}
+use Rattle.settling.proofs.Insertion.{each-at, each-ranked, ranked-each}
 use Rattle.settling.proofs.Rankings.{ranking-below, ranking-in, ranking-falls}
 use Rattle.settling.proofs.Stepping.{next-taken, taken-allowed}
 use Rattle.search.specs.declared.turns.Ranked.{Ranked}

@@ -25,7 +25,7 @@ use Rattle.settling.specs.Steps.{isAllowed, passesAt, largerAt, improves, first
 use Rattle.settling.specs.Ready.{Ready}
 use Rattle.settling.specs.Sizes.{FitCell}
 use Rattle.settling.specs.Views.{vectors}
-use Rattle.settling.proofs.Blocking.{Proper}
+use Rattle.settling.specs.Rankings.{Proper}
 use Rattle.search.specs.declared.Search.{Search}
 
 abbrev pub columnsOf : Search → List ℤ → Columns

@@ -1,7 +1,6 @@
 -- What the search may skip. Along the ranking the measure to come below only falls: a move that improves a column also improves each higher
 -- column that it changes, so that it has to be tried only at the highest column that it changes.
---   Proper p C v j     the measure of column j is a fraction
---   fit-proper         it is, where the column fits, is ranked and has a value that a move may leave
+--   fit-proper         a column has a proper measure, where it fits, is ranked and has a value that a move may leave
 --   weak               proper columns are ordered by their measures
 --   passes-up          a column that passes for a measure passes for one that is not below it
 --   unchanged          a move improves no column that it leaves as it is
@@ -27,14 +26,12 @@ use Rattle.settling.specs.Columns.{Column, Columns, valued}
 use Rattle.settling.specs.Moves.{changes}
 use Rattle.settling.specs.Measures.{fraction, below, distance, ratio, measure}
 use Rattle.settling.specs.Steps.{isRanked, isCompared, isAllowed, passes, measureAt, largerAt, passesAt, improves}
+use Rattle.settling.specs.Rankings.{Proper}
 use Rattle.settling.specs.Ready.{FitColumn}
 use Rattle.settling.proofs.Sizes.{inside-above}
 use Rattle.settling.proofs.Orders.{Weak, under-past, below-weak, weak-by}
 
 -- ---- measures with a bottom above 0 are ordered as fractions
-abbrev pub Proper : Part → Columns → List ℤ → ℕ → Type 0
-Proper p C v j = 0 < measureAt p C v j .bottom
-
 pub weak : (p : Part) (C : Columns) (v : List ℤ) → Weak (Proper p C v) (largerAt p C v)
 weak p C v = weak-by (measureAt p C v) (λ i h. h)
 

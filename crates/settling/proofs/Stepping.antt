@@ -19,6 +19,7 @@ use Rattle.whole.proofs.Counted.{every-at}
 use Rattle.whole.proofs.Never.{never}
 use Rattle.whole.proofs.Integers.{isZero-true}
 use Rattle.whole.proofs.Tests.{both-true}
+use Rattle.settling.specs.Rankings.{Each}
 use Rattle.settling.specs.declared.Move.{Move}
 use Rattle.settling.specs.declared.Part.{Part}
 use Rattle.settling.specs.declared.Step.{Step}
@@ -31,7 +32,7 @@ use Rattle.settling.specs.Steps.{partOf, isCompared, isAllowed, passes, 
 use Rattle.settling.specs.Steps.{ranking, orElse, firstMove, firstColumn, stepAt, stepOf, nextStep}
 use Rattle.settling.specs.Verdicts.{Listed, Improving}
 use Rattle.settling.proofs.Views.{moved-length, moved-at}
-use Rattle.settling.proofs.Insertion.{Each, each-ranked}
+use Rattle.settling.proofs.Insertion.{each-ranked}
 use Rattle.settling.proofs.Passing.{passes-measured}
 
 not-take : {i : ℕ} {o : Move} → Rest ≡ Take i o → ⊥

@@ -20,6 +20,7 @@ use Rattle.problem.specs.Answers.{noSteps, isVerdict}
 use Rattle.problem.specs.declared.Counts.{Counts}
 use Rattle.problem.specs.declared.Answer.{Answer}
 use Rattle.problem.specs.declared.Answer.the-variants.{Fitted, Outside, Spent}
+use Rattle.settling.specs.Rankings.{Each}
 use Rattle.settling.specs.declared.Move.{Move}
 use Rattle.settling.specs.declared.Part.{Part}
 use Rattle.settling.specs.declared.Part.the-variants.{Bounds, Goals}
@@ -32,7 +33,7 @@ use Rattle.settling.specs.Steps.{inBounds, partIf, partOf, rankedAt, lar
 use Rattle.settling.specs.Steps.{firstMove, firstColumn, stepAt, stepOf, nextStep}
 use Rattle.settling.specs.Settle.{Settled, ended, atRest, counted, onStep, settleFrom, settle}
 use Rattle.settling.specs.Verdicts.{Listed, Improving, AllInBounds, SomeOutside, NoMoveImproves, Means}
-use Rattle.settling.proofs.Insertion.{Each, ranked-each}
+use Rattle.settling.proofs.Insertion.{ranked-each}
 use Rattle.settling.proofs.Stepping.{next-taken}
 
 -- ---- no step is left

@@ -6,6 +6,7 @@ pub mod Seating
 pub mod Moves
 pub mod Measures
 pub mod Steps
+pub mod Rankings
 pub mod Settle
 pub mod Verdicts
 pub mod Strides
