@@ -6,7 +6,7 @@ ghost use mathlib.Core.Bool.{true};
 ghost use Prim.Native.Nat.{_+_, _-_, _*_, _<_, _≤_, _^_};
 ghost use lib.IntN.{pos, negℤ};
 ghost use lib.ListN.{length, drop};
-ghost use Rattle.text.specs.Tokens.{isBlank, isDigit, noNeedlessZero, unsigned, afterMinus, tokenOf};
+ghost use Rattle.text.specs.Tokens.{isBlank, isDigit, maxDigits, noNeedlessZero, unsigned, afterMinus, tokenOf};
 ghost use Rattle.text.specs.Positions.{belongs as belongs·rule, stretch, worthOf, plainWorth, nextAt};
 
 // What digits are worth.
@@ -60,7 +60,7 @@ fn longer(v: u64, b: u8) -> u64
 
 // What bytes are worth if all are digits.
 fn worth_of(w: &[u8]) -> Worth
-    requires { ⌜ length (now w) ≤ 10 ⌝ }
+    requires { ⌜ length (now w) ≤ maxDigits ⌝ }
     ensures { λ r. ⌜ r ≡ worthOf (now (w .entry)) ⌝ }
 {
     let mut v: u64 = 0;
