@@ -1,9 +1,7 @@
 // From step to step: the part that is reached, and its ranking.
 ghost use mathlib.Core.Path.{_≡_};
 ghost use Prim.Native.Nat.{_*_, _≤_};
-ghost use lib.ListN.{length, take};
-ghost use Rattle.settling.specs.Columns.{columnsIn};
-ghost use Rattle.settling.specs.Steps.{partOf, ranking};
+ghost use lib.ListN.{length};
 ghost use Rattle.search.specs.Kept.{sizeWidth};
 ghost use Rattle.search.specs.Turning as Turning;
 ghost use Rattle.search.specs.Turning.{Turnable, Arranged, RankedIn};

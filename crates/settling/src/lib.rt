@@ -1,6 +1,6 @@
 ghost use mathlib.Core.Path.{_≡_};
 ghost use Prim.Native.Nat.{_≤_};
-ghost use lib.IntN.{ℤ, natAbs};
+ghost use lib.IntN.{natAbs};
 ghost use Rattle.problem.specs.Limits.{maxGoal};
 ghost use Rattle.settling.specs.Ideals.{goalIdeal, goalWish, into};
 ghost use Rattle.settling.specs.Ideals as Ideals;
