@@ -4,13 +4,14 @@
 --   assign-leaves     so a whole assignment does
 -- Assumes nothing.
 use mathlib.Core.Path.{_≡_, refl, sym, subst}
-use mathlib.Core.Bool.{Bool, true, false, cond, true≢false}
+use mathlib.Core.Bool.{Bool, true, false, cond}
 use mathlib.Core.List.{List, [], _∷_, map}
 use Prim.Native.Nat.{ℕ, _≤_}
 use native.Mathlib.Omega.{arith}
 use lib.Dec.{ltb}
 use lib.IntN.{ℤ}
 use lib.ListN.{drop, getD}
+use Rattle.whole.proofs.Never.{untrue}
 use Rattle.lattice.specs.Rows.{lead}
 use Rattle.lattice.specs.Span.{All}
 use Rattle.problem.specs.Limits.{M, maxColumns}
@@ -48,10 +49,6 @@ basis-within k (r ∷ T) a = go (ltb (lead r) k) (basis-within k T (a .1))
     go true b = b
     go false b = (within-drop k r (a .0), b)
 
--- a refusal is no verdict
-refuses : {A : Type 0} → false ≡ true → A
-refuses e = absurd (true≢false (sym e))
-
 module _ (P : Posed) (B : Buffers) (h : firstCause P (lentOf B) ≡ Passed) where
   abbrev q : Passes P (lentOf B)
   q = passes P (lentOf B) h
@@ -81,12 +78,12 @@ module _ (P : Posed) (B : Buffers) (h : firstCause P (lentOf B) ≡ Passed) wher
 
   seated-leaves : (T N : List (List ℤ)) (s : List ℤ) (z : Seated) → Values (n P) s → All Within N → seat (columns P) N s ≡ z
       → isVerdict (onSeated P T N B z .answer) ≡ true → Leaves P (onSeated P T N B z)
-  seated-leaves T N s far a w e v = refuses v
+  seated-leaves T N s far a w e v = untrue v
   seated-leaves T N s (seated u) a w e v = settled-leaves T N u (seat-values (columns P) (n P) N s u a e) w
 
   found-leaves : (T : List (List ℤ)) (x : Found) → solved P .over ≡ false → solved P .found ≡ x → isVerdict (onFound P T B x .answer) ≡ true
       → Leaves P (onFound P T B x)
-  found-leaves T none o e v = refuses v
+  found-leaves T none o e v = untrue v
   found-leaves T (some s N) o e v = seated-leaves T N s (seat (columns P) N s) (start-values s N o e) (found-within s N o e) refl v
 
   fit-leaves : isVerdict (assignFit P B .answer) ≡ true → Leaves P (assignFit P B)
@@ -94,7 +91,7 @@ module _ (P : Posed) (B : Buffers) (h : firstCause P (lentOf B) ≡ Passed) wher
     where
       go : (t : Bool) → solved P .over ≡ t → isVerdict (cond t (overLimit B) (onFound P (solved P .form) B (solved P .found)) .answer) ≡ true
           → Leaves P (cond t (overLimit B) (onFound P (solved P .form) B (solved P .found)))
-      go true o v = refuses v
+      go true o v = untrue v
       go false o v = found-leaves (solved P .form) (solved P .found) o refl v
 
 pub assign-leaves : (P : Posed) (B : Buffers) → isVerdict (assign P B .answer) ≡ true → Leaves P (assign P B)
@@ -103,4 +100,4 @@ assign-leaves P B = go (firstCause P (lentOf B)) refl
   where
     go : (c : Check) → firstCause P (lentOf B) ≡ c → isVerdict (onCheck c B (assignFit P B) .answer) ≡ true → Leaves P (onCheck c B (assignFit P B))
     go Passed h v = fit-leaves P B h v
-    go (Failed why) h v = refuses v
+    go (Failed why) h v = untrue v

@@ -6,6 +6,7 @@ use mathlib.Core.Bool.{Bool, true, false, cond, true≢false, false≢true}
 use mathlib.Core.List.{List, []}
 use native.Mathlib.Omega.{arith}
 use lib.IntN.{ℤ}
+use Rattle.whole.proofs.Never.{untrue}
 use Rattle.problem.specs.Answers.{answerCounts, isVerdict}
 use Rattle.problem.specs.Checks.{Posed, firstCause}
 use Rattle.problem.specs.declared.Refusal.the-variants.{Standing}
@@ -42,34 +43,31 @@ module _ (P : Posed) where
       go true e = record { descent = s e .descent; ends = λ f. s e .ends; refused = λ f. absurd (true≢false (sym e ∙ f)) }
       go false e = record { descent = nothing; ends = λ f. absurd (false≢true (sym e ∙ f)); refused = λ f. refl }
 
-  no-verdict : {A : Type 0} → false ≡ true → A
-  no-verdict e = absurd (false≢true e)
-
   -- ---- whole assignments
   module _ (T : List (List ℤ)) (B : Buffers) where
     seated-settles : (N : List (List ℤ)) (z : Seated) → isVerdict (onSeated P T N B z .answer) ≡ true → Settles (seatedRun P N z) (onSeated P T N B z)
-    seated-settles N far e = no-verdict e
+    seated-settles N far e = untrue e
     seated-settles N (seated v) e = settle-settles T N v
 
     found-settles : (f : Found) → isVerdict (onFound P T B f .answer) ≡ true → Settles (foundRun P f) (onFound P T B f)
-    found-settles none e = no-verdict e
+    found-settles none e = untrue e
     found-settles (some start N) e = seated-settles N (seat (columns P) N start) e
 
   module _ (B : Buffers) (R : List (List ℤ)) where
     checked-settles : (c : Check) (d : Done) → (isVerdict (d .answer) ≡ true → Settles R d) → isVerdict (onCheck c B d .answer) ≡ true
         → Settles R (onCheck c B d)
     checked-settles Passed d s e = s e
-    checked-settles (Failed why) d s e = no-verdict e
+    checked-settles (Failed why) d s e = untrue e
 
     limited-settles : (t : Bool) (d : Done) → (isVerdict (d .answer) ≡ true → Settles R d) → isVerdict (cond t (overLimit B) d .answer) ≡ true
         → Settles R (cond t (overLimit B) d)
-    limited-settles true d s e = no-verdict e
+    limited-settles true d s e = untrue e
     limited-settles false d s e = s e
 
     standing-settles : (t : Bool) (d : Done) → (isVerdict (d .answer) ≡ true → Settles R d)
         → isVerdict (cond t d (refused Standing (B .tableau) B) .answer) ≡ true → Settles R (cond t d (refused Standing (B .tableau) B))
     standing-settles true d s e = s e
-    standing-settles false d s e = no-verdict e
+    standing-settles false d s e = untrue e
 
   pub assign-no-list-twice : (B : Buffers) → NoListTwice P (assignRun P B) (assign P B)
   unfolding assign assignRun

@@ -15,14 +15,15 @@
 -- Assumes nothing.
 use mathlib.Core.Path.{_≡_, refl, sym, ap, _∙_}
 use mathlib.Core.Bool.{true}
-use mathlib.Core.List.{List, [], _∷_, _++_, map}
-use Prim.Native.Nat.{ℕ, zero, suc, _+_, _-_, _*_, _≤_}
+use mathlib.Core.List.{List, [], _++_, map}
+use Prim.Native.Nat.{ℕ, _+_, _-_, _*_, _≤_}
 use native.Mathlib.Nat.{mul-le-mul}
 use native.Mathlib.Omega.{arith}
 use borrow.Author.Tests.{eq-eqb}
 use lib.IntN.{ℤ, pos}
 use lib.ListN.{length, take, replicate, length-append, length-map}
 use lib.Seq.{take-at}
+use Rattle.whole.proofs.Lists.{take-replicate}
 use Rattle.whole.specs.Lists.{zeros}
 use Rattle.whole.proofs.Never.{never}
 use Rattle.problem.specs.Checks.{Posed}
@@ -53,11 +54,6 @@ pub few-tableau : (n m : ℕ) → n ≤ deckColumns → m ≤ deckRows → n * (
 few-tableau n m h k = let s : m + n ≤ deckRows + deckColumns = omega arith in mul-le-mul h s
 
 -- ---- parts
-take-replicate : {A : Type 0} (k n : ℕ) (a : A) → k ≤ n → take k (replicate n a) ≡ replicate k a
-take-replicate zero n a h = refl
-take-replicate (suc k) zero a h = absurd (omega arith)
-take-replicate (suc k) (suc n) a h = ap (λ (r : List _). a ∷ r) (take-replicate k n a (omega arith))
-
 take-blank : (k n : ℕ) (t : List ℤ) → t ≡ blank n → k ≤ n → take k t ≡ zeros k
 unfolding blank
 take-blank k n t e h = ap (take k) e ∙ take-replicate k n (pos 0) h

@@ -1,4 +1,5 @@
 -- Laws of lists of whole numbers.
+--   take-replicate                        the first of a number repeated
 --   take-zeros, drop-zeros, entry-zeros   the first of n zeros, those behind them, and each
 --   set-behind                            a number stored in the second of two lists end to end
 -- Assumes nothing.
@@ -8,13 +9,16 @@ use Prim.Native.Nat.{ℕ, zero, suc, _+_, _-_, _≤_}
 use native.Mathlib.Nat.{zero-add}
 use native.Mathlib.Omega.{arith}
 use lib.IntN.{ℤ, pos}
-use lib.ListN.{length, take, drop, set}
+use lib.ListN.{length, take, drop, set, replicate}
 use Rattle.whole.specs.Lists.{entry, zeros}
 
+pub take-replicate : {A : Type 0} (k n : ℕ) (a : A) → k ≤ n → take k (replicate n a) ≡ replicate k a
+take-replicate zero n a h = refl
+take-replicate (suc k) zero a h = absurd (omega arith)
+take-replicate (suc k) (suc n) a h = ap (λ (r : List _). a ∷ r) (take-replicate k n a (omega arith))
+
 pub take-zeros : (k n : ℕ) → k ≤ n → take k (zeros n) ≡ zeros k
-take-zeros zero n h = refl
-take-zeros (suc k) zero h = absurd (omega arith)
-take-zeros (suc k) (suc n) h = ap (λ (l : List ℤ). pos 0 ∷ l) (take-zeros k n (omega arith))
+take-zeros k n h = take-replicate k n (pos 0) h
 
 pub drop-zeros : (k n : ℕ) → drop k (zeros n) ≡ zeros (n - k)
 drop-zeros zero n = ap zeros {x = n} {y = n - 0} (omega arith)
