@@ -199,7 +199,7 @@ use Rattle.settling.specs.Measures.{fraction, below}
 use Rattle.engine.specs.Assign.{Buffers, Done, columns, assign, continue}
 use Rattle.runs.specs.Sorted.{sorted}
 use Rattle.runs.specs.Runs.{distances, ratios}
-use Rattle.runs.specs.Calls.{assignRun, continueRun}
+use Rattle.runs.specs.CallRuns.{assignRun, continueRun}
 use Rattle.solve.specs.Program.{printed}
 """ % ", ".join(REFUSALS)
 
