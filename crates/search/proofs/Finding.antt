@@ -5,7 +5,7 @@
 --   hold-..               for the loop that adds it, from the first place on
 --   Filled B b n S H      the sets have the first n vectors of the view B of b
 --   fill-..               for the loop over the vectors
---   blank                 a list of empty sets, as it is made
+--   cleared                 a list of empty sets, as it is made
 -- Assumes nothing.
 use mathlib.Core.Path.{_≡_, refl, sym, _∙_, ap, ap₂, subst}
 use mathlib.Core.Logic.{⊎-elim}
@@ -234,5 +234,5 @@ alike x zero j = refl
 alike x (suc n) zero = refl
 alike x (suc n) (suc j) = alike x n j
 
-pub blank : Blank (replicate maxColumns 0)
-blank = record { long = refl; none = alike 0 maxColumns }
+pub cleared : Blank (replicate maxColumns 0)
+cleared = record { long = refl; none = alike 0 maxColumns }

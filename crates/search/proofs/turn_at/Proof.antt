@@ -3,7 +3,7 @@ use mathlib.Core.Path.{refl, sym, _∙_}
 use native.Mathlib.Omega.{arith}
 use borrow.Author.Needs.{needs}
 use lib.ListN.{length-take}
-use Rattle.search.proofs.Finding.{blank}
+use Rattle.search.proofs.Finding.{cleared}
 use Rattle.search.proofs.Turning.{arranged-none, ready-turnable, ranked-part, ranked-setup, turned}
 use Rattle.search.proofs.turn_at.Statement.{statement}
 use Rattle.search.proofs.turn_at.Tie as tie
@@ -15,7 +15,7 @@ slice-aggregate-find-sets-2 : tie.Need-slice-aggregate-find-sets-2
 slice-aggregate-find-sets-2 c = search needs
 
 find-sets-requires : tie.Need-find-sets-requires
-find-sets-requires c κs = let s = c .before .before in (s .pre .basis, s .pre .few, s .pre .few-vectors, refl, blank)
+find-sets-requires c κs = let s = c .before .before in (s .pre .basis, s .pre .few, s .pre .few-vectors, refl, cleared)
 
 unranked-requires : tie.Need-unranked-requires
 unranked-requires c κs = search needs

@@ -20,7 +20,7 @@ use Rattle.search.specs.Kept.{sizeWidth}
 use Rattle.search.specs.Notes.{notesLong}
 use Rattle.search.specs.Sets.{Indexed}
 use Rattle.search.specs.Turning.{Arranged}
-use Rattle.search.proofs.Finding.{blank}
+use Rattle.search.proofs.Finding.{cleared}
 use Rattle.search.proofs.Turning.{arranged-none, arranged-next, ready-turnable, ranked-part, ranked-setup, turned}
 use Rattle.search.proofs.settle.settle.Statement.{statement}
 use Rattle.search.proofs.settle.settle.Tie as tie
@@ -72,7 +72,7 @@ slice-aggregate-find-sets-2 : tie.Need-slice-aggregate-find-sets-2 Inv-loop μ-l
 slice-aggregate-find-sets-2 c = search needs
 
 find-sets-requires : tie.Need-find-sets-requires Inv-loop μ-loop
-find-sets-requires c κs = let s = c .before .before in (s .pre .basis, s .pre .few, s .pre .few-vectors, refl, blank)
+find-sets-requires c κs = let s = c .before .before in (s .pre .basis, s .pre .few, s .pre .few-vectors, refl, cleared)
 
 unranked-requires : tie.Need-unranked-requires Inv-loop μ-loop
 unranked-requires c κs = search needs
