@@ -31,14 +31,16 @@ column c =
 -- the vector that is met
 module _ (c : tie.After-first Inv-loop μ-loop) where
   inside :
-      let a = c .before .before .before .before .before .before .before .before .args in
+      let start = c .before .before .before .before .before .before .before .before in
+      let a = start .args in
       c .first .result < a .here .search .view .vectors
   inside = rw (c .first .ensures) (walk-first (c .before .before .loop .inv .1) (c .before .loop-test .taken))
 
 -- and after it
 module _ (c : tie.Joined1 Inv-loop μ-loop) where
   done :
-      let a = c .before .before .before .before .before .before .before .before .before .before .before .args in
+      let start = c .before .before .before .before .before .before .before .before .before .before .before in
+      let a = start .args in
       let l = c .before .before .before .before .before .loop in
       let s = c .before .before .before .first .result in
       NoWorse (a .here .search) (a .columns .now) (a .values .now) (a .basis .now) (a .order .now) (l .best) (c .if1 .best)

@@ -91,7 +91,8 @@ pair-fits-requires c κs =
 -- the test of all columns says whether it improves the first one that it changes
 module _ (c : tie.After-pair-fits) where
   tried :
-      let a = c .before .before .before .before .before .before .before .before .before .before .before .before .args in
+      let start = c .before .before .before .before .before .before .before .before .before .before .before .before in
+      let a = start .args in
       let i = getD (a .order .now) (c .before .before .before .before .before .first-changed .result) 0 in
       better (a .here .search) (a .columns .now) (a .values .now) (a .basis .now) (a .p .o) i ≡ c .pair-fits .result
   tried =

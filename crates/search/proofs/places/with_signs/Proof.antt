@@ -66,7 +66,8 @@ loop-less c = omega arith
 -- after the sign y
 module _ (c : tie.Joined1 Inv-loop μ-loop) where
   done :
-      let a = c .before .before .before .before .before .before .before .args in
+      let start = c .before .before .before .before .before .before .before in
+      let a = start .args in
       let l = c .before .before .before .loop in
       NoWorse (a .here .search) (a .columns .now) (a .values .now) (a .basis .now) (a .order .now) (l .best) (c .if1 .best)
       × Dominated (a .here .search) (a .columns .now) (a .values .now) (a .basis .now) (a .order .now) (c .if1 .best)
