@@ -12,7 +12,7 @@ import sys
 ROOT = os.path.dirname(os.path.dirname(os.path.abspath(__file__)))
 BENCH = os.path.join(ROOT, "bench")
 TARGET = os.path.join(ROOT, "target", "bench")
-ARCHIVE = os.path.join(ROOT, "target", "staticlib", "liblink.a")
+ARCHIVE = os.path.join(ROOT, "target", "staticlib", "libkoralimbu.a")
 ENGINES = os.path.join(TARGET, "cargo", "release", "libengines.a")
 PROGRAM = os.path.join(TARGET, "timing")
 
@@ -54,11 +54,11 @@ def build_archive():
     """The proved engine. What is proved already is not proved again."""
     if shutil.which("rt"):
         say("proving and compiling the engine (minutes where nothing was proved before)")
-        run(["rt", "staticlib", "link"])
+        run(["rt", "staticlib", "koralimbu"])
     elif os.path.exists(ARCHIVE):
         say("no rt: the archive is taken as it lies in target/staticlib")
     else:
-        sys.exit("no rt, and no target/staticlib/liblink.a")
+        sys.exit("no rt, and no target/staticlib/libkoralimbu.a")
 
 
 def build_engines():

@@ -17,7 +17,7 @@ import subprocess
 import sys
 
 ROOT = os.path.dirname(os.path.dirname(os.path.abspath(__file__)))
-ARCHIVE = os.path.join("target", "staticlib", "liblink.a")
+ARCHIVE = os.path.join("target", "staticlib", "libkoralimbu.a")
 BUILT = os.path.join("target", "bindings")
 RUST = os.path.join("bindings", "rust")
 STRICT = ["-Wall", "-Wextra", "-Wpedantic", "-Werror", "-Iinclude"]
@@ -112,9 +112,9 @@ def test_rust(cargo):
 
 def main():
     # The gate builds the library once and says so.
-    done = None if os.environ.get("LIBRARY_BUILT") else run(["rt", "staticlib", "link"])
+    done = None if os.environ.get("LIBRARY_BUILT") else run(["rt", "staticlib", "koralimbu"])
     if done and done.returncode != 0:
-        sys.exit("%s\nrt staticlib link failed" % (done.stdout + done.stderr).decode(errors="replace")[-4000:])
+        sys.exit("%s\nrt staticlib koralimbu failed" % (done.stdout + done.stderr).decode(errors="replace")[-4000:])
     os.makedirs(os.path.join(ROOT, BUILT), exist_ok=True)
     compiler = first_of("cc", "gcc", "clang")
     # Rust links with the C compiler.

@@ -1,4 +1,4 @@
-/* Koralimbu: deck texts, whole assignments and Continue on lent buffers. The functions lie in liblink.a (`rt staticlib link`), which is proved.
+/* Koralimbu: deck texts, whole assignments and Continue on lent buffers. The functions lie in libkoralimbu.a (`rt staticlib koralimbu`), which is proved.
  *
  * Buffers. Each is a pointer and then its count of numbers. A pointer is not null, even with a count of 0, and a buffer that is
  * written overlaps no other.

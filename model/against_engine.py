@@ -2,7 +2,7 @@
 
     python3 model/against_engine.py [COUNT SEED RUNS]
 
-Builds the crate link as a static library, links that into a shared object below
+Builds the crate koralimbu as a static library, links that into a shared object below
 target/, and calls koralimbu_assign and koralimbu_continue on the problems of
 generate.py, valid and damaged. The returned number, the report and every buffer
 afterwards must be the model's, the problem's buffers and the numbers on both

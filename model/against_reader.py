@@ -2,7 +2,7 @@
 
     python3 model/against_reader.py [COUNT SEED]
 
-Builds the crate link as against_engine.py does, and calls koralimbu_read on document
+Builds the crate koralimbu as against_engine.py does, and calls koralimbu_read on document
 01's deck cases, the sample decks, the fullest deck and the longest texts; on buffers
 and sizes that are empty or one number off; and on COUNT texts of generate.py, as laid
 out, damaged and binary, with some buffers of a wrong length. Every buffer holds

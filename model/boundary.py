@@ -1,6 +1,6 @@
 """The proved library as C calls it: what the comparisons with the plain model share.
 
-To import: load() proves, builds and loads the crate link, declare() types one of its
+To import: load() proves, builds and loads the crate koralimbu, declare() types one of its
 functions, Buffer is a list of numbers as C holds it, call() makes a call and tells
 what every buffer then holds, Tally counts the calls that agree with the model.
 """
@@ -12,7 +12,7 @@ import subprocess
 import sys
 
 ROOT = os.path.dirname(os.path.dirname(os.path.abspath(__file__)))
-ARCHIVE = os.path.join(ROOT, "target", "staticlib", "liblink.a")
+ARCHIVE = os.path.join(ROOT, "target", "staticlib", "libkoralimbu.a")
 SHARED = os.path.join(ROOT, "target", "against", "libkoralimbu.so")
 
 MOST_SHOWN = 5
@@ -40,7 +40,7 @@ def load():
         return None
     # The gate builds the library once and says so.
     if not os.environ.get("LIBRARY_BUILT"):
-        run("rt", "staticlib", "link")
+        run("rt", "staticlib", "koralimbu")
     os.makedirs(os.path.dirname(SHARED), exist_ok=True)
     run(compiler, "-shared", "-o", SHARED, "-Wl,--whole-archive", ARCHIVE,
         "-Wl,--no-whole-archive")

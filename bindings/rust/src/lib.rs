@@ -1,6 +1,6 @@
 //! How many mesh edges each curve of a model carries, so that neighbouring faces meet.
 //!
-//! The answers are those of the proved engine in `liblink.a`; this package only lends it buffers. The usual call:
+//! The answers are those of the proved engine in `libkoralimbu.a`; this package only lends it buffers. The usual call:
 //!
 //! ```
 //! let solved = koralimbu::solve_text("1\n3 5 0\n0\n", 10_000)?;

@@ -1,12 +1,12 @@
--- `link::tell` meets its contract: the three numbers are stored in their order. Assumes nothing.
+-- `koralimbu::tell` meets its contract: the three numbers are stored in their order. Assumes nothing.
 use mathlib.Core.Path.{_∙_, ap₂}
 use mathlib.Core.List.{[], _∷_}
 use Prim.Native.Nat.{ℕ}
 use Rattle.problem.specs.declared.Counts.{Counts}
-use Rattle.link.proofs.Telling.{stored}
+use Rattle.koralimbu.proofs.Telling.{stored}
 use borrow.Author.Needs.{needs}
-use Rattle.link.proofs.tell.Statement.{statement}
-use Rattle.link.proofs.tell.Tie as tie
+use Rattle.koralimbu.proofs.tell.Statement.{statement}
+use Rattle.koralimbu.proofs.tell.Tie as tie
 
 verdict-number-requires : tie.Need-verdict-number-requires
 verdict-number-requires c κs = search needs

@@ -1,11 +1,11 @@
--- `link::koralimbu_continue` meets its contract: the report's length decides, and the rest is Continue. Assumes nothing.
+-- `koralimbu::koralimbu_assign` meets its contract: the report's length decides, and the rest is a whole assignment. Assumes nothing.
 use Rattle.problem.specs.Checks.{Posed}
-use Rattle.engine.specs.Assign.{Buffers, posedBy, buffers, continue}
-use Rattle.link.specs.Calls.{problemOf}
-use Rattle.link.proofs.Telling.{is-told, is-untold}
+use Rattle.engine.specs.Assign.{Buffers, posedBy, buffers, assign}
+use Rattle.koralimbu.specs.Calls.{problemOf}
+use Rattle.koralimbu.proofs.Telling.{is-told, is-untold}
 use borrow.Author.Needs.{needs}
-use Rattle.link.proofs.koralimbu_continue.Statement.{statement}
-use Rattle.link.proofs.koralimbu_continue.Tie as tie
+use Rattle.koralimbu.proofs.koralimbu_assign.Statement.{statement}
+use Rattle.koralimbu.proofs.koralimbu_assign.Tie as tie
 
 module _ (a : tie.Start) where
   abbrev P : Posed
@@ -21,10 +21,10 @@ number-requires c κs = search needs
 returns : tie.Need-returns
 returns c =
     let a = c .before .before .before .before in
-    is-untold continue (P a) (B a) (a .args .report .now) _ (c .before .if1 .taken) (c .number .ensures)
+    is-untold assign (P a) (B a) (a .args .report .now) _ (c .before .if1 .taken) (c .number .ensures)
 
-continue-from-requires : tie.Need-continue-from-requires
-continue-from-requires c κs = search needs
+assign-requires : tie.Need-assign-requires
+assign-requires c κs = search needs
 
 tell-requires : tie.Need-tell-requires
 tell-requires c κs = search needs
@@ -48,21 +48,21 @@ returns-2 : tie.Need-returns-2
 returns-2 c =
     let after-tell = c .before .before .before in
     let after-tableau = after-tell .before .before .before .before .before in
-    let after-continue-from = after-tableau .before in
-    let else1 = after-continue-from .before .before .before .before in
+    let after-assign = after-tableau .before in
+    let else1 = after-assign .before .before .before .before in
     let start = else1 .before .before .before in
     let a = start in
-    let e = after-continue-from .continue-from in
-    is-told continue (P a) (B a) (a .args .report .now) (e .result) _ _ _ _ _ (else1 .if1 .left)
+    let e = after-assign .assign in
+    is-told assign (P a) (B a) (a .args .report .now) (e .result) _ _ _ _ _ (else1 .if1 .left)
     (e .ensures) (after-tell .tell .ensures) (c .number2 .ensures)
 
-pub koralimbu-continue-spec : {M : Type 1} → statement M
-koralimbu-continue-spec =
+pub koralimbu-assign-spec : {M : Type 1} → statement M
+koralimbu-assign-spec =
     tie.close
     (tie.spec
     number-requires
     returns
-    continue-from-requires
+    assign-requires
     tell-requires
     number-requires-2
     same-length

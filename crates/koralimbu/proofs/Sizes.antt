@@ -12,8 +12,8 @@ use Rattle.problem.specs.Answers.{refusalNumber}
 use Rattle.problem.specs.declared.Refusal.the-variants.{Length}
 use Rattle.deck.specs.Reader.{DeckBuffers, read}
 use Rattle.deck.specs.declared.Reading.{Reading}
-use Rattle.link.specs.Reads.{readingNumber, sizesOf, sizesLength, readReturned, readTold, readCalled}
-use Rattle.link.proofs.ReadLaws.{read-called-told, read-called-untold}
+use Rattle.koralimbu.specs.Reads.{readingNumber, sizesOf, sizesLength, readReturned, readTold, readCalled}
+use Rattle.koralimbu.proofs.ReadLaws.{read-called-told, read-called-untold}
 
 pub stored : (z : List ℕ) (a b : ℕ) → length z ≡ sizesLength → set (set z 0 a) 1 b ≡ a ∷ b ∷ []
 stored [] a b e = absurd (omega arith)

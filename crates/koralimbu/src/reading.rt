@@ -2,7 +2,7 @@
 ghost use mathlib.Core.Path.{_≡_};
 ghost use lib.ListN.{length};
 ghost use Rattle.deck.specs.Reader.{deckBuffers};
-ghost use Rattle.link.specs.Reads.{readingNumber, sizesOf, sizesLength, readReturned, readCalled};
+ghost use Rattle.koralimbu.specs.Reads.{readingNumber, sizesOf, sizesLength, readReturned, readCalled};
 use deck::Reading;
 use problem::Refusal;
 

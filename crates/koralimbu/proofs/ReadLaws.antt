@@ -7,7 +7,7 @@ use Prim.Native.Nat.{ℕ}
 use lib.ListN.{length}
 use borrow.Author.Tests.{eq-eqb, ne-eqb}
 use Rattle.deck.specs.Reader.{DeckBuffers, read}
-use Rattle.link.specs.Reads.{readCalled, readTold, readUntold, sizesLength}
+use Rattle.koralimbu.specs.Reads.{readCalled, readTold, readUntold, sizesLength}
 
 pub read-called-told : (s : List ℕ) (B : DeckBuffers) (z : List ℕ) → length z ≡ sizesLength → readCalled s B z ≡ readTold (read s B)
 unfolding readCalled

@@ -8,7 +8,7 @@ use lib.ListN.{length}
 use borrow.Author.Tests.{eq-eqb, ne-eqb}
 use Rattle.problem.specs.Checks.{Posed}
 use Rattle.engine.specs.Assign.{Buffers, Done}
-use Rattle.link.specs.Calls.{called, reportLength, told, untold}
+use Rattle.koralimbu.specs.Calls.{called, reportLength, told, untold}
 
 module _ (f : Posed → Buffers → Done) (P : Posed) (B : Buffers) (r : List ℕ) where
   pub called-told : length r ≡ reportLength → called f P B r ≡ told (f P B)

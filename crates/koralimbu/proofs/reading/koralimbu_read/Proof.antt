@@ -1,9 +1,9 @@
--- `link::reading::koralimbu_read` meets its contract: the length of the sizes decides, and the rest is the reader. Assumes nothing.
+-- `koralimbu::reading::koralimbu_read` meets its contract: the length of the sizes decides, and the rest is the reader. Assumes nothing.
 use Rattle.deck.specs.Reader.{DeckBuffers, deckBuffers}
-use Rattle.link.proofs.Sizes.{is-read-told, is-read-untold}
+use Rattle.koralimbu.proofs.Sizes.{is-read-told, is-read-untold}
 use borrow.Author.Needs.{needs}
-use Rattle.link.proofs.reading.koralimbu_read.Statement.{statement}
-use Rattle.link.proofs.reading.koralimbu_read.Tie as tie
+use Rattle.koralimbu.proofs.reading.koralimbu_read.Statement.{statement}
+use Rattle.koralimbu.proofs.reading.koralimbu_read.Tie as tie
 
 module _ (a : tie.Start) where
   abbrev B : DeckBuffers

@@ -14,8 +14,8 @@ use Rattle.problem.specs.Checks.{Posed}
 use Rattle.problem.specs.declared.Refusal.the-variants.{Length}
 use Rattle.problem.specs.declared.Answer.{Answer}
 use Rattle.engine.specs.Assign.{Buffers, buffers, Done, done}
-use Rattle.link.specs.Calls.{reportOf, reportLength, returned, told, called}
-use Rattle.link.proofs.CallLaws.{called-told, called-untold}
+use Rattle.koralimbu.specs.Calls.{reportOf, reportLength, returned, told, called}
+use Rattle.koralimbu.proofs.CallLaws.{called-told, called-untold}
 
 pub stored : (r : List ℕ) (a b c : ℕ) → length r ≡ reportLength → set (set (set r 0 a) 1 b) 2 c ≡ a ∷ b ∷ c ∷ []
 stored [] a b c e = absurd (omega arith)

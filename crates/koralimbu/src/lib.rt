@@ -4,7 +4,7 @@ mod reading;
 ghost use mathlib.Core.Path.{_≡_};
 ghost use lib.ListN.{length};
 ghost use Rattle.engine.specs.Assign.{posedBy, buffers, assign, continue};
-ghost use Rattle.link.specs.Calls.{problemOf, verdictNumber, reportOf, reportLength, returned, called};
+ghost use Rattle.koralimbu.specs.Calls.{problemOf, verdictNumber, reportOf, reportLength, returned, called};
 use problem::Answer;
 use problem::Problem;
 use problem::Refusal;

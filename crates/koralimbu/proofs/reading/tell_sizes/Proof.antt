@@ -1,10 +1,10 @@
--- `link::reading::tell_sizes` meets its contract: the two numbers are stored in their order. Assumes nothing.
+-- `koralimbu::reading::tell_sizes` meets its contract: the two numbers are stored in their order. Assumes nothing.
 use mathlib.Core.Path.{sym, _∙_, ap}
-use Rattle.link.specs.Reads.{sizesOf}
-use Rattle.link.proofs.Sizes.{stored}
+use Rattle.koralimbu.specs.Reads.{sizesOf}
+use Rattle.koralimbu.proofs.Sizes.{stored}
 use borrow.Author.Needs.{needs}
-use Rattle.link.proofs.reading.tell_sizes.Statement.{statement}
-use Rattle.link.proofs.reading.tell_sizes.Tie as tie
+use Rattle.koralimbu.proofs.reading.tell_sizes.Statement.{statement}
+use Rattle.koralimbu.proofs.reading.tell_sizes.Tie as tie
 
 enum-known-reading : tie.Need-enum-known-reading
 enum-known-reading c = search needs
