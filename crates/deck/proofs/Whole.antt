@@ -89,6 +89,7 @@ pub record RowsFound (n : ℕ) (k₀ : List ℤ) (o : Outcome (List Line)) (c : 
   pub read : o ≡ ok ls (c .at)
   pub columns : c .columns ≡ n + length (slackColumns ls)
   pub rows : c .rows ≡ length ls
+  pub intervals : c .intervals ≡ n
   pub columns-is : k ≡ overwritten k₀ (n * columnWidth) (cells (slackColumns ls))
   pub rights-is : b ≡ padded deckRows (map rightOf ls)
   pub table-is : t ≡ padded coefficientCount (coefficientRows deckColumns n ls)
@@ -102,6 +103,7 @@ module _ (n : ℕ) (k₀ : List ℤ) (k b t : List ℤ) where
         read = ap (λ (x : Cursor). ok ls (x .at)) (sym d);
         columns = ap (λ (x : Cursor). x .columns) d;
         rows = ap (λ (x : Cursor). x .rows) d;
+        intervals = ap (λ (x : Cursor). x .intervals) d;
         columns-is = ap (λ (x : RowsDone). x .columns) h;
         rights-is = ap (λ (x : RowsDone). x .rights) h;
         table-is = ap (λ (x : RowsDone). x .table) h;
@@ -187,6 +189,7 @@ module _ (s : List ℕ) (p c : Cursor) (k k' b t : List ℤ) (i : IntervalsFound
         read = sections ∙ closed-is (record { intervals = i .is; lines = w .ls }) (c .at) (nextAt s (c .at)) h;
         columns = omega (arith, w .columns, length-append (i .is) ys);
         rows = w .rows;
+        intervals = w .intervals ∙ i .intervals;
         few = omega (arith, w .columns);
         few-rows = omega (arith, w .rows, fits-padded deckRows b (map rightOf (w .ls)) (w .rights-is) hb, length-map (w .ls) rightOf);
         columns-is =
@@ -208,7 +211,7 @@ module _ (s : List ℕ) (B : DeckBuffers) where
   unfolding read readDeck
   read-long h l = rw (h, lt-ltb maxText (length s) l)
 
-  pub read-is : (d : Deck) (at : ℕ) → lengthsFit B ≡ true → length s ≤ maxText → deck s ≡ ok d at → read s B ≡ accepted (posed 0 d)
+  pub read-is : (d : Deck) (at : ℕ) → lengthsFit B ≡ true → length s ≤ maxText → deck s ≡ ok d at → read s B ≡ accepted d
   unfolding read readDeck
   read-is d at h l e = rw (h, le-ltb maxText (length s) l) (rw e)
 
@@ -261,7 +264,7 @@ table-is o o₁ o₂ t n m c ls a h k q e f x =
 pub accepting : (s : List ℕ) (B : DeckBuffers) (c : Cursor) (k b t o₁ c' b' l' u' g' : List ℤ) → lengthsFit B ≡ true → length s ≤ maxText
     → DeckStored (deck s) c k b t → o₁ ≡ zeros (length (B .coefficients)) → c' ≡ overwritten o₁ 0 (compacted (c .columns) (c .rows) 0 t) → b' ≡ b
     → l' ≡ picked 0 deckColumns k → u' ≡ picked 1 deckColumns k → g' ≡ picked 2 deckColumns k
-    → readDone (Read (c .columns) (c .rows)) (deckBuffers c' b' l' u' g') ≡ read s B
+    → readDone (Read (c .columns) (c .rows) (c .intervals)) (deckBuffers c' b' l' u' g') ≡ read s B
 unfolding posed
 accepting s B c k b t o₁ c' b' l' u' g' f h st e₁ e₂ eb el eu eg =
     let z = sizes B f in
@@ -276,4 +279,5 @@ accepting s B c k b t o₁ c' b' l' u' g' f h st e₁ e₂ eb el eu eg =
     let pl = column-is 0 lowerOf (λ i r. refl) k l' (columnsOf d) n (st .columns-is) el in
     let pu = column-is 1 upperOf (λ i r. refl) k u' (columnsOf d) n (st .columns-is) eu in
     let pg = column-is 2 goalOf (λ i r. refl) k g' (columnsOf d) n (st .columns-is) eg in
-    (λ i. readDone (Read (st .columns i) (st .rows i)) (deckBuffers (pc i) (pb i) (pl i) (pu i) (pg i))) ∙ sym (read-is s B d (c .at) f h (st .read))
+    (λ i. readDone (Read (st .columns i) (st .rows i) (st .intervals i)) (deckBuffers (pc i) (pb i) (pl i) (pu i) (pg i))) ∙
+    sym (read-is s B d (c .at) f h (st .read))

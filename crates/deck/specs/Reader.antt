@@ -1,7 +1,7 @@
 -- Document 01, "Continue, text, listing": the reader. "The reader fills buffers of the largest size, 48 numbers each and 2,304 coefficients, n to a
 -- row without gaps; the rest becomes 0. A wrong length is refusal 2, before the text is looked at; then a text over 32,768 bytes is 11."
 --   DeckBuffers    the lent buffers; `deckBuffers` makes one of five lists
---   Reading        what is returned: n and m, or the refusal (declared in src/)
+--   Reading        what is returned: n, m and the count of intervals, or the refusal (declared in src/)
 --   ReadDone       what is returned, and what the buffers then hold; `readDone` makes one of both. A refused text leaves them as they were
 --   largest ..     the lengths of the five buffers are those of the largest; lengthsFit, of the buffers themselves
 --   filled P       the buffers that hold the problem P
@@ -19,7 +19,7 @@ use Rattle.problem.specs.declared.Refusal.the-variants.{Length}
 use Rattle.sections.specs.Rules.{Outcome, ok, no}
 use Rattle.sections.specs.Sections.{deckColumns, deckRows, coefficientCount}
 use Rattle.sections.specs.StatedColumns.{padded}
-use Rattle.deck.specs.Posing.{Deck, readDeck, posed}
+use Rattle.deck.specs.Posing.{Deck, readDeck, columnsOf, posed}
 use Rattle.deck.specs.declared.Reading.{Reading}
 use Rattle.deck.specs.declared.Reading.the-variants.{Read, Refused}
 
@@ -61,11 +61,11 @@ abbrev pub turnedBack : Refusal → DeckBuffers → ReadDone
 turnedBack why B = readDone (Refused why) B
 
 -- the buffers hold no step limit, so that any serves here
-abbrev pub accepted : Posed → ReadDone
-accepted P = readDone (Read (P .problem .columns) (P .problem .rows)) (filled P)
+abbrev pub accepted : Deck → ReadDone
+accepted d = readDone (Read (length (columnsOf d)) (length (d .lines)) (length (d .intervals))) (filled (posed 0 d))
 
 abbrev pub onDeck : Outcome Deck → DeckBuffers → ReadDone
-onDeck (ok d at) B = accepted (posed 0 d)
+onDeck (ok d at) B = accepted d
 onDeck (no why) B = turnedBack why B
 
 unfoldable pub read : List ℕ → DeckBuffers → ReadDone

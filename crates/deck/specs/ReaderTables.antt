@@ -30,6 +30,7 @@ pub record DeckStored (o : Outcome Deck) (c : Cursor) (k b t : List ℤ) : Type 
   pub read : o ≡ ok deck (c .at)
   pub columns : c .columns ≡ length (columnsOf deck)
   pub rows : c .rows ≡ length (deck .lines)
+  pub intervals : c .intervals ≡ length (deck .intervals)
   pub few : c .columns ≤ deckColumns
   pub few-rows : c .rows ≤ deckRows
   pub columns-is : k ≡ padded columnCells (cells (columnsOf deck))

@@ -18,9 +18,9 @@ ghost use Rattle.deck.specs.Posing.{deck as deck·rule};
 ghost use Rattle.deck.specs.Reader.{deckBuffers, readDone, largest, read};
 ghost use Rattle.deck.specs.ReaderTables.{noneLeft, DeckRead};
 
-// What the reader returns: n and m, or why the text is turned back.
+// What the reader returns: n, m and how many of the n columns are intervals, or why the text is turned back.
 pub enum Reading {
-    Read(usize, usize),
+    Read(usize, usize, usize),
     Refused(Refusal),
 }
 
@@ -118,7 +118,7 @@ pub fn read_deck(
             copy(rights, &b);
             wipe(coefficients);
             tables::compact(&t, n, m, coefficients);
-            Reading::Read(n, m)
+            Reading::Read(n, m, c.intervals)
         }
         Section::Refused(why) => Reading::Refused(why),
     }

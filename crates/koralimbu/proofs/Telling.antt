@@ -1,5 +1,5 @@
 -- What the proofs of the calls share.
---   stored      three numbers stored in a list of three are that list
+--   stored      three numbers stored in a list of three are that list, a report or sizes
 --   is-told     what is returned and left after a whole assignment or a Continue, and the report of its answer
 --   is-untold   what is returned and left where the report has a wrong length and nothing was done
 -- Assumes nothing.

@@ -1,6 +1,6 @@
 -- The reader as C calls it: what it returns and what it leaves in each lent buffer.
 --   readingNumber r   0 for a text that is read, or the refusal's number
---   sizesOf r         the sizesLength numbers that tell of r: n and m; 0 and 0 with a refusal
+--   sizesOf r         the sizesLength numbers that tell of r: n, m, and how many of the n columns are intervals; 0s with a refusal
 --   ReadCalled        what the call returns, and what the buffers that it fills and the sizes then hold; `readReturned` makes one of the three
 --   readTold d        of a reader that has done d: the number, the five buffers of a problem, and the sizes
 --   readUntold B z    where the sizes z have a wrong length: refusal 2, "nothing changed"
@@ -18,15 +18,15 @@ use Rattle.deck.specs.declared.Reading.{Reading}
 use Rattle.deck.specs.declared.Reading.the-variants.{Read, Refused}
 
 abbrev pub readingNumber : Reading → ℕ
-readingNumber (Read n m) = 0
+readingNumber (Read n m i) = 0
 readingNumber (Refused why) = refusalNumber why
 
 abbrev pub sizesLength : ℕ
-sizesLength = 2
+sizesLength = 3
 
 abbrev pub sizesOf : Reading → List ℕ
-sizesOf (Read n m) = n ∷ m ∷ []
-sizesOf (Refused why) = 0 ∷ 0 ∷ []
+sizesOf (Read n m i) = n ∷ m ∷ i ∷ []
+sizesOf (Refused why) = 0 ∷ 0 ∷ 0 ∷ []
 
 pub record ReadCalled : Type 0 where
   pub number : ℕ

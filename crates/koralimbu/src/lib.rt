@@ -1,5 +1,7 @@
-// The engine's calls for C: include/koralimbu.h; the reader's stands in reading.rt. They have no `requires`: what a caller can break is an answer.
+// The engine's calls for C: include/koralimbu.h. The reader's stands in reading.rt, the version in version.rt.
+// They have no `requires`: what a caller can break is an answer.
 mod reading;
+mod version;
 
 ghost use mathlib.Core.Path.{_≡_};
 ghost use lib.ListN.{length};

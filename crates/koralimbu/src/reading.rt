@@ -6,14 +6,14 @@ ghost use Rattle.koralimbu.specs.Reads.{readingNumber, sizesOf, sizesLen
 use deck::Reading;
 use problem::Refusal;
 
-// How many numbers tell the sizes of a text's problem: n and m.
-const SIZES: usize = 2;
+// How many numbers tell the sizes of a text's problem: n, m, and how many of the n columns are intervals.
+const SIZES: usize = 3;
 
 fn reading_number(reading: Reading) -> u32
     ensures { λ r. ⌜ r ≡ readingNumber reading ⌝ }
 {
     match reading {
-        Reading::Read(_, _) => 0,
+        Reading::Read(_, _, _) => 0,
         Reading::Refused(why) => why.number(),
     }
 }
@@ -23,13 +23,15 @@ fn tell_sizes(reading: Reading, sizes: &mut [usize])
     ensures { λ _. ⌜ now (sizes .exit) ≡ sizesOf reading ⌝ }
 {
     match reading {
-        Reading::Read(n, m) => {
+        Reading::Read(n, m, intervals) => {
             sizes[0] = n;
             sizes[1] = m;
+            sizes[2] = intervals;
         }
         Reading::Refused(_) => {
             sizes[0] = 0;
             sizes[1] = 0;
+            sizes[2] = 0;
         }
     }
 }

@@ -115,19 +115,19 @@ unfolding read
 read-fit s B f = rw f
 
 abbrev reason : Reading → Refusal
-reason (Read n m) = Size
+reason (Read n m i) = Size
 reason (TurnedBack why) = why
 
 abbrev isRead : Reading → ℕ
-isRead (Read n m) = 1
+isRead (Read n m i) = 1
 isRead (TurnedBack why) = 0
 
 abbrev columnsRead : Reading → ℕ
-columnsRead (Read n m) = n
+columnsRead (Read n m i) = n
 columnsRead (TurnedBack why) = 0
 
 abbrev rowsRead : Reading → ℕ
-rowsRead (Read n m) = m
+rowsRead (Read n m i) = m
 rowsRead (TurnedBack why) = 0
 
 pub refused-into : (o s : List ℕ) (B D : DeckBuffers) (why : Refusal) → lengthsFit B ≡ true → readDone (TurnedBack why) D ≡ read s B
@@ -153,15 +153,16 @@ pub record Taken (s : List ℕ) (n m : ℕ) (c b l u g : List ℤ) : Type 0 wher
   pub upper : u ≡ padded deckColumns (map upperOf (columnsOf deck))
   pub goals : g ≡ padded deckColumns (map goalOf (columnsOf deck))
 
-pub taken : (s : List ℕ) (B : DeckBuffers) (n m : ℕ) (c b l u g : List ℤ) → lengthsFit B ≡ true
-    → readDone (Read n m) (deckBuffers c b l u g) ≡ read s B
+pub taken : (s : List ℕ) (B : DeckBuffers) (n m i : ℕ) (c b l u g : List ℤ) → lengthsFit B ≡ true
+    → readDone (Read n m i) (deckBuffers c b l u g) ≡ read s B
     → Taken s n m c b l u g
 unfolding posed
-taken s B n m c b l u g f e = by (readDeck s) refl
+taken s B n m i c b l u g f e = by (readDeck s) refl
   where
     by : (x : Outcome Deck) → readDeck s ≡ x → Taken s n m c b l u g
     by (ok d ts) h =
-        let D : readDone (Read n m) (deckBuffers c b l u g) ≡ onDeck (ok d ts) B = e ∙ read-fit s B f ∙ ap (λ (x : Outcome Deck). onDeck x B) h in
+        let D : readDone (Read n m i) (deckBuffers c b l u g) ≡ onDeck (ok d ts) B =
+        e ∙ read-fit s B f ∙ ap (λ (x : Outcome Deck). onDeck x B) h in
         record {
           deck = d;
           rest = ts;

@@ -84,7 +84,7 @@ pub fn list_text(text: &[u8], out: &mut [u8]) -> Written
     );
     match reading {
         Reading::Refused(why) => list_refused(why, out),
-        Reading::Read(n, m) => {
+        Reading::Read(n, m, _) => {
             let p = Problem {
                 columns: n,
                 rows: m,
