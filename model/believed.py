@@ -13,7 +13,7 @@ import sys
 ROOT = os.path.dirname(os.path.dirname(os.path.abspath(__file__)))
 
 # The files of code whose public functions are the entry points.
-ENTRIES = ["engine/src/lib.rt", "deck/src/lib.rt", "solve/src/lib.rt", "koralimbu/src/lib.rt", "koralimbu/src/reading.rt"]
+ENTRIES = ["engine/src/lib.rt", "deck/src/lib.rt", "solve/src/lib.rt", "koralimbu/src/lib.rt", "koralimbu/src/reading.rt", "koralimbu/src/version.rt"]
 
 # The files of statements that docs/PROMISES.md cites, and in files of more than statements these.
 STATEMENTS = {

@@ -3,6 +3,7 @@ use libc::STDERR_FILENO;
 use libc::STDIN_FILENO;
 use libc::STDOUT_FILENO;
 use report::Written;
+use sections::Sizes;
 ghost use mathlib.Core.Path.{_≡_};
 ghost use Prim.Native.Nat.{_+_, _≤_};
 ghost use lib.ListN.{length};
@@ -10,6 +11,9 @@ ghost use Rattle.io.specs.Counts.{Counts};
 ghost use Rattle.report.specs.Listing.{listingDone};
 ghost use Rattle.report.specs.declared.Written.the-variants.{Bytes};
 ghost use Rattle.solve.specs.Program.{printInto, listingRoom};
+
+// One byte more than a text may have.
+const ROOM: usize = Sizes::TEXT + 1;
 
 // What came of standard input: how many bytes, and whether a read failed, so that they are not the whole text.
 struct Input {
@@ -81,7 +85,34 @@ fn tell_usage() {
     );
 }
 
-// Nothing is listed that was not read whole. A text one byte past the limit is as good as any longer one.
+// Whether a text stops within a word, as one does whose writer was stopped. It may be meant so, and is listed all the same.
+fn stops_short(text: &[u8]) -> bool {
+    let n = text.len();
+    if n == 0 {
+        return false;
+    }
+    let last = text[n - 1];
+    last != b' ' && last != b'\n'
+}
+
+// Nothing is listed that was not read whole; what is longer than a text may be is refused whatever follows.
+fn list_input() {
+    let mut text = [0u8; ROOM];
+    let input = read_text(&mut text);
+    if input.failed {
+        os::fail(b"listing: standard input");
+        return;
+    }
+    let n = input.count;
+    if n < ROOM && stops_short(&text[..n]) {
+        io::write_all(
+            STDERR_FILENO,
+            b"listing: the text does not end with a line end; was it cut?\n",
+        );
+    }
+    list(&text[..n]);
+}
+
 fn main() {
     if os::arg_count() > 1 {
         tell_usage();
@@ -90,12 +121,5 @@ fn main() {
     if libc::isatty(STDIN_FILENO) == 1 {
         tell_usage();
     }
-    let mut text = [0u8; 32769];
-    let input = read_text(&mut text);
-    if input.failed {
-        os::fail(b"listing: standard input");
-        return;
-    }
-    let n = input.count;
-    list(&text[..n]);
+    list_input();
 }
