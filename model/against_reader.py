@@ -24,7 +24,7 @@ from listing import blank_lent, problem_of, refusal_lines, verdict_lines
 from text import MAX_COEFFICIENTS, MAX_TEXT, Deck, read
 
 LENGTHS = {"coefficients": MAX_COEFFICIENTS, "rights": MAX_ROWS, "lower": MAX_COLUMNS,
-           "upper": MAX_COLUMNS, "goals": MAX_COLUMNS, "sizes": 2}
+           "upper": MAX_COLUMNS, "goals": MAX_COLUMNS, "sizes": 3}
 NUMBERS = {"text": ctypes.c_uint8, "sizes": ctypes.c_size_t}
 
 
@@ -51,10 +51,10 @@ def model_call(data, lists):
     deck = Deck()
     for name in lists:
         setattr(deck, name, list(lists[name]))
-    if len(deck.sizes) == 2:
+    if len(deck.sizes) == 3:
         outcome = read(data, deck)
         number = outcome if isinstance(outcome, int) else 0
-        deck.sizes = [deck.n, deck.m] if number == 0 else [0, 0]
+        deck.sizes = [deck.n, deck.m, deck.intervals] if number == 0 else [0, 0, 0]
     else:
         number = WRONG_LENGTH
     after = {name: getattr(deck, name) for name in lists}
@@ -68,7 +68,7 @@ def listing_by_calls(functions, after):
     if after["number"] != 0:
         return refusal_lines(after["number"])
     deck = Deck()
-    deck.n, deck.m = after["sizes"]
+    deck.n, deck.m, _ = after["sizes"]
     for name in ("coefficients", "rights", "lower", "upper", "goals"):
         setattr(deck, name, after[name])
     case = Case("assign", problem_of(deck), None)

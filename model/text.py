@@ -40,6 +40,8 @@ class Deck:
     def __init__(self):
         self.n = 0
         self.m = 0
+        # how many of the n columns are intervals; rows added the others
+        self.intervals = 0
         self.coefficients = [0] * MAX_COEFFICIENTS
         self.rights = [0] * MAX_ROWS
         self.lower = [0] * MAX_COLUMNS
@@ -176,6 +178,7 @@ def fill_deck(deck, columns, rows):
             blank.coefficients[i * n + row.y] = Y_COEFFICIENT[row.kind]
     deck.n = n
     deck.m = m
+    deck.intervals = n - sum(row.y is not None for row in rows)
     deck.coefficients[:] = blank.coefficients
     deck.rights[:] = blank.rights
     deck.lower[:] = blank.lower

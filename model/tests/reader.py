@@ -36,7 +36,7 @@ def reader_fills_the_buffers():
         buffer[:] = [5] * len(buffer)
     got = text.read(data, deck)
     check("the lent deck is filled", got is deck, True)
-    check("n and m", (deck.n, deck.m), (5, 5))
+    check("n, m and intervals", (deck.n, deck.m, deck.intervals), (5, 5, 2))
     rows = [[1, -1, 0, 0, 0], [0, 7, -1, 0, 0], [-1000, 0, 0, 1, 0], [1, 1, 0, 0, -2],
             [0, 0, 0, 0, 0]]
     check("coefficients, n to a row, the rest 0", deck.coefficients,
