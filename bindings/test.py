@@ -3,10 +3,10 @@
     python3 bindings/test.py
 
 Builds the static library; compiles the C example and runs it on every sample deck;
-compiles and links the header as C++; builds and tests the Rust package, offline, and
-runs its example on every sample deck. A listing must be the deck's, byte for byte.
-What a machine has no compiler for is told and left out. The last line is
-'N passed, M failed'.
+compiles and runs the C and C++ programs that try what the header says; builds, tests
+and documents the Rust package, offline, and runs its example on every sample deck. A
+listing must be the deck's, byte for byte. What a machine has no tool for is told in a
+line 'left out: ..'. The last line is 'N passed, M failed'.
 """
 
 import glob
@@ -20,30 +20,21 @@ ROOT = os.path.dirname(os.path.dirname(os.path.abspath(__file__)))
 ARCHIVE = os.path.join("target", "staticlib", "libkoralimbu.a")
 BUILT = os.path.join("target", "bindings")
 RUST = os.path.join("bindings", "rust")
-STRICT = ["-Wall", "-Wextra", "-Wpedantic", "-Werror", "-Iinclude"]
-
-# Linked, so that a declaration without C's linkage is found. A sizes of another count is refusal 2.
-CPLUSPLUS = """
-#include "koralimbu.h"
-
-int main() {
-    uint8_t text[1] = {0};
-    int64_t list[5] = {0, 0, 0, 0, 0};
-    size_t sizes[1] = {0};
-    uint32_t number = koralimbu_read(text, 0, list, 0, list + 1, 0, list + 2, 0, list + 3, 0, list + 4, 0, sizes, 0);
-    return number == 2 ? 0 : 1;
-}
-"""
+STRICT = ["-Wall", "-Wextra", "-Wpedantic", "-Wconversion", "-Wsign-conversion", "-Wshadow", "-Wundef", "-Werror", "-Iinclude"]
 
 passed = failed = 0
 
 
-def run(command, folder=".", data=None):
+def run(command, folder=".", **variables):
     """What a command printed, as bytes; its error output is only kept to be told."""
     # The library just built is tested, not one that the environment names.
     environment = {name: value for name, value in os.environ.items() if name != "KORALIMBU_LIB_DIR"}
-    return subprocess.run(command, cwd=os.path.join(ROOT, folder), env=environment, input=data,
+    return subprocess.run(command, cwd=os.path.join(ROOT, folder), env=dict(environment, **variables),
                           stdout=subprocess.PIPE, stderr=subprocess.PIPE)
+
+
+def left_out(what):
+    print("left out: " + what)
 
 
 def count(what, good, said=b""):
@@ -52,13 +43,25 @@ def count(what, good, said=b""):
         passed += 1
     else:
         failed += 1
-        print("%s failed\n%s" % (what, said.decode(errors="replace")[-3000:]))
+        print("\n".join([what + " failed"] + said.decode(errors="replace")[-3000:].splitlines()))
     return good
 
 
 def ran(what, done):
     """Counts a command by its exit status."""
     return count(what, done.returncode == 0, done.stdout + done.stderr)
+
+
+def add_counts(what, done, line):
+    """Adds up the counts of a program's tests: line finds them in what it printed. One that has none, or fails besides, has failed."""
+    global passed, failed
+    counts = re.findall(line, done.stdout, re.MULTILINE)
+    wrong = sum(int(bad) for _, bad in counts)
+    passed += sum(int(good) for good, _ in counts)
+    failed += wrong
+    if wrong or done.returncode != 0 or not counts:
+        print("%s: exit status %d\n%s" % (what, done.returncode, (done.stdout + done.stderr).decode(errors="replace")[-6000:]))
+        failed += 0 if wrong else 1
 
 
 def lists_every_deck(what, command, folder="."):
@@ -81,51 +84,65 @@ def first_of(*names):
     return None
 
 
+def compiled(command, source):
+    """The program of a source file, linked with the library; None where it does not compile."""
+    program = os.path.join(BUILT, os.path.splitext(os.path.basename(source))[0])
+    done = run(command + STRICT + ["-pthread", "-o", program, source, ARCHIVE])
+    return os.path.join(ROOT, program) if ran("compiling " + source, done) else None
+
+
+def counts_itself(program):
+    """Runs a program whose last line is 'N passed, M failed'."""
+    if program:
+        add_counts(os.path.basename(program), run([program]), rb"^(\d+) passed, (\d+) failed$")
+
+
 def test_c(compiler):
-    program = os.path.join(BUILT, "paving")
-    done = run([compiler, "-std=c99"] + STRICT + ["-o", program, "bindings/c/paving.c", ARCHIVE])
-    if ran("compiling the C example", done):
-        lists_every_deck("the C example", [os.path.join(ROOT, program)])
+    strict = [compiler, "-std=c99", "-Wstrict-prototypes"]
+    example = compiled(strict, "bindings/c/paving.c")
+    if example:
+        lists_every_deck("the C example", [example])
+    counts_itself(compiled(strict, "bindings/c/edges.c"))
 
 
 def test_cplusplus(compiler):
-    program = os.path.join(BUILT, "header")
-    done = run([compiler, "-std=c++11"] + STRICT + ["-o", program, "-x", "c++", "-", "-x", "none", ARCHIVE],
-               data=CPLUSPLUS.encode())
-    if ran("compiling the header as C++", done):
-        ran("calling from C++", run([os.path.join(ROOT, program)]))
+    counts_itself(compiled([compiler, "-std=c++11"], "bindings/c/vectors.cpp"))
 
 
 def test_rust(cargo):
-    global passed, failed
-    done = run([cargo, "test", "--offline", "--no-fail-fast"], RUST)
-    results = re.findall(rb"^test result: .* (\d+) passed; (\d+) failed;", done.stdout, re.MULTILINE)
-    wrong = sum(int(bad) for _, bad in results)
-    passed += sum(int(good) for good, _ in results)
-    failed += wrong
-    if done.returncode != 0 or not results:
-        print((done.stdout + done.stderr).decode(errors="replace")[-6000:])
-        # A package that does not build has no results.
-        failed += 0 if wrong else 1
+    add_counts("cargo test", run([cargo, "test", "--offline", "--no-fail-fast"], RUST),
+               rb"^test result: .* (\d+) passed; (\d+) failed;")
+    ran("cargo doc", run([cargo, "doc", "--offline", "--no-deps"], RUST, RUSTDOCFLAGS="-D warnings"))
     lists_every_deck("the Rust example", [cargo, "run", "--quiet", "--offline", "--example", "paving", "--"], RUST)
 
 
-def main():
+def library():
+    """Builds the library; whether there is one to test."""
     # The gate builds the library once and says so.
-    done = None if os.environ.get("LIBRARY_BUILT") else run(["rt", "staticlib", "koralimbu"])
-    if done and done.returncode != 0:
-        sys.exit("%s\nrt staticlib koralimbu failed" % (done.stdout + done.stderr).decode(errors="replace")[-4000:])
-    os.makedirs(os.path.join(ROOT, BUILT), exist_ok=True)
-    compiler = first_of("cc", "gcc", "clang")
-    # Rust links with the C compiler.
-    for test, tool, missing in [
-            (test_c, compiler, "no C compiler: the C example is left out"),
-            (test_cplusplus, first_of("c++", "g++", "clang++"), "no C++ compiler: the header is not tried as C++"),
-            (test_rust, compiler and first_of("cargo"), "no cargo or no C compiler: the Rust package is left out")]:
-        if tool:
-            test(tool)
-        else:
-            print(missing)
+    wanted = not os.environ.get("LIBRARY_BUILT")
+    if wanted and shutil.which("rt"):
+        done = run(["rt", "staticlib", "koralimbu"])
+        return done.returncode == 0 or ran("rt staticlib koralimbu", done)
+    if not os.path.exists(os.path.join(ROOT, ARCHIVE)):
+        return count("no rt and no %s: everything" % ARCHIVE if wanted else "no %s: everything" % ARCHIVE, False)
+    if wanted:
+        left_out("no rt: the library is not built, but taken as it lies in target/staticlib")
+    return True
+
+
+def main():
+    if library():
+        os.makedirs(os.path.join(ROOT, BUILT), exist_ok=True)
+        compiler = first_of("cc", "gcc", "clang")
+        # Rust links with the C compiler.
+        for test, tool, missing in [
+                (test_c, compiler, "no C compiler: the programs in C are not tried"),
+                (test_cplusplus, first_of("c++", "g++", "clang++"), "no C++ compiler: the header is not tried as C++"),
+                (test_rust, compiler and first_of("cargo"), "no cargo or no C compiler: the Rust package is not tried")]:
+            if tool:
+                test(tool)
+            else:
+                left_out(missing)
     print("%d passed, %d failed" % (passed, failed))
     return 1 if failed else 0
 

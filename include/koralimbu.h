@@ -1,44 +1,13 @@
-/* Koralimbu: deck texts, whole assignments and Continue on lent buffers. The functions lie in libkoralimbu.a (`rt staticlib koralimbu`), which is proved.
+/* Koralimbu: deck texts, whole assignments and Continue on lent buffers. The functions lie in libkoralimbu.a (`rt staticlib koralimbu`),
+ * which is proved.
  *
- * Buffers. Each is a pointer and then its count of numbers. A pointer is not null, even with a count of 0, and a buffer that is
- * written overlaps no other.
- * Those of koralimbu_assign and koralimbu_continue (koralimbu_read has its own account below):
+ * Buffers. Each is a pointer and then its count of numbers. A pointer may be null where its count is 0. A buffer that is written
+ * overlaps no other.
  *
- *                 count        holds
- *   coefficients  m * n        the rows, n to a row
- *   rights        m            what each row must add up to
- *   lower, upper  n            the bounds of each column
- *   goals         n            the goal of each column, in thousandths; 0 for none
- *   tableau       n * (m + n)  afterwards the form, m + n to a row
- *   values        n            afterwards the interval list; Continue starts from what it holds
- *   strides       n            afterwards the strides
- *   report        3            afterwards the verdict, the steps of the bounds part and those of the goals part
+ * Threads. The calls keep no state of their own: any number of them may run at the same time, in threads and in signal handlers, as long
+ * as no buffer that one of them writes is touched by another. Buffers that are only read may be shared.
  *
- * The first five are only read.
- *
- * What these two return, and what is then left. No call allocates, prints or ends the program.
- *
- *                                                              tableau    values, strides
- *    0  a verdict                                              the form   the values and strides
- *    1  n is not 1 to 48, or m is not 0 to 48                  as it was  as they were
- *    2  a count is not exactly what n and m need               as it was  as they were
- *    3  a coefficient is beyond 1,000, or a right side beyond  as it was  as they were
- *       1,000,000, of either sign
- *    4  a bound is beyond 1,000,000 of either sign, or a       as it was  as they were
- *       lower bound is above its upper bound
- *    5  a goal is not 0 to 1,000,000,000, or stands with a     as it was  as they were
- *       lower bound below 1
- *    6  the step limit is above 65,535                         as it was  as they were
- *    7  the elimination met a number beyond 2,147,483,647      all 0      as they were
- *    8  no whole numbers satisfy the rows                      the form   as they were
- *    9  seating met a value beyond 2,147,483,647               the form   as they were
- *   10  Continue: a value of the list is beyond                as it was  as they were
- *       2,147,483,647, or the list fails a row
- *
- * The first cause that holds is returned, in the order 1 to 6, then 10, then 7 and 8 as met, then 9.
- *
- * The report's verdict is KORALIMBU_FITTED, KORALIMBU_OUTSIDE or KORALIMBU_SPENT; with a refusal the report is 0, 0, 0. A report whose count
- * is not 3 is refused with 2 before anything else is looked at, and every buffer is left as it was, the report too.
+ * No call allocates, prints or ends the program. KORALIMBU_MOST_STACK bytes of stack are enough for any call.
  */
 #ifndef KORALIMBU_H
 #define KORALIMBU_H
@@ -50,11 +19,108 @@
 extern "C" {
 #endif
 
-/* Verdicts: all values in bounds and no move improves; some value out of bounds and no move improves; the step limit reached and some
- * move still improves. No list of values stands twice while one call settles; it may still take many steps, and the limit is for that. */
+/* The version, which rises with each change of a call or of the text; docs/CHANGES.md has the list. A header and an archive of different
+ * versions must not be used together: a program compares KORALIMBU_VERSION with koralimbu_version() once, at its start. */
+#define KORALIMBU_VERSION_MAJOR 0
+#define KORALIMBU_VERSION_MINOR 2
+#define KORALIMBU_VERSION_PATCH 0
+#define KORALIMBU_VERSION (KORALIMBU_VERSION_MAJOR * 1000000 + KORALIMBU_VERSION_MINOR * 1000 + KORALIMBU_VERSION_PATCH)
+
+/* The archive's version, as KORALIMBU_VERSION is the header's. */
+uint32_t koralimbu_version(void);
+
+/* What a call returns. The tables at the calls say what each number means there, and what is then left in the buffers. */
+#define KORALIMBU_ACCEPTED 0
+#define KORALIMBU_REFUSED_SIZE 1
+#define KORALIMBU_REFUSED_LENGTH 2
+#define KORALIMBU_REFUSED_COEFFICIENT 3
+#define KORALIMBU_REFUSED_BOUND 4
+#define KORALIMBU_REFUSED_GOAL 5
+#define KORALIMBU_REFUSED_LIMIT 6
+#define KORALIMBU_REFUSED_ELIMINATION 7
+#define KORALIMBU_REFUSED_NONE 8
+#define KORALIMBU_REFUSED_SEATING 9
+#define KORALIMBU_REFUSED_STANDING 10
+#define KORALIMBU_REFUSED_LAYOUT 11
+#define KORALIMBU_REFUSED_TERM 12
+
+/* Verdicts. A move adds one vector of the basis to the values or takes it away, once, or does so with each of two.
+ *   FITTED   all values are in bounds and no move improves; a better list may still exist
+ *   OUTSIDE  some value is out of bounds and no move improves; a list within the bounds may still exist
+ *   SPENT    the step limit is reached and some move still improves
+ * No list of values stands twice while one call settles; it may still take many steps, and the limit is for that. */
 #define KORALIMBU_FITTED 1
 #define KORALIMBU_OUTSIDE 2
 #define KORALIMBU_SPENT 3
+
+/* The most that a problem has: n, m, the counts m * n and n * (m + n), and its step limit. */
+#define KORALIMBU_MOST_COLUMNS 48
+#define KORALIMBU_MOST_ROWS 48
+#define KORALIMBU_MOST_COEFFICIENTS 2304
+#define KORALIMBU_MOST_TABLEAU 4608
+#define KORALIMBU_MOST_STEPS 65535
+
+/* The most that a deck has, with the bytes of its text. Another version may take larger problems than decks, so these are names of their own. */
+#define KORALIMBU_DECK_COLUMNS 48
+#define KORALIMBU_DECK_ROWS 48
+#define KORALIMBU_DECK_COEFFICIENTS 2304
+#define KORALIMBU_MOST_TEXT 32768
+
+/* How far a number may lie from 0: a coefficient, a right side and a bound to both sides, a goal above only. */
+#define KORALIMBU_RANGE_COEFFICIENT 1000
+#define KORALIMBU_RANGE_RIGHT 1000000
+#define KORALIMBU_RANGE_BOUND 1000000
+#define KORALIMBU_RANGE_GOAL 1000000000
+
+/* Document 01's M: how far a number of the elimination and a value may lie from 0, to both sides. */
+#define KORALIMBU_M 2147483647
+
+/* The counts of a report and of sizes. */
+#define KORALIMBU_REPORT_COUNT 3
+#define KORALIMBU_SIZES_COUNT 3
+
+/* The bytes of stack that are enough for any call. */
+#define KORALIMBU_MOST_STACK 65536
+
+/* The buffers of koralimbu_assign and koralimbu_continue, for n columns and m rows. Here and below, names stand without their KORALIMBU_.
+ *
+ *                 count         holds
+ *   coefficients  m * n         the rows, n to a row
+ *   rights        m             what each row must add up to
+ *   lower, upper  n             the bounds of each column
+ *   goals         n             the goal of each column, in thousandths; 0 for none
+ *   tableau       n * (m + n)   afterwards the form, m + n to a row
+ *   values        n             afterwards the value of each column; Continue starts from what it holds
+ *   strides       n             afterwards the strides
+ *   report        REPORT_COUNT  afterwards the verdict, the steps of the bounds part and those of the goals part
+ *
+ * The first five are only read.
+ *
+ * What these two return, and what is then left:
+ *
+ *                                                                               tableau    values, strides
+ *    0  ACCEPTED             there is a verdict                                 the form   the values and strides
+ *    1  REFUSED_SIZE         n is not 1 to MOST_COLUMNS, or m is not 0 to       as it was  as they were
+ *                            MOST_ROWS
+ *    2  REFUSED_LENGTH       a count is not exactly what n and m need           as it was  as they were
+ *    3  REFUSED_COEFFICIENT  a coefficient is beyond RANGE_COEFFICIENT, or a    as it was  as they were
+ *                            right side beyond RANGE_RIGHT, of either sign
+ *    4  REFUSED_BOUND        a bound is beyond RANGE_BOUND of either sign, or   as it was  as they were
+ *                            a lower bound is above its upper bound
+ *    5  REFUSED_GOAL         a goal is not 0 to RANGE_GOAL, or stands with a    as it was  as they were
+ *                            lower bound below 1
+ *    6  REFUSED_LIMIT        the step limit is above MOST_STEPS                 as it was  as they were
+ *    7  REFUSED_ELIMINATION  the elimination met a number beyond M              all 0      as they were
+ *    8  REFUSED_NONE         no whole numbers satisfy the rows                  the form   as they were
+ *    9  REFUSED_SEATING      seating met a value beyond M                       the form   as they were
+ *   10  REFUSED_STANDING     Continue: a value of the list is beyond M, or the  as it was  as they were
+ *                            list fails a row
+ *
+ * The first cause that holds is returned, in the order 1 to 6, then 10, then 7 and 8 as met, then 9.
+ *
+ * The report's verdict is FITTED, OUTSIDE or SPENT; with a refusal the report is 0, 0, 0. A report whose count is not REPORT_COUNT is
+ * refused with REFUSED_LENGTH before anything else is looked at, and every buffer is left as it was, the report too.
+ */
 
 /* A whole assignment. */
 uint32_t koralimbu_assign(size_t n, size_t m, uint32_t limit,
@@ -82,46 +148,53 @@ uint32_t koralimbu_continue(size_t n, size_t m, uint32_t limit,
 
 /* The reader: makes the problem of a deck text, in buffers of the largest size.
  *
- *                 count  holds
- *   text          any    the bytes of the text; only read
- *   coefficients  2304   afterwards the rows, n to a row without gaps
- *   rights        48     afterwards what each row must add up to
- *   lower, upper  48     afterwards the bounds of each column
- *   goals         48     afterwards the goal of each column, in thousandths; 0 for none
- *   sizes         2      afterwards n and m
+ *                 count              holds
+ *   text          any                the bytes of the text; only read
+ *   coefficients  DECK_COEFFICIENTS  afterwards the rows, n to a row without gaps
+ *   rights        DECK_ROWS          afterwards what each row must add up to
+ *   lower, upper  DECK_COLUMNS       afterwards the bounds of each column
+ *   goals         DECK_COLUMNS       afterwards the goal of each column, in thousandths; 0 for none
+ *   sizes         SIZES_COUNT        afterwards n, m, and how many of the n columns are curves
+ *
+ * The curves, which document 01 calls intervals, are the first columns. Those behind them were added by rows of kinds 1 to 3, in row order.
  *
  * What is returned, and what is then left:
  *
- *                                                              coefficients, rights,  sizes
- *                                                              lower, upper, goals
- *    0  the text is read                                       the problem, then 0s   n, m
- *    1  the count of intervals is not 1 to 48, or that of      as they were           0, 0
- *       rows is not 0 to 48
- *    2  a count of coefficients, rights, lower, upper or       as they were           0, 0
- *       goals is not the one above
- *    3  a coefficient is beyond 1,000, or a row's number       as they were           0, 0
- *       beyond 1,000,000, of either sign, or a least half is
- *       not 0 to 1,000,000
- *    4  a bound is beyond 1,000,000 of either sign, or a       as they were           0, 0
- *       lower bound is above its upper bound
- *    5  a goal is not 0 to 1,000,000,000, or stands with a     as they were           0, 0
- *       lower bound below 1
- *   11  a word is no number, a number is missing or one too    as they were           0, 0
- *       many, or the text is over 32,768 bytes
- *   12  a kind is not 0 to 3 or makes a 49th column, a count   as they were           0, 0
- *       of terms is wrong, an index does not rise or names no
- *       interval, or a coefficient is 0
+ *                                                                               coefficients, rights,  sizes
+ *                                                                               lower, upper, goals
+ *    0  ACCEPTED             the text is read                                   the problem, then 0s   n, m, curves
+ *    1  REFUSED_SIZE         the count of curves is not 1 to DECK_COLUMNS, or   as they were           0, 0, 0
+ *                            that of rows is not 0 to DECK_ROWS
+ *    2  REFUSED_LENGTH       a count of coefficients, rights, lower, upper or   as they were           0, 0, 0
+ *                            goals is not the one above
+ *    3  REFUSED_COEFFICIENT  a coefficient is beyond RANGE_COEFFICIENT, or a    as they were           0, 0, 0
+ *                            row's number beyond RANGE_RIGHT, of either sign,
+ *                            or a least half is below 0 or beyond RANGE_RIGHT
+ *    4  REFUSED_BOUND        a bound is beyond RANGE_BOUND of either sign, or   as they were           0, 0, 0
+ *                            a lower bound is above its upper bound
+ *    5  REFUSED_GOAL         a goal is not 0 to RANGE_GOAL, or stands with a    as they were           0, 0, 0
+ *                            lower bound below 1
+ *   11  REFUSED_LAYOUT       a word is no number, a number is missing or one    as they were           0, 0, 0
+ *                            too many, or the text is over MOST_TEXT bytes
+ *   12  REFUSED_TERM         a kind is not 0 to 3 or makes a column more than   as they were           0, 0, 0
+ *                            DECK_COLUMNS, a count of terms is wrong, an index
+ *                            does not rise or names no curve, or a coefficient
+ *                            is 0
  *
  * The counts are looked at first (2), then the length of the text (11); after that the first place of the text that breaks its rule decides.
- * A sizes whose count is not 2 is refused with 2 before anything else is looked at, and every buffer is left as it was, sizes too.
+ * A sizes whose count is not SIZES_COUNT is refused with REFUSED_LENGTH before anything else is looked at, and every buffer is left as it
+ * was, sizes too.
  *
- * n counts the intervals and then the columns that rows of kinds 1 to 3 add, in row order. A call goes on with the parts that n and m need:
+ * A call goes on with the parts that n and m need:
  *
- *   if (koralimbu_read(text, length, coefficients, 2304, rights, 48, lower, 48, upper, 48, goals, 48, sizes, 2) == 0) {
+ *   if (koralimbu_read(text, length, coefficients, KORALIMBU_DECK_COEFFICIENTS, rights, KORALIMBU_DECK_ROWS, lower, KORALIMBU_DECK_COLUMNS,
+ *                      upper, KORALIMBU_DECK_COLUMNS, goals, KORALIMBU_DECK_COLUMNS, sizes, KORALIMBU_SIZES_COUNT) == KORALIMBU_ACCEPTED) {
  *     size_t n = sizes[0], m = sizes[1];
  *     number = koralimbu_assign(n, m, 10000, coefficients, m * n, rights, m, lower, n, upper, n, goals, n,
- *                               tableau, n * (m + n), values, n, strides, n, report, 3);
+ *                               tableau, n * (m + n), values, n, strides, n, report, KORALIMBU_REPORT_COUNT);
  *   }
+ *
+ * The values of the curves are then the first sizes[2] of values.
  */
 uint32_t koralimbu_read(const uint8_t *text, size_t text_count,
                         int64_t *coefficients, size_t coefficients_count,

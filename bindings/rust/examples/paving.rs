@@ -4,6 +4,9 @@
 //!
 //! Without a name it is that of decks/paving.txt.
 
+use std::path::PathBuf;
+use std::process::ExitCode;
+
 use koralimbu::{solve_text, Refusal, Solved, Verdict};
 
 /// The step limit of the listing program.
@@ -28,13 +31,20 @@ fn listing(result: Result<Solved, Refusal>) -> String {
     lines
 }
 
-fn main() -> std::io::Result<()> {
-    let name = std::env::args().nth(1).unwrap_or(PAVING.to_string());
-    let result = solve_text(std::fs::read(name)?, LIMIT);
+fn main() -> ExitCode {
+    let name = std::env::args_os().nth(1).map_or(PathBuf::from(PAVING), PathBuf::from);
+    let text = match std::fs::read(&name) {
+        Ok(text) => text,
+        Err(error) => {
+            eprintln!("{}: {error}", name.display());
+            return ExitCode::FAILURE;
+        }
+    };
+    let result = solve_text(text, LIMIT);
     // The listing has the number alone; this says what to mend.
     if let Err(refusal) = &result {
-        eprintln!("{refusal}");
+        eprintln!("{}: {refusal}", name.display());
     }
     print!("{}", listing(result));
-    Ok(())
+    ExitCode::SUCCESS
 }

@@ -5,6 +5,8 @@ use crate::{Answer, Buffers, DeckBuffers, Problem, Refusal, Sizes, Steps, Verdic
 // Line for line the header's.
 #[rustfmt::skip]
 extern "C" {
+    fn koralimbu_version() -> u32;
+
     fn koralimbu_assign(
         n: usize, m: usize, limit: u32,
         coefficients: *const i64, coefficients_count: usize,
@@ -42,6 +44,15 @@ extern "C" {
     ) -> u32;
 }
 
+/// The counts of a report and of sizes.
+pub const REPORT_COUNT: usize = 3;
+pub const SIZES_COUNT: usize = 3;
+
+pub fn version() -> u32 {
+    // Sound: it takes nothing and touches no memory.
+    unsafe { koralimbu_version() }
+}
+
 pub enum Call {
     Assign,
     Continue,
@@ -54,7 +65,7 @@ pub fn settle(call: Call, problem: &Problem, buffers: &mut Buffers) -> Result<An
     };
     let Problem { columns, rows, limit } = problem;
     let (n, m) = (columns.lower.len(), rows.rights.len());
-    let mut report = [0; 3];
+    let mut report = [0; REPORT_COUNT];
     // Sound: a slice's pointer is never null, each count is its slice's, and no `&mut` slice overlaps another. The shared slices
     // may overlap each other, and are only read.
     #[rustfmt::skip]
@@ -74,17 +85,21 @@ pub fn settle(call: Call, problem: &Problem, buffers: &mut Buffers) -> Result<An
     };
     Refusal::check(number)?;
     let [verdict, bounds, goals] = report;
-    let verdict = match verdict {
-        1 => Verdict::Fitted,
-        2 => Verdict::Outside,
-        3 => Verdict::Spent,
-        _ => unreachable!("the engine reports no verdict {verdict}"),
-    };
-    Ok(Answer { verdict, steps: Steps { bounds, goals } })
+    Ok(Answer { verdict: verdict_of(verdict)?, steps: Steps { bounds, goals } })
+}
+
+/// A report's verdict. Only a library of another version has others.
+pub fn verdict_of(number: u32) -> Result<Verdict, Refusal> {
+    match number {
+        1 => Ok(Verdict::Fitted),
+        2 => Ok(Verdict::Outside),
+        3 => Ok(Verdict::Spent),
+        _ => Err(Refusal::Unknown(0)),
+    }
 }
 
 pub fn read(text: &[u8], buffers: &mut DeckBuffers) -> Result<Sizes, Refusal> {
-    let mut sizes = [0; 2];
+    let mut sizes = [0; SIZES_COUNT];
     // Sound for the reasons above.
     #[rustfmt::skip]
     let number = unsafe {
@@ -99,6 +114,20 @@ pub fn read(text: &[u8], buffers: &mut DeckBuffers) -> Result<Sizes, Refusal> {
         )
     };
     Refusal::check(number)?;
-    let [columns, rows] = sizes;
-    Ok(Sizes { columns, rows })
+    let [columns, rows, curves] = sizes;
+    Ok(Sizes { columns, rows, curves })
+}
+
+#[cfg(test)]
+mod tests {
+    use super::*;
+
+    #[test]
+    fn an_unknown_verdict_is_told() {
+        for number in [0, 4, u32::MAX] {
+            let refusal = verdict_of(number).unwrap_err();
+            assert_eq!((refusal, refusal.number()), (Refusal::Unknown(0), 0));
+            assert!(refusal.to_string().starts_with("a verdict that this package does not know"));
+        }
+    }
 }

@@ -8,26 +8,40 @@
 //! # Ok::<(), koralimbu::Refusal>(())
 //! ```
 //!
+//! Rows that are no equations add columns of their own, behind the curves. A [`Deck`] knows how many columns are curves:
+//!
+//! ```
+//! let deck = koralimbu::Deck::read("2\n1 9 3000\n1 9 2000\n1\n3 1 2 1 1 2 1\n")?;
+//! let solved = deck.solve(10_000)?;
+//! assert_eq!(&solved.values[..deck.curves()], [4, 2]);
+//! # Ok::<(), koralimbu::Refusal>(())
+//! ```
+//!
 //! [`assign`], [`continue_from`] and [`read_deck`] are the engine's own calls, for callers who keep their buffers. They allocate
 //! nothing. What a call leaves in each buffer stands in `include/koralimbu.h`.
+//!
+//! The engine keeps no state of its own, so that any of this may be called in several threads at once.
+
+#![deny(missing_docs)]
 
 mod calls;
+#[cfg(test)]
+mod header;
+mod limits;
 mod refusal;
+mod version;
 
 use calls::Call;
+pub use limits::*;
 pub use refusal::Refusal;
-
-/// The most columns of a problem.
-pub const MOST_COLUMNS: usize = 48;
-/// The most rows of a problem.
-pub const MOST_ROWS: usize = 48;
-/// The coefficients of the largest problem.
-pub const MOST_COEFFICIENTS: usize = MOST_ROWS * MOST_COLUMNS;
+pub use version::{version, VERSION};
 
 /// The bounds and the goal of each column. There are as many columns as lower bounds.
 #[derive(Clone, Copy, Debug)]
 pub struct Columns<'a> {
+    /// The lower bounds.
     pub lower: &'a [i64],
+    /// The upper bounds.
     pub upper: &'a [i64],
     /// In thousandths of an interval; 0 for none.
     pub goals: &'a [i64],
@@ -38,30 +52,38 @@ pub struct Columns<'a> {
 pub struct Rows<'a> {
     /// Row after row, a number for each column.
     pub coefficients: &'a [i64],
+    /// What each row adds up to.
     pub rights: &'a [i64],
 }
 
+/// A problem: find whole numbers that satisfy the rows, in bounds and near the goals.
 #[derive(Clone, Copy, Debug)]
 pub struct Problem<'a> {
+    /// The unknowns.
     pub columns: Columns<'a>,
+    /// The equations that tie them.
     pub rows: Rows<'a>,
-    /// The most steps of settling, 0 to 65,535. No list of values stands twice while one call settles; it may still take many steps.
+    /// The most steps of settling, 0 to [`MOST_STEPS`]. No list of values stands twice while one call settles; it may still take many steps.
     pub limit: u32,
 }
 
 /// What a call fills. For n columns and m rows the tableau has n(m + n) numbers, the others n.
 #[derive(Debug)]
 pub struct Buffers<'a> {
+    /// Afterwards the form.
     pub tableau: &'a mut [i64],
+    /// Afterwards the value of each column; Continue starts from what it holds.
     pub values: &'a mut [i64],
+    /// Afterwards the stride of each column, the step by which it can change at all.
     pub strides: &'a mut [u64],
 }
 
+/// Where settling ended. A move adds one vector of the basis to the values or takes it away, once, or does so with each of two.
 #[derive(Clone, Copy, Debug, PartialEq, Eq, Hash)]
 pub enum Verdict {
-    /// All values lie in their bounds, and no move improves.
+    /// All values lie in their bounds, and no move improves. A better list may still exist.
     Fitted,
-    /// Some value lies out of its bounds, and no move improves.
+    /// Some value lies out of its bounds, and no move improves. A list within the bounds may still exist.
     Outside,
     /// The step limit was reached, and some move still improves.
     Spent,
@@ -70,13 +92,18 @@ pub enum Verdict {
 /// The steps towards the bounds and those towards the goals.
 #[derive(Clone, Copy, Debug, PartialEq, Eq, Hash)]
 pub struct Steps {
+    /// The steps while some value lay out of its bounds.
     pub bounds: u32,
+    /// The steps once all values lay in their bounds.
     pub goals: u32,
 }
 
+/// What a call that is not refused returns beside its buffers.
 #[derive(Clone, Copy, Debug, PartialEq, Eq, Hash)]
 pub struct Answer {
+    /// Where settling ended.
     pub verdict: Verdict,
+    /// The steps that were taken.
     pub steps: Steps,
 }
 
@@ -90,21 +117,37 @@ pub fn continue_from(problem: &Problem, buffers: &mut Buffers) -> Result<Answer,
     calls::settle(Call::Continue, problem, buffers)
 }
 
-/// What the reader fills: [`MOST_COEFFICIENTS`] numbers, then [`MOST_ROWS`], then [`MOST_COLUMNS`] each.
+/// What the reader fills.
 #[derive(Debug)]
 pub struct DeckBuffers<'a> {
+    /// [`DECK_COEFFICIENTS`] numbers; afterwards the rows, a number for each column.
     pub coefficients: &'a mut [i64],
+    /// [`DECK_ROWS`] numbers; afterwards what each row adds up to.
     pub rights: &'a mut [i64],
+    /// [`DECK_COLUMNS`] numbers; afterwards the lower bounds.
     pub lower: &'a mut [i64],
+    /// [`DECK_COLUMNS`] numbers; afterwards the upper bounds.
     pub upper: &'a mut [i64],
+    /// [`DECK_COLUMNS`] numbers; afterwards the goals.
     pub goals: &'a mut [i64],
 }
 
-/// How many columns and rows a deck states, the columns that its rows add counted.
+/// How large a deck's problem is.
 #[derive(Clone, Copy, Debug, PartialEq, Eq, Hash)]
 pub struct Sizes {
+    /// The columns: the curves, and behind them those that rows added.
     pub columns: usize,
+    /// The rows.
     pub rows: usize,
+    /// How many of the columns are curves, which document 01 calls intervals.
+    pub curves: usize,
+}
+
+impl Sizes {
+    /// How many columns, behind the curves, were added by rows of kinds 1 to 3, in row order.
+    pub fn added(self) -> usize {
+        self.columns - self.curves
+    }
 }
 
 /// Reads a deck's text. The first numbers of each buffer are then the problem's, the others 0.
@@ -115,6 +158,7 @@ pub fn read_deck(text: &[u8], buffers: &mut DeckBuffers) -> Result<Sizes, Refusa
 /// A deck's problem, without its step limit.
 #[derive(Clone, Debug, PartialEq, Eq)]
 pub struct Deck {
+    curves: usize,
     coefficients: Vec<i64>,
     rights: Vec<i64>,
     lower: Vec<i64>,
@@ -123,13 +167,15 @@ pub struct Deck {
 }
 
 impl Deck {
+    /// The deck of a text.
     pub fn read(text: impl AsRef<[u8]>) -> Result<Deck, Refusal> {
         let mut deck = Deck {
-            coefficients: vec![0; MOST_COEFFICIENTS],
-            rights: vec![0; MOST_ROWS],
-            lower: vec![0; MOST_COLUMNS],
-            upper: vec![0; MOST_COLUMNS],
-            goals: vec![0; MOST_COLUMNS],
+            curves: 0,
+            coefficients: vec![0; DECK_COEFFICIENTS],
+            rights: vec![0; DECK_ROWS],
+            lower: vec![0; DECK_COLUMNS],
+            upper: vec![0; DECK_COLUMNS],
+            goals: vec![0; DECK_COLUMNS],
         };
         let mut buffers = DeckBuffers {
             coefficients: &mut deck.coefficients,
@@ -139,6 +185,7 @@ impl Deck {
             goals: &mut deck.goals,
         };
         let sizes = read_deck(text.as_ref(), &mut buffers)?;
+        deck.curves = sizes.curves;
         deck.coefficients.truncate(sizes.rows * sizes.columns);
         deck.rights.truncate(sizes.rows);
         deck.lower.truncate(sizes.columns);
@@ -147,6 +194,17 @@ impl Deck {
         Ok(deck)
     }
 
+    /// How many curves the text states. They are the first columns.
+    pub fn curves(&self) -> usize {
+        self.curves
+    }
+
+    /// How many columns, behind the curves, were added by rows of kinds 1 to 3, in row order.
+    pub fn added(&self) -> usize {
+        self.lower.len() - self.curves
+    }
+
+    /// The deck's problem with a step limit.
     pub fn problem(&self, limit: u32) -> Problem<'_> {
         Problem {
             columns: Columns { lower: &self.lower, upper: &self.upper, goals: &self.goals },
@@ -154,14 +212,32 @@ impl Deck {
             limit,
         }
     }
+
+    /// A whole assignment of the deck. The curves' values are the first ones:
+    ///
+    /// ```
+    /// let deck = koralimbu::Deck::read("3\n1 99 3000\n1 99 3000\n1 99 3000\n1\n3 2 3 1 1 2 1 3 1\n")?;
+    /// let solved = deck.solve(10_000)?;
+    /// let (curves, added) = solved.values.split_at(deck.curves());
+    /// assert_eq!(curves, [3, 3, 4]);
+    /// assert_eq!(added, [5]); // the half of their sum, since the row says that it is even
+    /// # Ok::<(), koralimbu::Refusal>(())
+    /// ```
+    pub fn solve(&self, limit: u32) -> Result<Solved, Refusal> {
+        solve(&self.problem(limit))
+    }
 }
 
-/// An answer with its lists: the interval and the stride of each column.
+/// An answer with its lists.
 #[derive(Clone, Debug, PartialEq, Eq)]
 pub struct Solved {
+    /// Where settling ended.
     pub verdict: Verdict,
+    /// The steps that were taken.
     pub steps: Steps,
+    /// The value of each column.
     pub values: Vec<i64>,
+    /// The stride of each column, the step by which it can change at all.
     pub strides: Vec<u64>,
 }
 
@@ -175,9 +251,9 @@ pub fn solve_from(problem: &Problem, values: &[i64]) -> Result<Solved, Refusal> 
     in_own_buffers(continue_from, problem, values.to_vec())
 }
 
-/// A whole assignment of a deck's text.
+/// A whole assignment of a deck's text. The curves' values come first; with [`Deck::solve`] the deck tells how many they are.
 pub fn solve_text(text: impl AsRef<[u8]>, limit: u32) -> Result<Solved, Refusal> {
-    solve(&Deck::read(text)?.problem(limit))
+    Deck::read(text)?.solve(limit)
 }
 
 fn in_own_buffers(

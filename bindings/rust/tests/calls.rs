@@ -147,12 +147,15 @@ fn one_list_as_both_bounds() {
 
 #[test]
 fn the_largest_problem() {
-    let mut posed = Posed::chain(48, 0, 10);
+    let mut posed = Posed::chain(MOST_COLUMNS, 0, 10);
     posed.coefficients.iter_mut().for_each(|a| *a = a.signum());
-    posed.coefficients.extend([0; 48]);
-    posed.rights.push(0);
-    let solved = solve(&posed.problem()).unwrap();
-    assert_eq!((solved.values, solved.strides), (vec![0; 48], vec![1; 48]));
+    posed.coefficients.resize(MOST_COEFFICIENTS, 0);
+    posed.rights.resize(MOST_ROWS, 0);
+    posed.limit = MOST_STEPS;
+    let mut lent = Lent::marked(&posed);
+    assert_eq!(lent.tableau.len(), MOST_TABLEAU);
+    assert_eq!(assign(&posed.problem(), &mut lent.buffers()), answer(Verdict::Fitted, 0, 0));
+    assert_eq!((lent.values, lent.strides), (vec![0; MOST_COLUMNS], vec![1; MOST_COLUMNS]));
 }
 
 // ---------------------------------------------------------------- Continue
@@ -179,12 +182,12 @@ fn continue_where_the_limit_stopped() {
 
 #[test]
 fn refusal_1_no_columns_or_too_many() {
-    for n in [0, 49] {
+    for n in [0, MOST_COLUMNS + 1] {
         let posed = Posed::new(&[], &[], n, 1, 10);
         both_refuse(&posed, &Lent::marked(&posed), Refusal::Size);
         assert_eq!(solve(&posed.problem()), Err(Refusal::Size));
     }
-    let posed = Posed::new(&[&[0; 49]], &[0; 49], 1, 1, 10);
+    let posed = Posed::new(&[&[0; MOST_ROWS + 1]], &[0; MOST_ROWS + 1], 1, 1, 10);
     both_refuse(&posed, &Lent::marked(&posed), Refusal::Size);
 }
 
@@ -204,8 +207,8 @@ fn refusal_2_a_wrong_length() {
 #[test]
 fn refusal_3_a_coefficient_or_right_side() {
     let lent = Lent::marked(&Posed::tied());
-    both_refuse(&Posed { coefficients: vec![1, -1001], ..Posed::tied() }, &lent, Refusal::Coefficient);
-    both_refuse(&Posed { rights: vec![1_000_001], ..Posed::tied() }, &lent, Refusal::Coefficient);
+    both_refuse(&Posed { coefficients: vec![1, -RANGE_COEFFICIENT - 1], ..Posed::tied() }, &lent, Refusal::Coefficient);
+    both_refuse(&Posed { rights: vec![RANGE_RIGHT + 1], ..Posed::tied() }, &lent, Refusal::Coefficient);
 }
 
 #[test]
@@ -225,7 +228,7 @@ fn refusal_5_a_goal() {
 #[test]
 fn refusal_6_the_limit() {
     let lent = Lent::marked(&Posed::tied());
-    both_refuse(&Posed { limit: 65_536, ..Posed::tied() }, &lent, Refusal::Limit);
+    both_refuse(&Posed { limit: MOST_STEPS + 1, ..Posed::tied() }, &lent, Refusal::Limit);
 }
 
 #[test]
@@ -251,7 +254,7 @@ fn refusal_9_seating() {
 #[test]
 fn refusal_10_the_list() {
     let posed = Posed::tied();
-    for values in [vec![1, 2], vec![1 << 31, 1 << 31]] {
+    for values in [vec![1, 2], vec![M + 1, M + 1]] {
         let before = Lent { values, ..Lent::marked(&posed) };
         let mut after = before.clone();
         assert_eq!(continue_from(&posed.problem(), &mut after.buffers()), Err(Refusal::Standing));
@@ -263,6 +266,35 @@ fn refusal_10_the_list() {
 fn each_refusal_has_its_number_and_text() {
     for (number, refusal) in (1..).zip(Refusal::ALL) {
         assert_eq!(refusal.number(), number);
-        assert!(refusal.to_string().len() > 20);
+        let text = refusal.to_string();
+        assert!(text.starts_with(&format!("refused with {number}: ")) && text.len() > 40, "{text}");
     }
+}
+
+/// A `main` that returns the refusal prints it so.
+#[test]
+fn a_refusal_is_debugged_as_it_is_displayed() {
+    for refusal in Refusal::ALL.into_iter().chain([Refusal::Unknown(0), Refusal::Unknown(13)]) {
+        assert_eq!(format!("{refusal:?}"), refusal.to_string());
+    }
+    let error: Box<dyn std::error::Error> = Refusal::Layout.into();
+    assert!(format!("Error: {error:?}").starts_with("Error: refused with 11: a word is no number, "));
+}
+
+// ---------------------------------------------------------------- the library
+
+#[test]
+fn the_librarys_version() {
+    assert_eq!(version(), VERSION);
+}
+
+#[test]
+fn threads_share_a_problem() {
+    let posed = Posed::tied();
+    let wanted = solve(&posed.problem());
+    std::thread::scope(|scope| {
+        for thread in [(); 8].map(|()| scope.spawn(|| solve(&posed.problem()))) {
+            assert_eq!(thread.join().unwrap(), wanted);
+        }
+    });
 }

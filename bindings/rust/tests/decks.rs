@@ -17,8 +17,8 @@ struct Lent {
 
 impl Lent {
     fn marked() -> Lent {
-        let [rights, lower, upper, goals] = [-2, -3, -4, -5].map(|mark| vec![mark; 48]);
-        Lent { coefficients: vec![-1; 2304], rights, lower, upper, goals }
+        let [lower, upper, goals] = [-3, -4, -5].map(|mark| vec![mark; DECK_COLUMNS]);
+        Lent { coefficients: vec![-1; DECK_COEFFICIENTS], rights: vec![-2; DECK_ROWS], lower, upper, goals }
     }
 
     fn read(&mut self, text: &[u8]) -> Result<Sizes, Refusal> {
@@ -51,13 +51,13 @@ fn filled(numbers: &[i64], count: usize) -> Vec<i64> {
 #[test]
 fn paving_is_read() {
     let mut lent = Lent::marked();
-    assert_eq!(lent.read(PAVING.as_bytes()), Ok(Sizes { columns: 4, rows: 1 }));
+    assert_eq!(lent.read(PAVING.as_bytes()), Ok(Sizes { columns: 4, rows: 1, curves: 3 }));
     let wanted = Lent {
-        coefficients: filled(&[1, 1, 1, -2], 2304),
-        rights: filled(&[], 48),
-        lower: filled(&[1, 1, 1, 2], 48),
-        upper: filled(&[1_000_000; 4], 48),
-        goals: filled(&[3000; 3], 48),
+        coefficients: filled(&[1, 1, 1, -2], DECK_COEFFICIENTS),
+        rights: filled(&[], DECK_ROWS),
+        lower: filled(&[1, 1, 1, 2], DECK_COLUMNS),
+        upper: filled(&[1_000_000; 4], DECK_COLUMNS),
+        goals: filled(&[3000; 3], DECK_COLUMNS),
     };
     assert_eq!(lent, wanted);
 }
@@ -67,6 +67,30 @@ fn paving_is_solved() {
     let solved = solve_text(PAVING, LIMIT).unwrap();
     assert_eq!((solved.verdict, solved.steps), (Verdict::Fitted, Steps { bounds: 0, goals: 0 }));
     assert_eq!((solved.values, solved.strides), (vec![3, 3, 4, 5], vec![1, 1, 1, 1]));
+}
+
+/// Two curves; a row of each kind, of which those of kinds 1 to 3 add a column.
+const KINDS: &str = "2\n1 9 2000\n1 9 3000\n4\n0 5 2 1 1 2 1\n1 2 1 2 1\n2 8 1 1 1\n3 1 1 1 1\n";
+
+#[test]
+fn the_sizes_of_a_deck_with_added_columns() {
+    let sizes = Lent::marked().read(KINDS.as_bytes()).unwrap();
+    assert_eq!(sizes, Sizes { columns: 5, rows: 4, curves: 2 });
+    assert_eq!(sizes.added(), 3);
+    let plain = Lent::marked().read(b"1\n3 5 0\n0\n").unwrap();
+    assert_eq!((plain.curves, plain.added()), (1, 0));
+}
+
+#[test]
+fn the_values_of_the_curves_and_of_the_added_columns() {
+    let deck = Deck::read(KINDS).unwrap();
+    assert_eq!((deck.curves(), deck.added()), (2, 3));
+    let solved = deck.solve(LIMIT).unwrap();
+    assert_eq!(solved.verdict, Verdict::Fitted);
+    assert_eq!(&solved.values[..deck.curves()], [2, 3]);
+    // 3 − y = 2, 2 + y = 8, 2 − 2y = 0.
+    assert_eq!(&solved.values[deck.curves()..], [1, 6, 1]);
+    assert_eq!(Ok(solved), solve_text(KINDS, LIMIT));
 }
 
 #[test]
@@ -87,11 +111,11 @@ fn refusal_1_a_count() {
 #[test]
 fn refusal_2_a_wrong_length() {
     for lent in [
-        Lent { coefficients: vec![-1; 2303], ..Lent::marked() },
-        Lent { rights: vec![-2; 49], ..Lent::marked() },
+        Lent { coefficients: vec![-1; DECK_COEFFICIENTS - 1], ..Lent::marked() },
+        Lent { rights: vec![-2; DECK_ROWS + 1], ..Lent::marked() },
         Lent { lower: vec![], ..Lent::marked() },
         Lent { upper: vec![-4; 1], ..Lent::marked() },
-        Lent { goals: vec![-5; 47], ..Lent::marked() },
+        Lent { goals: vec![-5; DECK_COLUMNS - 1], ..Lent::marked() },
     ] {
         let mut after = lent.clone();
         assert_eq!(after.read(PAVING.as_bytes()), Err(Refusal::Length));
@@ -122,7 +146,7 @@ fn refusal_11_the_layout() {
     refuses("1\n3 5 O\n0\n", Refusal::Layout);
     refuses("1\n3 5 0\n0\n7\n", Refusal::Layout);
     refuses(b"1\n3 5 0\n0\n\xff", Refusal::Layout);
-    refuses(format!("1\n3 5 0\n0\n{}", " ".repeat(32_768)), Refusal::Layout);
+    refuses(format!("1\n3 5 0\n0\n{}", " ".repeat(MOST_TEXT)), Refusal::Layout);
 }
 
 #[test]
@@ -131,7 +155,7 @@ fn refusal_12_a_term() {
     refuses("1\n3 5 0\n1\n0 0 2 1 1 1 1\n", Refusal::Term);
     refuses("1\n3 5 0\n1\n0 0 1 2 1\n", Refusal::Term);
     refuses("1\n3 5 0\n1\n0 0 1 1 0\n", Refusal::Term);
-    refuses(format!("48\n{}1\n1 0 0\n", "3 5 0\n".repeat(48)), Refusal::Term);
+    refuses(format!("{DECK_COLUMNS}\n{}1\n1 0 0\n", "3 5 0\n".repeat(DECK_COLUMNS)), Refusal::Term);
 }
 
 #[test]
@@ -144,5 +168,5 @@ fn what_a_deck_can_state_and_the_engine_refuses() {
     assert_eq!(solve_text(format!("5\n0 10 0\n{}", chain(5)), LIMIT), Err(Refusal::Elimination));
     let pulled = format!("3\n1 1000000 1000000000\n{}", chain(3));
     assert_eq!(solve_text(pulled, LIMIT), Err(Refusal::Seating));
-    assert_eq!(solve_text(PAVING, 65_536), Err(Refusal::Limit));
+    assert_eq!(solve_text(PAVING, MOST_STEPS + 1), Err(Refusal::Limit));
 }

@@ -1,0 +1,536 @@
+/* What the header says, tried over the archive: the version, null pointers, every refusal and limit by its name, the sizes of a deck,
+ * calls in several threads at once, and calls on a small stack.
+ *
+ * Prints a line for each check that fails, and last 'N passed, M failed'.
+ */
+#define _POSIX_C_SOURCE 200809L
+
+#include <inttypes.h>
+#include <limits.h>
+#include <pthread.h>
+#include <stdio.h>
+#include <string.h>
+
+#include "koralimbu.h"
+
+/* The names are numbers for the preprocessor too. */
+#if KORALIMBU_VERSION < 2000 || KORALIMBU_MOST_COEFFICIENTS != KORALIMBU_MOST_ROWS * KORALIMBU_MOST_COLUMNS \
+    || KORALIMBU_MOST_TABLEAU != KORALIMBU_MOST_COLUMNS * (KORALIMBU_MOST_ROWS + KORALIMBU_MOST_COLUMNS) \
+    || KORALIMBU_DECK_COEFFICIENTS != KORALIMBU_DECK_ROWS * KORALIMBU_DECK_COLUMNS
+#error "names of koralimbu.h that do not agree"
+#endif
+
+/* Room for a column and a row too many. */
+#define COLUMNS (KORALIMBU_MOST_COLUMNS + 1)
+#define ROWS (KORALIMBU_MOST_ROWS + 1)
+#define TEXT (KORALIMBU_MOST_TEXT + 1)
+#define LIMIT 10000
+#define THREADS 8
+#define ROUNDS 20
+/* What a buffer holds before a call. */
+#define MARK 77
+
+/* A problem, and the list that Continue starts from. */
+struct posed {
+    size_t n, m;
+    uint32_t limit;
+    int64_t coefficients[ROWS * COLUMNS], rights[ROWS], lower[COLUMNS], upper[COLUMNS], goals[COLUMNS], start[COLUMNS];
+};
+
+struct answer {
+    uint32_t number, report[KORALIMBU_REPORT_COUNT];
+    int64_t tableau[COLUMNS * (ROWS + COLUMNS)], values[COLUMNS];
+    uint64_t strides[COLUMNS];
+};
+
+/* A deck's text as it was read. */
+struct deck {
+    uint32_t number;
+    size_t sizes[KORALIMBU_SIZES_COUNT];
+    int64_t coefficients[KORALIMBU_DECK_COEFFICIENTS], rights[KORALIMBU_DECK_ROWS];
+    int64_t lower[KORALIMBU_DECK_COLUMNS], upper[KORALIMBU_DECK_COLUMNS], goals[KORALIMBU_DECK_COLUMNS];
+};
+
+typedef uint32_t engine(size_t n, size_t m, uint32_t limit, const int64_t *coefficients, size_t coefficients_count,
+                        const int64_t *rights, size_t rights_count, const int64_t *lower, size_t lower_count,
+                        const int64_t *upper, size_t upper_count, const int64_t *goals, size_t goals_count,
+                        int64_t *tableau, size_t tableau_count, int64_t *values, size_t values_count,
+                        uint64_t *strides, size_t strides_count, uint32_t *report, size_t report_count);
+
+static const char paving[] = "3\n1 1000000 3000\n1 1000000 3000\n1 1000000 3000\n1\n3 2 3 1 1 2 1 3 1\n";
+
+static int passed, failed;
+
+static void check(const char *what, int good)
+{
+    if (good) {
+        passed++;
+    } else {
+        failed++;
+        printf("%s: failed\n", what);
+    }
+}
+
+static void expect(const char *what, uint32_t returned, uint32_t wanted)
+{
+    if (returned != wanted)
+        printf("returned %" PRIu32 ", not %" PRIu32 ": ", returned, wanted);
+    check(what, returned == wanted);
+}
+
+/* ---------------------------------------------------------------- calls */
+
+/* n columns with bounds 0 to 10 and no goals, m rows of zeros. */
+static void pose(struct posed *p, size_t n, size_t m)
+{
+    size_t j;
+
+    memset(p, 0, sizeof *p);
+    p->n = n;
+    p->m = m;
+    p->limit = LIMIT;
+    for (j = 0; j < n; j++)
+        p->upper[j] = 10;
+}
+
+static void settle(engine *call, const struct posed *p, struct answer *a)
+{
+    size_t n = p->n, m = p->m;
+
+    memset(a, 0, sizeof *a);
+    a->report[0] = a->report[1] = a->report[2] = MARK;
+    memcpy(a->values, p->start, sizeof p->start);
+    a->number = call(n, m, p->limit, p->coefficients, m * n, p->rights, m, p->lower, n, p->upper, n, p->goals, n,
+                     a->tableau, n * (m + n), a->values, n, a->strides, n, a->report, KORALIMBU_REPORT_COUNT);
+}
+
+static void read_text(const uint8_t *text, size_t count, struct deck *d)
+{
+    memset(d, 0, sizeof *d);
+    d->sizes[0] = d->sizes[1] = d->sizes[2] = MARK;
+    d->number = koralimbu_read(text, count, d->coefficients, KORALIMBU_DECK_COEFFICIENTS, d->rights, KORALIMBU_DECK_ROWS,
+                               d->lower, KORALIMBU_DECK_COLUMNS, d->upper, KORALIMBU_DECK_COLUMNS,
+                               d->goals, KORALIMBU_DECK_COLUMNS, d->sizes, KORALIMBU_SIZES_COUNT);
+}
+
+/* Both calls return a number; with a refusal the report is all 0. */
+static void both(const char *what, const struct posed *p, uint32_t wanted)
+{
+    static const uint32_t nothing[KORALIMBU_REPORT_COUNT];
+    static struct answer a;
+    engine *calls[] = {koralimbu_assign, koralimbu_continue};
+    size_t k;
+
+    for (k = 0; k < 2; k++) {
+        settle(calls[k], p, &a);
+        expect(what, a.number, wanted);
+        if (wanted != KORALIMBU_ACCEPTED)
+            check(what, memcmp(a.report, nothing, sizeof nothing) == 0);
+    }
+}
+
+static void assigned(const char *what, const struct posed *p, uint32_t wanted, uint32_t verdict)
+{
+    static struct answer a;
+
+    settle(koralimbu_assign, p, &a);
+    expect(what, a.number, wanted);
+    expect(what, a.report[0], verdict);
+}
+
+static void continued(const char *what, const struct posed *p, uint32_t wanted)
+{
+    static struct answer a;
+
+    settle(koralimbu_continue, p, &a);
+    expect(what, a.number, wanted);
+}
+
+static void reads(const char *what, const char *text, uint32_t wanted)
+{
+    static struct deck d;
+
+    read_text((const uint8_t *)text, strlen(text), &d);
+    expect(what, d.number, wanted);
+}
+
+/* ---------------------------------------------------------------- null pointers */
+
+enum { LOWER, UPPER, GOALS, TABLEAU, VALUES, STRIDES, REPORT, TAKEN, COEFFICIENTS, RIGHTS, SIZES };
+
+/* Null with a count of 0 at one place, and what is lent otherwise. */
+#define LENT(place, pointer, count) none == (place) ? NULL : (pointer), none == (place) ? 0 : (size_t)(count)
+
+/* One column without rows, so that the first two buffers have no numbers. */
+static uint32_t without(engine *call, int none)
+{
+    int64_t lower = 3, upper = 5, goals = 0, tableau = 0, values = 4;
+    uint64_t strides = 0;
+    uint32_t report[KORALIMBU_REPORT_COUNT];
+
+    return call(1, 0, LIMIT, NULL, 0, NULL, 0, LENT(LOWER, &lower, 1), LENT(UPPER, &upper, 1), LENT(GOALS, &goals, 1),
+                LENT(TABLEAU, &tableau, 1), LENT(VALUES, &values, 1), LENT(STRIDES, &strides, 1),
+                LENT(REPORT, report, KORALIMBU_REPORT_COUNT));
+}
+
+static uint32_t read_without(int none)
+{
+    static struct deck d;
+
+    return koralimbu_read((const uint8_t *)paving, sizeof paving - 1, LENT(COEFFICIENTS, d.coefficients, KORALIMBU_DECK_COEFFICIENTS),
+                          LENT(RIGHTS, d.rights, KORALIMBU_DECK_ROWS), LENT(LOWER, d.lower, KORALIMBU_DECK_COLUMNS),
+                          LENT(UPPER, d.upper, KORALIMBU_DECK_COLUMNS), LENT(GOALS, d.goals, KORALIMBU_DECK_COLUMNS),
+                          LENT(SIZES, d.sizes, KORALIMBU_SIZES_COUNT));
+}
+
+/* Every buffer null but the report, and that too. */
+static void all_null(engine *call)
+{
+    uint32_t report[KORALIMBU_REPORT_COUNT];
+
+    expect("no column and every buffer null",
+           call(0, 0, 0, NULL, 0, NULL, 0, NULL, 0, NULL, 0, NULL, 0, NULL, 0, NULL, 0, NULL, 0, report, KORALIMBU_REPORT_COUNT),
+           KORALIMBU_REFUSED_SIZE);
+    expect("a column and every buffer null",
+           call(1, 0, 0, NULL, 0, NULL, 0, NULL, 0, NULL, 0, NULL, 0, NULL, 0, NULL, 0, NULL, 0, report, KORALIMBU_REPORT_COUNT),
+           KORALIMBU_REFUSED_LENGTH);
+    expect("every buffer null, the report too",
+           call(1, 0, 0, NULL, 0, NULL, 0, NULL, 0, NULL, 0, NULL, 0, NULL, 0, NULL, 0, NULL, 0, NULL, 0),
+           KORALIMBU_REFUSED_LENGTH);
+}
+
+static void try_null_pointers(void)
+{
+    static const int lent[] = {COEFFICIENTS, RIGHTS, LOWER, UPPER, GOALS, SIZES};
+    static struct deck d;
+    engine *calls[] = {koralimbu_assign, koralimbu_continue};
+    size_t k;
+    int none;
+
+    for (k = 0; k < 2; k++) {
+        expect("null rows of no row", without(calls[k], TAKEN), KORALIMBU_ACCEPTED);
+        for (none = LOWER; none <= REPORT; none++)
+            expect("a null buffer of a column", without(calls[k], none), KORALIMBU_REFUSED_LENGTH);
+        all_null(calls[k]);
+    }
+    expect("a deck's buffers", read_without(TAKEN), KORALIMBU_ACCEPTED);
+    for (k = 0; k < sizeof lent / sizeof *lent; k++)
+        expect("a null buffer of a deck", read_without(lent[k]), KORALIMBU_REFUSED_LENGTH);
+    read_text(NULL, 0, &d);
+    expect("a null text", d.number, KORALIMBU_REFUSED_LAYOUT);
+    expect("a deck's buffers all null", koralimbu_read(NULL, 0, NULL, 0, NULL, 0, NULL, 0, NULL, 0, NULL, 0, NULL, 0),
+           KORALIMBU_REFUSED_LENGTH);
+}
+
+/* ---------------------------------------------------------------- a problem's limits */
+
+static void try_sizes(void)
+{
+    static struct posed p;
+
+    pose(&p, KORALIMBU_MOST_COLUMNS, KORALIMBU_MOST_ROWS);
+    both("the most columns and rows", &p, KORALIMBU_ACCEPTED);
+    pose(&p, KORALIMBU_MOST_COLUMNS + 1, 0);
+    both("a column too many", &p, KORALIMBU_REFUSED_SIZE);
+    pose(&p, 1, KORALIMBU_MOST_ROWS + 1);
+    both("a row too many", &p, KORALIMBU_REFUSED_SIZE);
+    pose(&p, 1, 0);
+    p.limit = KORALIMBU_MOST_STEPS;
+    both("the most steps", &p, KORALIMBU_ACCEPTED);
+    p.limit++;
+    both("a step too many", &p, KORALIMBU_REFUSED_LIMIT);
+}
+
+/* A number that is taken up to a range, of either sign. */
+static void try_range(const char *what, struct posed *p, int64_t *number, int64_t range, uint32_t refusal)
+{
+    *number = range;
+    both(what, p, KORALIMBU_ACCEPTED);
+    *number = -range;
+    both(what, p, KORALIMBU_ACCEPTED);
+    *number = range + 1;
+    both(what, p, refusal);
+    *number = -range - 1;
+    both(what, p, refusal);
+}
+
+static void try_ranges(void)
+{
+    static struct posed p;
+    int sign;
+
+    pose(&p, 1, 1);
+    try_range("a coefficient", &p, p.coefficients, KORALIMBU_RANGE_COEFFICIENT, KORALIMBU_REFUSED_COEFFICIENT);
+    for (sign = -1; sign <= 1; sign += 2) {
+        pose(&p, 1, 1);
+        p.coefficients[0] = 1;
+        p.rights[0] = p.start[0] = sign * KORALIMBU_RANGE_RIGHT;
+        both("a right side", &p, KORALIMBU_ACCEPTED);
+        p.rights[0] += sign;
+        both("a right side beyond", &p, KORALIMBU_REFUSED_COEFFICIENT);
+    }
+    pose(&p, 2, 0);
+    p.lower[0] = -KORALIMBU_RANGE_BOUND;
+    try_range("an upper bound", &p, p.upper, KORALIMBU_RANGE_BOUND, KORALIMBU_REFUSED_BOUND);
+    p.upper[0] = KORALIMBU_RANGE_BOUND;
+    try_range("a lower bound", &p, p.lower, KORALIMBU_RANGE_BOUND, KORALIMBU_REFUSED_BOUND);
+    pose(&p, 1, 0);
+    p.lower[0] = 1;
+    p.goals[0] = KORALIMBU_RANGE_GOAL;
+    both("a goal", &p, KORALIMBU_ACCEPTED);
+    p.goals[0]++;
+    both("a goal beyond", &p, KORALIMBU_REFUSED_GOAL);
+    p.goals[0] = -1;
+    both("a goal below 0", &p, KORALIMBU_REFUSED_GOAL);
+}
+
+/* 1000 v(k) = v(k + 1). */
+static void pose_chain(struct posed *p, size_t n)
+{
+    size_t k;
+
+    pose(p, n, n - 1);
+    for (k = 0; k < n - 1; k++) {
+        p->coefficients[k * n + k] = KORALIMBU_RANGE_COEFFICIENT;
+        p->coefficients[k * n + k + 1] = -1;
+    }
+}
+
+/* What M bounds: the elimination, seating, and the list that Continue is lent. */
+static void try_m(void)
+{
+    static struct posed p;
+    size_t j;
+
+    pose_chain(&p, 4);
+    both("an elimination within M", &p, KORALIMBU_ACCEPTED);
+    pose_chain(&p, 5);
+    both("an elimination beyond M", &p, KORALIMBU_REFUSED_ELIMINATION);
+    pose_chain(&p, 3);
+    for (j = 0; j < 3; j++) {
+        p.lower[j] = 1;
+        p.upper[j] = KORALIMBU_RANGE_BOUND;
+    }
+    p.goals[0] = KORALIMBU_RANGE_GOAL;
+    assigned("seating beyond M", &p, KORALIMBU_REFUSED_SEATING, 0);
+    pose(&p, 1, 0);
+    p.limit = 0;
+    p.start[0] = KORALIMBU_M;
+    continued("a list at M", &p, KORALIMBU_ACCEPTED);
+    p.start[0]++;
+    continued("a list beyond M", &p, KORALIMBU_REFUSED_STANDING);
+    p.start[0] = -KORALIMBU_M;
+    continued("a list at -M", &p, KORALIMBU_ACCEPTED);
+    p.start[0]--;
+    continued("a list beyond -M", &p, KORALIMBU_REFUSED_STANDING);
+}
+
+static void try_verdicts(void)
+{
+    static struct posed p;
+
+    pose(&p, 2, 1);
+    p.coefficients[0] = 1;
+    p.coefficients[1] = -1;
+    p.lower[1] = 5;
+    assigned("v1 = v2", &p, KORALIMBU_ACCEPTED, KORALIMBU_FITTED);
+    p.limit = 3;
+    assigned("v1 = v2 in three steps", &p, KORALIMBU_ACCEPTED, KORALIMBU_SPENT);
+    p.limit = LIMIT;
+    p.upper[0] = 1;
+    assigned("v1 = v2 without a common value", &p, KORALIMBU_ACCEPTED, KORALIMBU_OUTSIDE);
+    pose(&p, 1, 1);
+    p.coefficients[0] = 2;
+    p.rights[0] = 1;
+    assigned("2 v = 1", &p, KORALIMBU_REFUSED_NONE, 0);
+}
+
+/* A report of another count is not written. */
+static void try_report(void)
+{
+    int64_t lower = 3, upper = 5, goals = 0, tableau = 0, values = 4;
+    uint64_t strides = 0;
+    uint32_t report[KORALIMBU_REPORT_COUNT + 1] = {MARK, MARK, MARK, MARK};
+    size_t count;
+
+    for (count = KORALIMBU_REPORT_COUNT - 1; count <= KORALIMBU_REPORT_COUNT + 1; count += 2) {
+        expect("a report of another count", koralimbu_assign(1, 0, LIMIT, NULL, 0, NULL, 0, &lower, 1, &upper, 1, &goals, 1,
+               &tableau, 1, &values, 1, &strides, 1, report, count), KORALIMBU_REFUSED_LENGTH);
+        check("what such a report is left as", report[0] == MARK && report[1] == MARK && report[2] == MARK);
+    }
+}
+
+/* ---------------------------------------------------------------- a deck's limits */
+
+/* A deck of equal curves and of rows that say nothing but their kind, and then spaces up to a count of bytes. */
+static void read_made(const char *what, size_t curves, size_t rows, int kind, size_t count, uint32_t wanted)
+{
+    static char text[TEXT + 1];
+    static struct deck d;
+    size_t k, end;
+
+    end = (size_t)sprintf(text, "%zu\n", curves);
+    for (k = 0; k < curves; k++)
+        end += (size_t)sprintf(text + end, "0 5 0\n");
+    end += (size_t)sprintf(text + end, "%zu\n", rows);
+    for (k = 0; k < rows; k++)
+        end += (size_t)sprintf(text + end, "%d 0 0\n", kind);
+    if (end < count)
+        memset(text + end, ' ', count - end);
+    read_text((const uint8_t *)text, end < count ? count : end, &d);
+    expect(what, d.number, wanted);
+}
+
+static void try_deck_limits(void)
+{
+    read_made("the longest text", 1, 0, 0, KORALIMBU_MOST_TEXT, KORALIMBU_ACCEPTED);
+    read_made("a text a byte too long", 1, 0, 0, KORALIMBU_MOST_TEXT + 1, KORALIMBU_REFUSED_LAYOUT);
+    read_made("the most curves", KORALIMBU_DECK_COLUMNS, 0, 0, 0, KORALIMBU_ACCEPTED);
+    read_made("a curve too many", KORALIMBU_DECK_COLUMNS + 1, 0, 0, 0, KORALIMBU_REFUSED_SIZE);
+    read_made("the most rows", 1, KORALIMBU_DECK_ROWS, 0, 0, KORALIMBU_ACCEPTED);
+    read_made("a row too many", 1, KORALIMBU_DECK_ROWS + 1, 0, 0, KORALIMBU_REFUSED_SIZE);
+    read_made("the most columns added", 1, KORALIMBU_DECK_COLUMNS - 1, 3, 0, KORALIMBU_ACCEPTED);
+    read_made("a column added too many", 1, KORALIMBU_DECK_COLUMNS, 3, 0, KORALIMBU_REFUSED_TERM);
+    reads("a deck's coefficient", "1\n3 5 0\n1\n0 0 1 1 1001\n", KORALIMBU_REFUSED_COEFFICIENT);
+    reads("a deck's bound", "1\n5 3 0\n0\n", KORALIMBU_REFUSED_BOUND);
+    reads("a deck's goal", "1\n0 5 1000\n0\n", KORALIMBU_REFUSED_GOAL);
+    reads("a deck's word", "1\n3 5 O\n0\n", KORALIMBU_REFUSED_LAYOUT);
+    reads("a deck's term", "1\n3 5 0\n1\n0 0 1 1 0\n", KORALIMBU_REFUSED_TERM);
+}
+
+static int are(const size_t *sizes, size_t n, size_t m, size_t curves)
+{
+    return sizes[0] == n && sizes[1] == m && sizes[2] == curves;
+}
+
+static void try_deck_sizes(void)
+{
+    static const char even[] = "3\n1 9 0\n1 9 0\n1 9 0\n3\n3 0 2 1 1 2 1\n0 0 2 1 1 3 -1\n3 0 1 3 1\n";
+    static struct deck d;
+    size_t sizes[KORALIMBU_SIZES_COUNT + 1] = {MARK, MARK, MARK, MARK}, count;
+
+    read_text((const uint8_t *)even, sizeof even - 1, &d);
+    expect("a deck with two even rows", d.number, KORALIMBU_ACCEPTED);
+    check("its three curves and two columns behind them", are(d.sizes, 5, 3, 3));
+    check("the columns that its even rows added", d.coefficients[3] == -2 && d.coefficients[2 * 5 + 4] == -2);
+    read_text((const uint8_t *)paving, sizeof paving - 1, &d);
+    check("the sizes of the paving deck", are(d.sizes, 4, 1, 3));
+    read_text((const uint8_t *)"x", 1, &d);
+    check("the sizes of a text that is refused", are(d.sizes, 0, 0, 0));
+    for (count = KORALIMBU_SIZES_COUNT - 1; count <= KORALIMBU_SIZES_COUNT + 1; count += 2) {
+        expect("sizes of another count", koralimbu_read((const uint8_t *)paving, sizeof paving - 1, d.coefficients,
+               KORALIMBU_DECK_COEFFICIENTS, d.rights, KORALIMBU_DECK_ROWS, d.lower, KORALIMBU_DECK_COLUMNS, d.upper,
+               KORALIMBU_DECK_COLUMNS, d.goals, KORALIMBU_DECK_COLUMNS, sizes, count), KORALIMBU_REFUSED_LENGTH);
+        check("what such sizes are left as", are(sizes, MARK, MARK, MARK));
+    }
+}
+
+/* ---------------------------------------------------------------- threads */
+
+/* What one thread does: all three calls, on a text and a problem that all threads read. */
+struct work {
+    const struct posed *posed;
+    size_t rounds;
+    struct answer assigned, continued;
+    struct deck deck;
+};
+
+static void *work(void *given)
+{
+    struct work *w = given;
+    size_t k;
+
+    for (k = 0; k < w->rounds; k++) {
+        read_text((const uint8_t *)paving, sizeof paving - 1, &w->deck);
+        settle(koralimbu_assign, w->posed, &w->assigned);
+        settle(koralimbu_continue, w->posed, &w->continued);
+    }
+    return NULL;
+}
+
+static int same(const struct work *a, const struct work *b)
+{
+    return memcmp(&a->assigned, &b->assigned, sizeof a->assigned) == 0
+           && memcmp(&a->continued, &b->continued, sizeof a->continued) == 0 && memcmp(&a->deck, &b->deck, sizeof a->deck) == 0;
+}
+
+/* The largest problem, of pairs v(2k) = v(2k + 1) whose bounds begin far from each other, so that it takes many steps. */
+static void pose_pairs(struct posed *p)
+{
+    size_t k, n = KORALIMBU_MOST_COLUMNS;
+
+    pose(p, n, KORALIMBU_MOST_ROWS);
+    for (k = 0; k + 1 < n; k += 2) {
+        p->coefficients[k / 2 * n + k] = 1;
+        p->coefficients[k / 2 * n + k + 1] = -1;
+        p->upper[k] = p->upper[k + 1] = 1000;
+        p->lower[k + 1] = 20 + (int64_t)k;
+    }
+}
+
+static void try_threads(const struct posed *p, const struct work *alone)
+{
+    static struct work works[THREADS];
+    pthread_t threads[THREADS];
+    size_t k, started;
+
+    for (started = 0; started < THREADS; started++) {
+        works[started].posed = p;
+        works[started].rounds = ROUNDS;
+        if (pthread_create(&threads[started], NULL, work, &works[started]) != 0)
+            break;
+    }
+    check("starting the threads", started == THREADS);
+    for (k = 0; k < started; k++) {
+        pthread_join(threads[k], NULL);
+        check("a thread's answers", same(&works[k], alone));
+    }
+}
+
+/* The calls on a stack of KORALIMBU_MOST_STACK bytes and of what a thread itself needs. */
+static void try_small_stack(const struct posed *p, const struct work *alone)
+{
+    static struct work small;
+    pthread_attr_t attributes;
+    pthread_t thread;
+    int started;
+
+    small.posed = p;
+    small.rounds = 1;
+    pthread_attr_init(&attributes);
+    started = pthread_attr_setstacksize(&attributes, KORALIMBU_MOST_STACK + (size_t)PTHREAD_STACK_MIN) == 0
+              && pthread_create(&thread, &attributes, work, &small) == 0;
+    check("starting a thread with a small stack", started);
+    if (started)
+        pthread_join(thread, NULL);
+    pthread_attr_destroy(&attributes);
+    check("the answers on a small stack", started && same(&small, alone));
+}
+
+int main(void)
+{
+    static struct posed pairs;
+    static struct work alone;
+
+    /* Whole lines, so that a call that crashes leaves what was found before it. */
+    setvbuf(stdout, NULL, _IOLBF, BUFSIZ);
+    expect("the version", koralimbu_version(), KORALIMBU_VERSION);
+    try_null_pointers();
+    try_sizes();
+    try_ranges();
+    try_m();
+    try_verdicts();
+    try_report();
+    try_deck_limits();
+    try_deck_sizes();
+    pose_pairs(&pairs);
+    alone.posed = &pairs;
+    alone.rounds = 1;
+    work(&alone);
+    expect("many steps", alone.assigned.number, KORALIMBU_ACCEPTED);
+    check("many steps towards the bounds", alone.assigned.report[1] > 1000 && alone.continued.report[1] > 1000);
+    try_threads(&pairs, &alone);
+    try_small_stack(&pairs, &alone);
+    printf("%d passed, %d failed\n", passed, failed);
+    return failed != 0;
+}

@@ -1,0 +1,87 @@
+//! The header `include/koralimbu.h`, the library and this package say the same.
+
+use std::collections::BTreeMap;
+
+use crate::calls::{verdict_of, REPORT_COUNT, SIZES_COUNT};
+use crate::{Refusal, Verdict};
+
+const HEADER: &str = include_str!("../../../include/koralimbu.h");
+
+/// The numbers that the header gives names, which stand here without their `KORALIMBU_`.
+fn defined() -> BTreeMap<&'static str, i64> {
+    let lines = HEADER.lines().filter_map(|line| line.strip_prefix("#define KORALIMBU_"));
+    lines
+        .filter_map(|line| line.split_once(' '))
+        .filter_map(|(name, number)| Some((name, number.parse().ok()?)))
+        .collect()
+}
+
+/// What this package has under the header's names of limits and counts. `stringify!` keeps a name and its number together.
+fn limits() -> BTreeMap<&'static str, i64> {
+    macro_rules! named {
+        ($($name:ident)*) => { [$((stringify!($name), i64::try_from(crate::limits::$name).unwrap())),*] };
+    }
+    let mut names = BTreeMap::from(named! {
+        MOST_COLUMNS MOST_ROWS MOST_COEFFICIENTS MOST_TABLEAU MOST_STEPS DECK_COLUMNS DECK_ROWS DECK_COEFFICIENTS MOST_TEXT
+        RANGE_COEFFICIENT RANGE_RIGHT RANGE_BOUND RANGE_GOAL M MOST_STACK
+    });
+    names.insert("REPORT_COUNT", REPORT_COUNT as i64);
+    names.insert("SIZES_COUNT", SIZES_COUNT as i64);
+    names
+}
+
+/// The header's names of refusals, in the order of their numbers.
+const REFUSED: [(&str, Refusal); 12] = [
+    ("REFUSED_SIZE", Refusal::Size),
+    ("REFUSED_LENGTH", Refusal::Length),
+    ("REFUSED_COEFFICIENT", Refusal::Coefficient),
+    ("REFUSED_BOUND", Refusal::Bound),
+    ("REFUSED_GOAL", Refusal::Goal),
+    ("REFUSED_LIMIT", Refusal::Limit),
+    ("REFUSED_ELIMINATION", Refusal::Elimination),
+    ("REFUSED_NONE", Refusal::NoWholeNumbers),
+    ("REFUSED_SEATING", Refusal::Seating),
+    ("REFUSED_STANDING", Refusal::Standing),
+    ("REFUSED_LAYOUT", Refusal::Layout),
+    ("REFUSED_TERM", Refusal::Term),
+];
+
+const VERDICTS: [(&str, Verdict); 3] =
+    [("FITTED", Verdict::Fitted), ("OUTSIDE", Verdict::Outside), ("SPENT", Verdict::Spent)];
+
+#[test]
+fn the_limits_are_the_headers() {
+    for (name, number) in limits() {
+        assert_eq!(defined().get(name), Some(&number), "{name}");
+    }
+}
+
+#[test]
+fn the_refusals_and_verdicts_are_the_headers() {
+    assert_eq!(defined()["ACCEPTED"], 0);
+    for (name, refusal) in REFUSED {
+        assert_eq!(defined().get(name), Some(&refusal.number().into()), "{name}");
+    }
+    for (name, verdict) in VERDICTS {
+        assert_eq!(verdict_of(defined()[name] as u32), Ok(verdict), "{name}");
+    }
+}
+
+#[test]
+fn the_version_is_the_headers_and_the_librarys() {
+    let [major, minor, patch] =
+        ["MAJOR", "MINOR", "PATCH"].map(|part| defined()[format!("VERSION_{part}").as_str()] as u32);
+    assert_eq!((major, minor, patch), crate::VERSION);
+    assert_eq!(crate::version(), crate::VERSION);
+}
+
+/// A name that the header gains is compared too, or this fails.
+#[test]
+fn every_name_of_the_header_is_compared() {
+    let mut names = defined();
+    names.retain(|name, _| !limits().contains_key(name) && !name.starts_with("VERSION_") && *name != "ACCEPTED");
+    for name in REFUSED.map(|(name, _)| name).iter().chain(&VERDICTS.map(|(name, _)| name)) {
+        names.remove(name);
+    }
+    assert_eq!(names, BTreeMap::new());
+}
