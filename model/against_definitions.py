@@ -14,15 +14,15 @@ import os
 import re
 import shutil
 import subprocess
-import sys
 from fractions import Fraction
 
+import needs
 import runs
 from engine import ratio
 from generate import problem_case, rng_for, text_case
 from listing import listing
+from needs import ROOT
 
-ROOT = os.path.dirname(os.path.dirname(os.path.abspath(__file__)))
 SCRATCH = os.path.join(ROOT, "target", "against")
 
 MOST_NUMBERS = 60
@@ -239,12 +239,13 @@ def write_crate(equations):
 
 
 def main(arguments):
-    counts = [int(word) for word in arguments] + [60, 60, 1, 20][len(arguments):]
+    counts = needs.numbers(arguments, [60, 60, 1, 20], __doc__)
+    rt = needs.rt()
     equations = some(problem_equation, counts[0], counts[2])
     equations += some(text_equation, counts[1], counts[2])
     equations += some(run_equation, counts[3], counts[2])
     write_crate(equations)
-    run = subprocess.run(["rt", "check", "cases"], cwd=SCRATCH, capture_output=True, text=True)
+    run = subprocess.run([rt, "check", "cases"], cwd=SCRATCH, capture_output=True, text=True)
     log = run.stdout + run.stderr
     bad = set(re.findall(r"error: `(case\d+)`", log))
     for name in sorted(bad, key=lambda name: int(name[4:])):
@@ -258,4 +259,4 @@ def main(arguments):
 
 
 if __name__ == "__main__":
-    sys.exit(main(sys.argv[1:]))
+    needs.tool(main)

@@ -19,8 +19,8 @@ The last line is 'N passed, M failed'.
 """
 
 import ctypes
-import sys
 
+import needs
 from boundary import Buffer, Tally, call, declare, load
 from engine import FITTED, OUTSIDE, SPENT, WRONG_LENGTH
 from generate import Case, problem_case, rng_for
@@ -120,9 +120,9 @@ def compare_runs(tally, functions, count, seed):
 
 
 def main(arguments):
-    count, seed, runs = [int(word) for word in arguments] + [4000, 1, 500][len(arguments):]
+    count, seed, runs = needs.numbers(arguments, [4000, 1, 500], __doc__)
     tally = Tally()
-    library = load()
+    library = load("the engine is not compared with the plain model")
     if library is None:
         return tally.end()
     functions = engine_functions(library)
@@ -145,4 +145,4 @@ def main(arguments):
 
 
 if __name__ == "__main__":
-    sys.exit(main(sys.argv[1:]))
+    needs.tool(main)

@@ -13,10 +13,10 @@ line is 'N passed, M failed'.
 
 import ctypes
 import os
-import shutil
 import subprocess
 import sys
 
+import needs
 from against_engine import NUMBERS, engine_functions
 from boundary import MOST_SHOWN, ROOT, Buffer, call, load, run
 from engine import ELIMINATION_BEYOND, MAX_COLUMNS, MAX_ROWS, NO_WHOLE_NUMBERS, SEATING_BEYOND
@@ -25,6 +25,7 @@ from generate import rng_for
 SOURCE = os.path.join(ROOT, "target", "against", "flint_form.c")
 SHARED = os.path.join(ROOT, "target", "against", "libflint_form.so")
 LIBRARIES = ["-lflint", "-lgmp"]
+WHAT = "the Hermite form is not compared with FLINT's"
 
 HEADERS = """
 #include <stddef.h>
@@ -59,13 +60,19 @@ size_t flint_differences(const int64_t *table, const int64_t *form, size_t rows,
 
 # ------------------------------------------------------------------------ FLINT
 
-def has_flint(compiler):
-    """Whether a program with FLINT's headers compiles and links."""
-    program = HEADERS + "int main(void) { fmpz_mat_t a; fmpz_mat_init(a, 1, 1); return 0; }\n"
+def links(compiler, program, libraries):
+    """Whether a program compiles and links."""
     os.makedirs(os.path.dirname(SHARED), exist_ok=True)
-    done = subprocess.run([compiler, "-x", "c", "-", "-o", SHARED + ".probe"] + LIBRARIES, input=program,
+    done = subprocess.run([compiler, "-x", "c", "-", "-o", SHARED + ".probe"] + libraries, input=program,
                           text=True, stdout=subprocess.DEVNULL, stderr=subprocess.DEVNULL)
     return done.returncode == 0
+
+
+def has_flint(compiler):
+    """Whether a program with FLINT's headers links. Where none does, it is not FLINT that is missing."""
+    if not links(compiler, "int main(void) { return 0; }\n", []):
+        sys.exit("the C compiler %s links no program" % compiler)
+    return links(compiler, HEADERS + "int main(void) { fmpz_mat_t a; fmpz_mat_init(a, 1, 1); return 0; }\n", LIBRARIES)
 
 
 def build_flint(compiler):
@@ -171,14 +178,14 @@ def table_of(n, rows):
 
 
 def main(arguments):
-    count, seed = [int(word) for word in arguments] + [4000, 1][len(arguments):]
-    compiler = shutil.which("cc") or shutil.which("gcc") or shutil.which("clang")
+    count, seed = needs.numbers(arguments, [4000, 1], __doc__)
+    compiler = needs.compiler()
     if compiler is None or not has_flint(compiler):
-        print("no C compiler or no FLINT with its headers: nothing is compared")
+        needs.left_out(WHAT, "no FLINT with its headers" if compiler else "no C compiler")
         print("0 passed, 0 failed")
         return 0
     flint_differences = build_flint(compiler)
-    assign = engine_functions(load())["assign"]
+    assign = engine_functions(load(WHAT))["assign"]
     passed = failed = 0
     numbers = {}
     for number in range(1, count + 1):
@@ -205,4 +212,4 @@ def main(arguments):
 
 
 if __name__ == "__main__":
-    sys.exit(main(sys.argv[1:]))
+    needs.tool(main)

@@ -5,8 +5,9 @@
 Builds the program, and runs it on document 01's deck cases, the sample decks, texts
 at and past the longest, and COUNT texts of generate.py: as laid out, damaged,
 truncated and binary. Each listing must be the expected one or the model's, and the
-program must end with status 0 and write nothing else. The last line is
-'N passed, M failed'.
+program must end with status 0 and write nothing else. Then it is tried at its edges
+(edges.py): standard files that cannot be read or written, a terminal, an argument,
+texts that come in pieces. The last line is 'N passed, M failed'.
 """
 
 import glob
@@ -14,11 +15,13 @@ import os
 import subprocess
 import sys
 
+import edges
+import needs
 from generate import rng_for, text_case
 from listing import listing
+from needs import ROOT
 from text import MAX_TEXT
 
-ROOT = os.path.dirname(os.path.dirname(os.path.abspath(__file__)))
 PROGRAM = os.path.join(ROOT, "target", "bin", "listing")
 MOST_SHOWN = 5
 
@@ -81,23 +84,31 @@ def cases(count, seed):
             yield "text %d of seed %d, cut short" % (number, seed), data, listing(data)
 
 
-def main(arguments):
-    count, seed = [int(word) for word in arguments] + [2000, 1][len(arguments):]
-    if subprocess.run(["rt", "check", "listing"], cwd=ROOT, stdout=subprocess.DEVNULL).returncode != 0:
-        sys.exit("rt check listing failed")
-    passed = failed = 0
+def listed(count, seed):
+    """What a case is, how the program ended on it and how it is to end: its status,
+    what it printed and what it said."""
     for what, data, wanted in cases(count, seed):
         done = subprocess.run([PROGRAM], input=data, stdout=subprocess.PIPE, stderr=subprocess.PIPE)
-        if (done.returncode, done.stdout, done.stderr) == (0, wanted, b""):
+        yield what, (done.returncode, done.stdout, done.stderr), (0, wanted, b"")
+    yield from edges.edges(PROGRAM)
+
+
+def main(arguments):
+    count, seed = needs.numbers(arguments, [2000, 1], __doc__)
+    if subprocess.run([needs.rt(), "check", "listing"], cwd=ROOT, stdout=subprocess.DEVNULL).returncode != 0:
+        sys.exit("rt check listing failed")
+    needs.built(PROGRAM, "rt check listing")
+    passed = failed = 0
+    for what, got, wanted in listed(count, seed):
+        if got == wanted:
             passed += 1
             continue
         failed += 1
         if failed <= MOST_SHOWN:
-            print("%s: status %d, printed %r, wanted %r, said %r"
-                  % (what, done.returncode, done.stdout[:300], wanted[:300], done.stderr[:300]))
+            print("%s: status, output, error output %.600r, wanted %.600r" % (what, got, wanted))
     print("%d passed, %d failed" % (passed, failed))
     return 1 if failed else 0
 
 
 if __name__ == "__main__":
-    sys.exit(main(sys.argv[1:]))
+    needs.tool(main)

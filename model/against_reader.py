@@ -13,8 +13,8 @@ the header says, and must give that listing. The last line is 'N passed, M faile
 """
 
 import ctypes
-import sys
 
+import needs
 from against_engine import VERDICTS, engine_call, engine_functions
 from against_listing import DECK_CASES, long_texts, samples
 from boundary import Buffer, Tally, call, declare, load
@@ -136,9 +136,9 @@ def cases(count, seed):
 
 
 def main(arguments):
-    count, seed = [int(word) for word in arguments] + [4000, 1][len(arguments):]
+    count, seed = needs.numbers(arguments, [4000, 1], __doc__)
     tally = Tally()
-    library = load()
+    library = load("the reader is not compared with the plain model")
     if library is None:
         return tally.end()
     reader = declare(library.koralimbu_read, [], 7)
@@ -155,4 +155,4 @@ def main(arguments):
 
 
 if __name__ == "__main__":
-    sys.exit(main(sys.argv[1:]))
+    needs.tool(main)

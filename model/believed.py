@@ -10,7 +10,8 @@ import os
 import re
 import sys
 
-ROOT = os.path.dirname(os.path.dirname(os.path.abspath(__file__)))
+import needs
+from needs import ROOT
 
 # The files of code whose public functions are the entry points.
 ENTRIES = ["engine/src/lib.rt", "deck/src/lib.rt", "solve/src/lib.rt", "koralimbu/src/lib.rt", "koralimbu/src/reading.rt", "koralimbu/src/version.rt"]
@@ -119,9 +120,11 @@ def believed():
         text, names, modules = contracts(path)
         todo |= cited(text, path, names, modules, files)
     for path, names in STATEMENTS.items():
+        if path not in files:
+            sys.exit(f"crates/{path} is not there")
         for name in names if names is not None else files[path][0]:
             if name not in files[path][0]:
-                sys.exit(f"{path} has no {name}")
+                sys.exit(f"crates/{path} has no {name}")
             todo.add((path, name))
     seen = set()
     while todo:
@@ -134,16 +137,16 @@ def believed():
     return files, seen
 
 
-def main():
+def main(arguments):
     files, seen = believed()
     total = 0
     for path in sorted({path for path, _ in seen}):
         names = [name for name in files[path][0] if (path, name) in seen]
         count = sum(len(files[path][0][name]) for name in names)
         total += count
-        if "--check" not in sys.argv:
+        if "--check" not in arguments:
             print(f"{count:4} {path}: {' '.join(names)}")
-    if "--check" not in sys.argv:
+    if "--check" not in arguments:
         print(f"{total} lines")
         return 0
     told = re.search(r"([\d,]+) lines of definitions", open(f"{ROOT}/docs/ARCHITECTURE.md", encoding="utf-8").read())
@@ -155,4 +158,4 @@ def main():
 
 
 if __name__ == "__main__":
-    sys.exit(main())
+    needs.tool(main)

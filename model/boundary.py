@@ -7,11 +7,12 @@ what every buffer then holds, Tally counts the calls that agree with the model.
 
 import ctypes
 import os
-import shutil
 import subprocess
 import sys
 
-ROOT = os.path.dirname(os.path.dirname(os.path.abspath(__file__)))
+import needs
+from needs import ROOT
+
 ARCHIVE = os.path.join(ROOT, "target", "staticlib", "libkoralimbu.a")
 SHARED = os.path.join(ROOT, "target", "against", "libkoralimbu.so")
 
@@ -28,19 +29,21 @@ def run(*command):
     done = subprocess.run(command, cwd=ROOT, text=True, stdout=subprocess.PIPE,
                           stderr=subprocess.STDOUT)
     if done.returncode != 0:
-        sys.exit("%s\n%s: exit status %d"
-                 % (done.stdout[-4000:], " ".join(command), done.returncode))
+        sys.exit(("%s\n%s: exit status %d"
+                  % (done.stdout[-4000:], " ".join(command), done.returncode)).lstrip())
 
 
-def load():
-    """Proves, compiles and loads the library; None where there is no C compiler."""
-    compiler = shutil.which("cc") or shutil.which("gcc") or shutil.which("clang")
+def load(what):
+    """Proves, compiles and loads the library; None where there is no C compiler, and
+    then it says what is left out."""
+    compiler = needs.compiler()
     if compiler is None:
-        print("no C compiler: nothing is compared")
+        needs.left_out(what, "no C compiler")
         return None
     # The gate builds the library once and says so.
     if not os.environ.get("LIBRARY_BUILT"):
-        run("rt", "staticlib", "koralimbu")
+        run(needs.rt(), "staticlib", "koralimbu")
+    needs.built(ARCHIVE, "rt staticlib koralimbu")
     os.makedirs(os.path.dirname(SHARED), exist_ok=True)
     run(compiler, "-shared", "-o", SHARED, "-Wl,--whole-archive", ARCHIVE,
         "-Wl,--no-whole-archive")

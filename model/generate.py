@@ -33,6 +33,7 @@ import os
 import random
 import sys
 
+import needs
 from engine import (M, MAX_BOUND, MAX_COEFFICIENT, MAX_COLUMNS, MAX_GOAL, MAX_LIMIT,
                     MAX_RIGHT, MAX_ROWS, Lent, Problem, assign, cont)
 from listing import listing
@@ -738,13 +739,14 @@ def write_texts(count, seed, folder):
 
 
 def main(arguments):
-    if len(arguments) == 3 and arguments[0] == "problems":
-        print_problems(int(arguments[1]), int(arguments[2]))
-    elif len(arguments) == 4 and arguments[0] == "texts":
-        write_texts(int(arguments[1]), int(arguments[2]), arguments[3])
+    counts = [int(word) for word in arguments[1:3] if word.isascii() and word.isdigit()]
+    if len(arguments) == 3 and arguments[0] == "problems" and len(counts) == 2:
+        print_problems(*counts)
+    elif len(arguments) == 4 and arguments[0] == "texts" and len(counts) == 2:
+        write_texts(*counts, arguments[3])
     else:
         sys.exit(__doc__)
 
 
 if __name__ == "__main__":
-    main(sys.argv[1:])
+    needs.tool(main)

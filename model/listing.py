@@ -58,9 +58,18 @@ def listing(data):
 
 
 def main():
-    # One byte past the limit is enough to know that a text is too long.
-    data = sys.stdin.buffer.read(MAX_TEXT + 1)
-    sys.stdout.buffer.write(listing(data))
+    # By their numbers, since Python has no sys.stdin or sys.stdout for a closed one.
+    try:
+        with open(0, "rb", closefd=False) as file:
+            # One byte past the limit is enough to know that a text is too long.
+            data = file.read(MAX_TEXT + 1)
+    except OSError as refused:
+        sys.exit("listing: standard input: " + refused.strerror)
+    try:
+        with open(1, "wb", closefd=False) as file:
+            file.write(listing(data))
+    except OSError as refused:
+        sys.exit("listing: standard output: " + refused.strerror)
 
 
 if __name__ == "__main__":

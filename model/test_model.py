@@ -1,18 +1,19 @@
 """Tests of the plain model: python3 model/test_model.py
 
 Runs every deck case of document 01, every row of its table of refusals, the close
-readings one by one, properties of random problems, and the sample decks; each room has
-its file in tests/. The last line printed is “N passed, M failed”, counted in single
-checks.
+readings one by one, properties of random problems, the sample decks, and what the page
+beside them says of verdicts; each room has its file in tests/. The last line printed is
+“N passed, M failed”, counted in single checks.
 """
 
 import sys
 import traceback
 
 from tests import (calls, cases, form, generator, listings, reader, refusals, settling,
-                   steps, tools)
+                   steps, tools, words)
 
-ROOMS = [cases, refusals, reader, calls, form, settling, steps, generator, listings]
+ROOMS = [cases, refusals, reader, calls, form, settling, steps, generator, listings,
+         words]
 
 
 def main():
@@ -20,6 +21,10 @@ def main():
         for function in tools.tests_of(room.__name__):
             try:
                 function()
+            except OSError as refused:
+                # a file or a command that is missing: its name says it all
+                tools.COUNTS["failed"] += 1
+                print("FAILED %s: it stopped: %s" % (function.__name__, refused))
             except Exception:
                 tools.COUNTS["failed"] += 1
                 print("FAILED %s: it stopped" % function.__name__)

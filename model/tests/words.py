@@ -1,0 +1,148 @@
+"""What decks/README.md says of OUTSIDE and FITTED, held to the sample decks.
+
+Both words say that no single vector of the basis and no pair of them improves. That no
+list within the bounds exists, or no better one, they do not say; here all are tried.
+"""
+
+import itertools
+import os
+import re
+
+import engine
+import listing
+import runs
+import text
+from engine import FITTED, OUTSIDE
+from tests.listings import DECKS
+from tests.tools import check, solve, test
+
+NEITHER = "no single vector of the basis and no pair of them improves"
+
+
+def paragraph(name):
+    """What the page says of a sample deck, on one line."""
+    with open(os.path.join(DECKS, "README.md"), encoding="utf-8") as file:
+        found = re.search(r"^\*\*%s\*\* .*?(?=\n\n|\Z)" % name, file.read(), re.M | re.S)
+    return " ".join(found.group().split())
+
+
+def lists_named(said):
+    """The lists that a paragraph names: first the listing's, then the better one."""
+    return [[int(word) for word in found.split()]
+            for found in re.findall(r"`(\d+(?: \d+)+)`", said)]
+
+
+def sample(name):
+    """A sample deck's problem and its count of curves."""
+    with open(os.path.join(DECKS, name + ".txt"), "rb") as file:
+        data = file.read()
+    return listing.problem_of(text.read(data)), int(data.split()[0])
+
+
+def basis(problem):
+    table = engine.fill(problem)
+    return engine.basis_of(table, engine.bring_to_form(table), problem.m)
+
+
+def lists_within(problem, curves):
+    """Every list within the bounds that satisfies the rows: all intervals are tried, and
+    a row's y is what the row leaves for it."""
+    ranges = [range(low, high + 1) for low, high in zip(problem.lower, problem.upper)]
+    found = []
+    for tried in itertools.product(*ranges[:curves]):
+        values = list(tried)
+        for i in range(problem.m):
+            row = problem.coefficients[i * problem.n:(i + 1) * problem.n]
+            y = len(values)
+            if y < problem.n and row[y] != 0:
+                rest = problem.rights[i] - sum(a * v for a, v in zip(row, values))
+                values.append(rest // row[y])
+        if engine.satisfies_rows(problem, values) and not any(runs.distances(problem, values)):
+            found.append(values)
+    return found
+
+
+def improved_columns(problem, values, move):
+    """The columns that a move improves, by the rule of the part that the list is in."""
+    changes = [(j, change) for j, change in enumerate(move) if change != 0]
+    if runs.part_of(problem, values) == runs.BOUNDS:
+        return [i for i in engine.rank_by_distance(problem, values) if move[i] != 0
+                and engine.improves_bounds(problem, values, changes,
+                                           engine.distance(problem, i, values[i]))]
+    return [i for i in engine.rank_by_ratio(problem, values) if move[i] != 0
+            and engine.improves_goals(problem, values, changes,
+                                      engine.ratio(problem.goals[i], values[i]))]
+
+
+def check_no_move(name, verdict):
+    """The verdict, the list that the page names, and that no move improves it."""
+    problem, _ = sample(name)
+    said = paragraph(name)
+    (outcome, _, _), lent = solve(problem)
+    check(name + ": the verdict", outcome, verdict)
+    check(name + ": the page has the verdict", verdict in said, True)
+    check(name + ": the page tells what it means", NEITHER in said.lower(), True)
+    for move in engine.moves_in_order(basis(problem)):
+        check("%s: the move %s improves" % (name, move),
+              improved_columns(problem, lent.values, move), [])
+    return problem, lent.values
+
+
+def check_better(name, verdict, first_times, second_times):
+    """A sample deck whose listing leaves out a list that the page names, so many times
+    the first and the second vector of the basis away. All lists within the bounds."""
+    problem, values = check_no_move(name, verdict)
+    listed, better = lists_named(paragraph(name))
+    check(name + ": the listing's list", values, listed)
+    check(name + ": the other satisfies the rows", engine.satisfies_rows(problem, better), True)
+    check(name + ": the other is in bounds", runs.distances(problem, better), [0] * problem.n)
+    first, second = basis(problem)[:2]
+    check(name + ": the way there", better,
+          [v + first_times * a + second_times * b for v, a, b in zip(values, first, second)])
+    return problem, listed, better, lists_within(*sample(name))
+
+
+@test
+def outside_and_a_list_fits():
+    _, _, better, fitting = check_better("missed-fit", OUTSIDE, -2, 1)
+    check("missed-fit: the lists within the bounds", fitting, [better])
+
+
+@test
+def fitted_and_a_better_list():
+    name = "missed-better"
+    problem, listed, better, fitting = check_better(name, FITTED, -3, 2)
+    said = paragraph(name)
+    worst = runs.ratios(problem, listed)[0]
+    least = runs.ratios(problem, better)[0]
+    check(name + ": a better worst ratio", least < worst, True)
+    check(name + ": the page's ratios",
+          re.findall(r"worst ratio(?: is|,) (\d+\.\d+)", said), ["%g" % worst, "%g" % least])
+    check(name + ": lists within the bounds", len(fitting),
+          int(re.search(r"the (\d+) lists", said).group(1)))
+    of_least = [values for values in fitting if runs.ratios(problem, values)[0] == least]
+    check(name + ": five have the least", len(of_least), 5)
+    check(name + ": they differ in curve 3 alone",
+          len({(v1, v2, v4) for v1, v2, _, v4 in of_least}), 1)
+    check(name + ": none is better",
+          min(fitting, key=lambda values: runs.ratios(problem, values)), better)
+
+
+@test
+def outside_and_no_list_fits():
+    problem, _ = check_no_move("bounds-conflict", OUTSIDE)
+    check("bounds-conflict: whole numbers satisfy the rows",
+          engine.satisfies_rows(problem, solve(problem)[1].values), True)
+    check("bounds-conflict: none within the bounds", lists_within(*sample("bounds-conflict")), [])
+
+
+@test
+def words_lists_within():
+    """What the trying must see: lists with a y of each kind."""
+    for kind, number, wanted in (
+            (text.AT_LEAST, 3, [[1, 2, 0], [2, 1, 0], [2, 2, 1]]),
+            (text.AT_MOST, 3, [[1, 1, 1], [1, 2, 0], [2, 1, 0]]),
+            (text.EVEN, 2, [[2, 2, 2]])):
+        data = b"2 1 2 0 1 2 0 1 %d %d 2 1 1 2 1" % (kind, number)
+        problem = listing.problem_of(text.read(data))
+        check("lists within, kind %d" % kind, lists_within(problem, 2), wanted)
