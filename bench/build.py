@@ -1,7 +1,7 @@
 """Builds the timing program under target/bench/, with whatever is found.
 
 A missing library or tool is told in a line and left out; only the proved engine's
-archive and a C++ compiler must be there.
+archive, or rt to make it, and a C++ compiler must be there.
 """
 
 import os
@@ -50,15 +50,16 @@ def compiles(header, libraries):
                           stderr=subprocess.DEVNULL).returncode == 0
 
 
-def build_archive():
-    """The proved engine. What is proved already is not proved again."""
+def build_proved():
+    """The proved engine and the listing program. What is proved already is not proved again."""
     if shutil.which("rt"):
         say("proving and compiling the engine (minutes where nothing was proved before)")
         run(["rt", "staticlib", "koralimbu"])
+        run(["rt", "check", "listing"])
     elif os.path.exists(ARCHIVE):
-        say("no rt: the archive is taken as it lies in target/staticlib")
+        say("no rt: the archive and the listing program are taken as they lie in target/")
     else:
-        sys.exit("no rt, and no target/staticlib/libkoralimbu.a")
+        sys.exit("no rt, and no target/staticlib/libkoralimbu.a: there is no engine to time")
 
 
 def build_engines():
@@ -87,8 +88,8 @@ def build():
     """Builds all; returns whether callgrind can be told where a call ends."""
     os.makedirs(TARGET, exist_ok=True)
     if not shutil.which(COMPILER[0]):
-        sys.exit("no " + COMPILER[0])
-    build_archive()
+        sys.exit("no %s: the timing program cannot be compiled" % COMPILER[0])
+    build_proved()
     sources = [os.path.join(BENCH, "program", name + ".cpp")
                for name in ("main", "engines", "times", "counts", "stack")]
     defines, libraries = [], []

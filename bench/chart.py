@@ -2,9 +2,10 @@
 
 import math
 
-WIDTH, HEIGHT = 810, 470
-LEFT, RIGHT, TOP, BOTTOM = 70, 590, 50, 420
+WIDTH, HEIGHT = 830, 516
+LEFT, RIGHT, TOP, BOTTOM = 90, 610, 50, 420
 LABEL_GAP = 15
+NOTE_GAP = 18
 
 
 def decades(times):
@@ -35,13 +36,21 @@ def duration(power):
     return "%g µs" % 10 ** power
 
 
-def axes(scale, columns):
+def time_axis(scale):
+    """A line and a name for each power of ten, and what the axis is."""
     lines = []
     for power in range(scale.low, scale.high + 1):
         y = scale.y(10.0 ** power)
         lines.append('<path d="M%d %.1f H%d" stroke="#dddddd"/>' % (LEFT, y, RIGHT))
         lines.append('<text x="%d" y="%.1f" text-anchor="end">%s</text>'
                      % (LEFT - 8, y + 4, duration(power)))
+    lines.append('<text transform="translate(20 %d) rotate(-90)" text-anchor="middle">'
+                 'time of one call, log scale</text>' % ((TOP + BOTTOM) / 2))
+    return lines
+
+
+def column_axis(scale, columns):
+    lines = []
     for count in columns:
         lines.append('<text x="%.1f" y="%d" text-anchor="middle">%d</text>'
                      % (scale.x(count), BOTTOM + 20, count))
@@ -74,8 +83,14 @@ def labels(scale, series):
     return lines
 
 
-def draw(title, series):
-    """The plot of series (name, [(columns, microseconds)], colour, dashed)."""
+def below(notes):
+    """Lines on what the names mean, below the axis."""
+    return ['<text x="%d" y="%d" font-size="12">%s</text>'
+            % (LEFT, BOTTOM + 68 + i * NOTE_GAP, note) for i, note in enumerate(notes)]
+
+
+def draw(title, series, notes):
+    """The plot of series (name, [(columns, microseconds)], colour, dashed), with notes below it."""
     series = [one for one in series if one[1]]
     columns = sorted({count for _, points, _, _ in series for count, _ in points})
     scale = Scale(columns, [time for _, points, _, _ in series for _, time in points])
@@ -84,8 +99,8 @@ def draw(title, series):
              "<title>%s</title>" % title,
              '<rect width="%d" height="%d" fill="#ffffff"/>' % (WIDTH, HEIGHT),
              '<text x="%d" y="28" font-size="15">%s</text>' % (LEFT, title)]
-    lines += axes(scale, columns)
+    lines += time_axis(scale) + column_axis(scale, columns)
     for _, points, colour, dashed in series:
         lines += line(scale, points, colour, dashed)
-    lines += labels(scale, series)
+    lines += labels(scale, series) + below(notes)
     return "\n".join(lines + ["</svg>"]) + "\n"

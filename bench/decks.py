@@ -370,7 +370,7 @@ def make(family, n, seed):
 
 
 def main(words):
-    if len(words) != 3 or words[0] not in FAMILIES:
+    if len(words) != 3 or words[0] not in FAMILIES or not all(map(str.isdecimal, words[1:])):
         sys.exit("usage: decks.py FAMILY N SEED, with a family of: " + " ".join(FAMILIES))
     deck = make(words[0], int(words[1]), int(words[2]))
     if deck is None:

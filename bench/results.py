@@ -170,19 +170,27 @@ def targets(results):
 
 # -------------------------------------------------------------------- the plot
 
-SERIES = [("GLPK, largest", "glpk largest", "#8a5a00", True),
+SERIES = [("lp_solve, largest", "lpsolve largest", "#c2185b", True),
+          ("GLPK, largest", "glpk largest", "#8a5a00", True),
           ("plain engine", "plain", "#777777", False),
           ("FLINT, form", "flint form", "#b02a2a", True),
           ("PARI, form", "pari form", "#7a3fa0", True),
-          ("Koralimbu", "ours", "#0b5cad", False),
           ("tuned engine", "tuned", "#2c8a3d", False),
+          ("Koralimbu", "ours", "#0b5cad", False),
           ("Koralimbu, form (at most)", "ours form", "#0b5cad", True)]
+PLOT_TITLE = "Mixed decks: time of one call"
+PLOT_NOTES = ["solid: whole assignments; form: the Hermite form alone",
+              "largest: an integer program of the deck, for the least largest |v − g| / g"
+              " (v intervals, g goal)"]
 
 
 def series(results):
-    """The plot's lines: times of the mixed decks by their columns."""
+    """The plot's lines: times of the mixed decks by their columns.
+
+    What was cut off or is wrong has no point.
+    """
     mixed = sorted((r for r in results
                     if r.name.startswith(PLOTTED) and r.name.endswith(PLOTTED_SEED)),
                    key=lambda r: r.n)
-    return [(label, [(r.n, r.times[name]) for r in mixed if name in r.times], colour, dashed)
-            for label, name, colour, dashed in SERIES]
+    return [(label, [(r.n, r.times[name]) for r in mixed if name in r.times and not r.notes[name]],
+             colour, dashed) for label, name, colour, dashed in SERIES]

@@ -10,6 +10,7 @@ is compared with ours on every deck before it is timed. docs/PERFORMANCE.md says
 what is timed and how.
 """
 
+import ctypes
 import glob
 import os
 import re
@@ -36,6 +37,10 @@ START, END = "<!-- results: written by bench/run.py --write -->", "<!-- end of r
 # The listing program's step limit.
 LIMIT = 10000
 ROUNDS, QUICK_ROUNDS = 9, 3
+# How often the listing program is started for its memory.
+STARTS = 9
+# Numbers of ptrace: trace a running program, let it go, and stop it where it exits.
+SEIZE, DETACH, STOP_AT_EXIT = 0x4206, 17, 0x40
 
 SIZES = (8, 16, 24, 32, 48)
 RADISH_SIZES = (2, 8, 16, 48)
@@ -137,23 +142,51 @@ def add_counts(measured, paths):
                          if deck == result.name and count > 0}
 
 
-def peak_of_listing(deck):
-    """The listing program's most resident memory in KiB; None where it is not built."""
+def peak_of_start(words):
+    """The listing program's most resident memory in KiB; None where it cannot be traced.
+
+    wait4 would tell that of this Python, which the child still is when exec is called. So the
+    program is stopped at its exit, where the peak of its own memory can still be read.
+    """
+    ptrace = ctypes.CDLL(None).ptrace
+    child = subprocess.Popen([LISTING], stdin=subprocess.PIPE, stdout=subprocess.DEVNULL)
+    # It waits for its text, and so is traced before it can exit.
+    traced = ptrace(SEIZE, child.pid, None, ctypes.c_void_p(STOP_AT_EXIT)) == 0
+    child.stdin.write(words)
+    child.stdin.close()
+    peak = None
+    if traced:
+        os.waitpid(child.pid, 0)
+        with open("/proc/%d/status" % child.pid) as file:
+            peak = int(re.search(r"^VmHWM:\s+(\d+) kB$", file.read(), re.M).group(1))
+        ptrace(DETACH, child.pid, None, None)
+    child.wait()
+    return peak
+
+
+def peaks_of_listing(deck):
+    """The peaks of some starts, least first; empty where they cannot be measured."""
     if not os.path.exists(LISTING):
-        return None
-    with open(os.path.join(DECKS, deck + ".txt")) as file:
-        child = subprocess.Popen([LISTING], stdin=file, stdout=subprocess.DEVNULL)
-        _, _, usage = os.wait4(child.pid, 0)
-    return usage.ru_maxrss
+        build.say("no target/bin/listing: its memory is left out")
+        return []
+    with open(os.path.join(DECKS, deck + ".txt"), "rb") as file:
+        words = file.read()
+    peaks = [peak_of_start(words) for _ in range(STARTS)]
+    if None in peaks:
+        build.say("no ptrace: the listing program's memory is left out")
+        return []
+    return sorted(peaks)
 
 
 # -------------------------------------------------------------------- reporting
 
 def first_line(*command):
-    """The first line that a tool says of itself, or nothing."""
+    """The first line that a tool says of itself; None where it is not there or says nothing."""
     if not shutil.which(command[0]):
         return None
-    return build.run(list(command)).splitlines()[0]
+    said = subprocess.run(command, cwd=ROOT, text=True, stdout=subprocess.PIPE,
+                          stderr=subprocess.DEVNULL)
+    return said.stdout.partition("\n")[0] or None
 
 
 def machine():
@@ -173,9 +206,10 @@ def memory(deck):
               program("stack", os.path.join(DECKS, deck + ".numbers"))}
     words = "Memory on {}: one call takes {:,} bytes of stack beside the lent buffers".format(
         deck, stacks["ours"])
-    peak = peak_of_listing(deck)
-    if peak is not None:
-        words += "; the listing program's peak is {:,} KiB resident".format(peak)
+    peaks = peaks_of_listing(deck)
+    if peaks:
+        words += ("; the listing program's peak is {:,} KiB resident, the median of {} starts"
+                  " ({:,} to {:,})").format(peaks[STARTS // 2], STARTS, peaks[0], peaks[-1])
     return words + "."
 
 
@@ -208,7 +242,7 @@ def main(options):
         else:
             build.say("no valgrind: no instruction counts")
     words = report(measured)
-    plot = chart.draw("Mixed decks: time of one call", results.series(measured))
+    plot = chart.draw(results.PLOT_TITLE, results.series(measured), results.PLOT_NOTES)
     write(os.path.join(build.TARGET, "results.md"), words)
     write(os.path.join(build.TARGET, "growth.svg"), plot)
     print(words, end="")

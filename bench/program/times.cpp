@@ -35,7 +35,7 @@ struct Entry {
         return (now() - start) / calls;
     }
 
-    // The first call, which is checked and tells how many calls a round has.
+    // The first call, which is checked; then as many calls to a round as make it long enough. The first call is too slow to tell.
     void first(const Answer &ours) {
         double time = measure();
         note = work->note(ours);
@@ -44,7 +44,9 @@ struct Entry {
             calls = 0;
             return;
         }
-        calls = 1 + ROUND_MICROSECONDS / time;
+        while (measure() * calls < ROUND_MICROSECONDS) {
+            calls *= 2;
+        }
     }
 
     double median() {
