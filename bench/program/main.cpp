@@ -43,7 +43,7 @@ static Deck read_deck(const std::string &path) {
     deck.lower = numbers(file, deck.n);
     deck.upper = numbers(file, deck.n);
     deck.goals = numbers(file, deck.n);
-    // A buffer's pointer is never null, even where its count is 0.
+    // The engines in Rust make slices of these, whose pointers are never null.
     deck.coefficients.reserve(1);
     deck.rights.reserve(1);
     if (!file) {
