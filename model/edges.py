@@ -1,8 +1,8 @@
 """The listing program at its edges: what its three standard files may be, and how it ends then.
 
 Standard output has the listing of the text read whole from standard input, and nothing else. A text that cannot be
-read, one that stops within a word, a listing that cannot be written, an argument and a terminal are told on standard
-error, each in one line. The language has no exit status of its own, so that it is 0 always.
+read, a listing that cannot be written, an argument and a terminal are told on standard error, each in one line. The
+language has no exit status of its own, so that it is 0 always.
 
 edges(program) yields what is tried, how it ended and how it is to end: the exit status, the bytes of standard output
 and those of standard error, and where there is more to see, that too.
@@ -31,7 +31,6 @@ FULL = "/dev/full"
 SECONDS = 30
 AT_ONCE = 10
 USAGE = b"usage: listing < DECK"
-CUT = b"listing: the text does not end with a line end; was it cut?\n"
 REFUSED = b"REFUSED 11\n"
 END_OF_FILE = b"\x04"
 # Writes what it is given and is killed.
@@ -85,16 +84,11 @@ def line(file, number):
     return b"listing: standard %s: %s\n" % (file, os.strerror(number).encode())
 
 
-def asked(data):
-    """What is asked of a text that stops within a word."""
-    return CUT if data and data[-1:] not in b" \n" else b""
-
-
 def with_usage(end):
-    """The end of a run; where it said the usage line first, that is cut to the words that it opens with."""
+    """The end of a run; where it said the usage line and nothing else, as the words that this opens with."""
     status, out, err = end
-    first, _, rest = err.partition(b"\n")
-    return status, out, USAGE + rest if first.startswith(USAGE) else err
+    alone = err.startswith(USAGE) and err.endswith(b"\n") and err.count(b"\n") == 1
+    return status, out, USAGE if alone else err
 
 
 # ------------------------------------------------------------------ standard input
@@ -174,14 +168,14 @@ def dying(program):
         end = run(program, stdin=writer.stdout)
         writer.stdout.close()
         killed = writer.wait() == -signal.SIGKILL
-        yield ("the writer is killed after %d bytes" % len(data), end + (killed,), (0, listing(data), asked(data), True))
+        yield ("the writer is killed after %d bytes" % len(data), end + (killed,), (0, listing(data), b"", True))
 
 
 def unended(program):
-    """A text without a last line end may be meant so: it is listed, and the program asks."""
+    """Document 01 lets a text end without a line end: it is listed like any other."""
     for data in (b"1 3 5 0 0", b"1 3 5 0 0 ", b"1 3 5 0 0\t", b"x".rjust(MAX_TEXT), b"x".rjust(MAX_TEXT + 1)):
-        wanted = (0, listing(data), asked(data) if len(data) <= MAX_TEXT else b"")
-        yield "%d bytes that end with %r" % (len(data), data[-1:]), ended(start(program, stdin=subprocess.PIPE), data), wanted
+        yield ("%d bytes that end with %r" % (len(data), data[-1:]), ended(start(program, stdin=subprocess.PIPE), data),
+               (0, listing(data), b""))
 
 
 def lengths(program):
@@ -229,7 +223,7 @@ def terminals(program):
     for what, data, keys in (("nothing", b"", END_OF_FILE), ("a deck", deck, END_OF_FILE),
                              ("a deck without its last line end", deck[:-1], 2 * END_OF_FILE),
                              ("half a deck", deck[:cut_within(deck)], 2 * END_OF_FILE)):
-        yield "%s is typed" % what, typed(program, data + keys), (0, listing(data), USAGE + asked(data))
+        yield "%s is typed" % what, typed(program, data + keys), (0, listing(data), USAGE)
 
 
 def arguments(program):

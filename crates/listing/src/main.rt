@@ -85,16 +85,6 @@ fn tell_usage() {
     );
 }
 
-// Whether a text stops within a word, as one does whose writer was stopped. It may be meant so, and is listed all the same.
-fn stops_short(text: &[u8]) -> bool {
-    let n = text.len();
-    if n == 0 {
-        return false;
-    }
-    let last = text[n - 1];
-    last != b' ' && last != b'\n'
-}
-
 // Nothing is listed that was not read whole; what is longer than a text may be is refused whatever follows.
 fn list_input() {
     let mut text = [0u8; ROOM];
@@ -104,12 +94,6 @@ fn list_input() {
         return;
     }
     let n = input.count;
-    if n < ROOM && stops_short(&text[..n]) {
-        io::write_all(
-            STDERR_FILENO,
-            b"listing: the text does not end with a line end; was it cut?\n",
-        );
-    }
     list(&text[..n]);
 }
 
