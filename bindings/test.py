@@ -124,7 +124,8 @@ def library():
         done = run(["rt", "staticlib", "koralimbu"])
         return done.returncode == 0 or ran("rt staticlib koralimbu", done)
     if not os.path.exists(os.path.join(ROOT, ARCHIVE)):
-        return count("no rt and no %s: everything" % ARCHIVE if wanted else "no %s: everything" % ARCHIVE, False)
+        return count("no %s, which the Rattle kit's command rt builds, and no rt: everything" % ARCHIVE if wanted
+                     else "no %s: everything" % ARCHIVE, False)
     if wanted:
         left_out("no rt: the library is not built, but taken as it lies in target/staticlib")
     return True

@@ -156,7 +156,8 @@ uint32_t koralimbu_continue(size_t n, size_t m, uint32_t limit,
  *   goals         DECK_COLUMNS       afterwards the goal of each column, in thousandths; 0 for none
  *   sizes         SIZES_COUNT        afterwards n, m, and how many of the n columns are curves
  *
- * The curves, which document 01 calls intervals, are the first columns. Those behind them were added by rows of kinds 1 to 3, in row order.
+ * The curves, which document 01 calls intervals, are the first columns. Those behind them, sizes[0] - sizes[2] in number, were added by rows of
+ * kinds 1 to 3, in row order.
  *
  * What is returned, and what is then left:
  *

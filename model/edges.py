@@ -2,7 +2,7 @@
 
 Standard output has the listing of the text read whole from standard input, and nothing else. A text that cannot be
 read, a listing that cannot be written, an argument and a terminal are told on standard error, each in one line. The
-language has no exit status of its own, so that it is 0 always.
+language has no exit status of its own, so that it is 0 unless a signal ends the run.
 
 edges(program) yields what is tried, how it ended and how it is to end: the exit status, the bytes of standard output
 and those of standard error, and where there is more to see, that too.
@@ -252,26 +252,34 @@ def unwritable(program, deck):
     yield "standard output is closed", run_on(deck, program, preexec_fn=closing(1)), (0, b"", closed)
     with open(deck, "rb") as file:
         yield "standard output is only read", run_on(deck, program, stdout=file), (0, b"", closed)
+
+
+def unread(program, deck):
+    """Python ignores the signal of a pipe without a reader, and so may a run: then this is told of. Otherwise it ends the run."""
     reading, writing = os.pipe()
     os.close(reading)
-    # Python ignores the signal of a pipe without a reader, and here the run does so too: otherwise that ends it.
     yield ("nobody reads standard output", run_on(deck, program, stdout=writing, restore_signals=False),
            (0, b"", line(b"output", errno.EPIPE)))
+    yield "nobody reads, and the signal is not ignored", run_on(deck, program, stdout=writing), (-signal.SIGPIPE, b"", b"")
     os.close(writing)
 
 
 def cut_short(program, deck):
-    """What there is room for of a listing is its front."""
+    """What there is room for of a listing is its front. The signal of a file past its limit is as that of a pipe without a reader."""
     room = 20
     with open(deck, "rb") as file:
         wanted = listing(file.read())[:room]
-    with tempfile.TemporaryFile() as file:
-        # As with a pipe without a reader, the signal of a file past its limit is ignored.
-        end = run_on(deck, program, stdout=file, restore_signals=False,
-                     preexec_fn=lambda: resource.setrlimit(resource.RLIMIT_FSIZE, (room, room)))
-        file.seek(0)
-        yield ("room for %d bytes of a listing" % room, (end[0], file.read(), end[2]),
-               (0, wanted, line(b"output", errno.EFBIG)))
+
+    def limit():
+        resource.setrlimit(resource.RLIMIT_FSIZE, (room, room))
+        resource.setrlimit(resource.RLIMIT_CORE, (0, 0))
+
+    for ended_by, told, restored in ((0, line(b"output", errno.EFBIG), False), (-signal.SIGXFSZ, b"", True)):
+        with tempfile.TemporaryFile() as file:
+            end = run_on(deck, program, stdout=file, restore_signals=restored, preexec_fn=limit)
+            file.seek(0)
+            yield ("room for %d bytes of a listing, ended by %d" % (room, ended_by), (end[0], file.read(), end[2]),
+                   (ended_by, wanted, told))
 
 
 def unheard(program, deck):
@@ -290,5 +298,6 @@ def edges(program):
     """What is tried, how it ended and how it is to end."""
     deck = os.path.join(DECKS, "mapped-panels.txt")
     for some in (unreadable(program), pieces(program), dying(program), unended(program), lengths(program),
-                 terminals(program), arguments(program), unwritable(program, deck), cut_short(program, deck), unheard(program, deck)):
+                 terminals(program), arguments(program), unwritable(program, deck),
+                 unread(program, deck), cut_short(program, deck), unheard(program, deck)):
         yield from some

@@ -1,4 +1,5 @@
-"""What decks/README.md says of OUTSIDE and FITTED, held to the sample decks.
+"""What decks/README.md says of OUTSIDE and FITTED, held to the sample decks, and what
+README.md says of rows that are said otherwise.
 
 Both words say that no single vector of the basis and no pair of them improves. That no
 list within the bounds exists, or no better one, they do not say; here all are tried.
@@ -146,3 +147,25 @@ def words_lists_within():
         data = b"2 1 2 0 1 2 0 1 %d %d 2 1 1 2 1" % (kind, number)
         problem = listing.problem_of(text.read(data))
         check("lists within, kind %d" % kind, lists_within(problem, 2), wanted)
+
+
+CURVES = b"3 1 1000000 6000 1 1000000 8000 1 1000000 2000 "
+EQUATION = b"0 3 1 1 2 1 3 -1 "
+
+
+def curves_of(rows):
+    """The curves' lines of a listing: their intervals and strides."""
+    return listing.listing(CURVES + rows).splitlines()[1:4]
+
+
+@test
+def rows_said_otherwise():
+    """The same columns and the same lists that satisfy the rows: the same listing. An
+    equation as at least and at most adds columns, so that it need not be."""
+    once = curves_of(b"1 0 " + EQUATION)
+    for again in (b"0 0 3 1 -1 2 -1 3 1 ", b"0 0 3 1 7 2 7 3 -7 "):
+        check("the equation times a number", curves_of(b"1 " + again), once)
+        check("the equation and it again", curves_of(b"2 0 " + EQUATION + again), once)
+    check("the equation", once, [b"1 3 1", b"2 3 1", b"3 6 1"])
+    check("as at least and at most", curves_of(b"2 1 " + EQUATION + b"2 " + EQUATION),
+          [b"1 2 1", b"2 3 1", b"3 5 1"])

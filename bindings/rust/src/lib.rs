@@ -146,7 +146,7 @@ pub struct Sizes {
 impl Sizes {
     /// How many columns, behind the curves, were added by rows of kinds 1 to 3, in row order.
     pub fn added(self) -> usize {
-        self.columns - self.curves
+        self.columns.saturating_sub(self.curves)
     }
 }
 

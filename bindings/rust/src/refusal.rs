@@ -39,8 +39,8 @@ use Refusal::*;
 
 impl Refusal {
     /// Every refusal that this package knows, by rising number from 1.
-    pub const ALL: [Refusal; 12] =
-        [Size, Length, Coefficient, Bound, Goal, Limit, Elimination, NoWholeNumbers, Seating, Standing, Layout, Term];
+    pub const ALL: &'static [Refusal] =
+        &[Size, Length, Coefficient, Bound, Goal, Limit, Elimination, NoWholeNumbers, Seating, Standing, Layout, Term];
 
     /// The number that the engine's call returned.
     pub fn number(self) -> u32 {
@@ -65,7 +65,7 @@ impl Refusal {
     pub(crate) fn check(number: u32) -> Result<(), Refusal> {
         match number {
             0 => Ok(()),
-            _ => Err(Refusal::ALL.into_iter().find(|known| known.number() == number).unwrap_or(Unknown(number))),
+            _ => Err(Refusal::ALL.iter().copied().find(|known| known.number() == number).unwrap_or(Unknown(number))),
         }
     }
 
@@ -123,7 +123,7 @@ mod tests {
     fn a_number_is_a_refusal_or_none() {
         assert_eq!(Refusal::check(0), Ok(()));
         for (number, refusal) in (1..).zip(Refusal::ALL) {
-            assert_eq!(Refusal::check(number), Err(refusal));
+            assert_eq!(Refusal::check(number), Err(*refusal));
         }
     }
 
