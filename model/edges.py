@@ -254,7 +254,7 @@ def unwritable(program, deck):
         yield "standard output is only read", run_on(deck, program, stdout=file), (0, b"", closed)
 
 
-def unread(program, deck):
+def without_reader(program, deck):
     """Python ignores the signal of a pipe without a reader, and so may a run: then this is told of. Otherwise it ends the run."""
     reading, writing = os.pipe()
     os.close(reading)
@@ -299,5 +299,5 @@ def edges(program):
     deck = os.path.join(DECKS, "mapped-panels.txt")
     for some in (unreadable(program), pieces(program), dying(program), unended(program), lengths(program),
                  terminals(program), arguments(program), unwritable(program, deck),
-                 unread(program, deck), cut_short(program, deck), unheard(program, deck)):
+                 without_reader(program, deck), cut_short(program, deck), unheard(program, deck)):
         yield from some
