@@ -7,3 +7,6 @@ pub mod Standing
 pub mod Demand
 pub mod Outcomes
 pub mod Stride
+pub mod Preview
+pub mod Ground
+pub mod Showing

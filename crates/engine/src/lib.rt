@@ -5,6 +5,7 @@ ghost use Rattle.engine.specs.Assign.{posedBy, buffers, done};
 ghost use Rattle.engine.specs.Assign as Assign;
 use ending::finish;
 use ending::settle_over;
+use ground::lay_ground;
 use problem::Answer;
 use problem::Check;
 use problem::Lent;
@@ -14,9 +15,10 @@ use problem::checks::first_cause;
 use rightside::Solution;
 use settling::columns::WIDTH;
 use settling::columns::pack;
-use standing::stands;
 
 mod ending;
+mod ground;
+pub mod preview;
 mod standing;
 mod views;
 
@@ -87,18 +89,22 @@ pub fn continue_from(
         values: values.len(),
         strides: strides.len(),
     };
-    if let Check::Failed(why) = first_cause(p, coefficients, rights, lower, upper, goals, lent) {
+    let mut columns = [0i64; WIDTH * Problem::MAX_COLUMNS];
+    let found = lay_ground(
+        p,
+        coefficients,
+        rights,
+        lower,
+        upper,
+        goals,
+        values,
+        lent,
+        tableau,
+        &mut columns,
+    );
+    if let Check::Failed(why) = found {
         return Answer::Refused(why);
     }
-    let mut columns = [0i64; WIDTH * Problem::MAX_COLUMNS];
-    let n = p.columns;
-    let used = WIDTH * n;
-    pack(&mut columns[..used], lower, upper, goals);
-    if !stands(p, coefficients, rights, values) {
-        return Answer::Refused(Refusal::Standing);
-    }
-    if tableau::form(tableau, p, coefficients) {
-        return Answer::Refused(Refusal::Elimination);
-    }
+    let used = WIDTH * p.columns;
     settle_over(p, &columns[..used], tableau, values, strides)
 }

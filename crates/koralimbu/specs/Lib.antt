@@ -1,4 +1,5 @@
 -- The root of the definitions.
 pub mod Calls
+pub mod Previews
 pub mod Reads
 pub mod Version

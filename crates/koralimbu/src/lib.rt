@@ -1,5 +1,6 @@
-// The engine's calls for C: include/koralimbu.h. The reader's stands in reading.rt, the version in version.rt.
+// The engine's calls for C: include/koralimbu.h. The preview's stands in previewing.rt, the reader's in reading.rt, the version in version.rt.
 // They have no `requires`: what a caller can break is an answer.
+mod previewing;
 mod reading;
 mod version;
 

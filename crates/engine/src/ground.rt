@@ -1,0 +1,50 @@
+// What Continue and the preview share: the checks, the test of the list, the form, and the packed columns.
+ghost use mathlib.Core.Path.{_≡_};
+ghost use Rattle.engine.specs.Assign.{posedBy};
+ghost use Rattle.engine.specs.Ground.{grounded, ground, Groundable, Packs};
+use crate::standing::stands;
+use problem::Check;
+use problem::Lent;
+use problem::Problem;
+use problem::Refusal;
+use problem::checks::first_cause;
+use settling::columns::WIDTH;
+use settling::columns::pack;
+
+// Looks for a refusal, 1 to 6, then 10 for the list, then 7. Where there is none, it leaves the form in the tableau and the columns in front of
+// their table.
+pub(crate) fn lay_ground(
+    p: Problem,
+    coefficients: &[i64],
+    rights: &[i64],
+    lower: &[i64],
+    upper: &[i64],
+    goals: &[i64],
+    list: &[i64],
+    lent: Lent,
+    tableau: &mut [i64],
+    columns: &mut [i64],
+) -> Check
+    requires { ⌜ Groundable (posedBy p (now coefficients) (now rights) (now lower) (now upper) (now goals)) (now list) lent
+        (now tableau) (now columns) ⌝ }
+    ensures { λ r. ⌜ (grounded r (now (tableau .exit))
+        ≡ ground
+        (posedBy p (now (coefficients .entry)) (now (rights .entry)) (now (lower .entry)) (now (upper .entry)) (now (goals .entry)))
+        (now (list .entry)) lent (now (tableau .entry)))
+        × Packs r
+        (posedBy p (now (coefficients .entry)) (now (rights .entry)) (now (lower .entry)) (now (upper .entry)) (now (goals .entry)))
+        (now (columns .exit)) ⌝ }
+{
+    if let Check::Failed(why) = first_cause(p, coefficients, rights, lower, upper, goals, lent) {
+        return Check::Failed(why);
+    }
+    if !stands(p, coefficients, rights, list) {
+        return Check::Failed(Refusal::Standing);
+    }
+    if tableau::form(tableau, p, coefficients) {
+        return Check::Failed(Refusal::Elimination);
+    }
+    let used = WIDTH * p.columns;
+    pack(&mut columns[..used], lower, upper, goals);
+    Check::Passed
+}
