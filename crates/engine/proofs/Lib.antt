@@ -6,6 +6,8 @@ pub mod Dots
 pub mod Forming
 pub mod Finishing
 pub mod Assigning
+pub mod Grounding
+pub mod Showing
 pub mod Keeping
 pub mod BasisLaws
 pub mod Refusals

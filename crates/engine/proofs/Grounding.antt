@@ -1,0 +1,122 @@
+-- What Continue and the preview start from, by what is found.
+--   byGround f a g      what f makes of a refusal and the tableau left, or a where nothing is refused
+--   ground-failed, -off, -over, -clear   what is found: by the checks, of a list that does not stand, past the limit, and with nothing refused
+--   Clear P v L u       nothing is refused, and u is the form's table; clear, where that is found; clear-few, -placed, what it gives
+--   unpacked            with a refusal nothing is said of the table of columns
+--   continue-ground     a Continue is made of what is found
+-- Assumes nothing.
+use mathlib.Core.Path.{_≡_, refl, sym, ap, subst}
+use mathlib.Core.Bool.{Bool, true, false, not, cond}
+use mathlib.Core.List.{List}
+use borrow.Author.Tests.{not-true}
+use lib.IntN.{ℤ}
+use lib.ListN.{length}
+use Rattle.whole.specs.Lists.{zeros}
+use Rattle.whole.proofs.Never.{never}
+use Rattle.whole.proofs.Tests.{both-true}
+use Rattle.lattice.specs.Rows.{flat}
+use Rattle.problem.specs.Limits.{anyBeyond}
+use Rattle.problem.specs.Checks.{Posed, firstCause}
+use Rattle.problem.proofs.CheckLaws.{Passes, passes, Fits, fits}
+use Rattle.problem.specs.declared.Lent.{Lent}
+use Rattle.problem.specs.declared.Refusal.{Refusal}
+use Rattle.problem.specs.declared.Refusal.the-variants.{Elimination, Standing}
+use Rattle.problem.specs.declared.Check.{Check}
+use Rattle.problem.specs.declared.Check.the-variants.{Passed, Failed}
+use Rattle.tableau.specs.RightSide.{basis}
+use Rattle.tableau.proofs.Within.{within-entry}
+use Rattle.engine.specs.Assign.{Buffers, Done, n, m, lentOf, refused, overLimit, settleOn, onCheck, stands, formed, continueFit, continue}
+use Rattle.engine.specs.Ground.{Grounded, grounded, onFirst, groundFit, ground, Packs}
+use Rattle.engine.specs.Placed.{Placed}
+use Rattle.engine.proofs.Readiness.{table}
+use Rattle.engine.proofs.Forming.{Laid, laid-placed}
+
+module _ {A : Type 0} (f : Refusal → List ℤ → A) (a : A) where
+  abbrev byCheck : Check → List ℤ → A
+  byCheck Passed u = a
+  byCheck (Failed why) u = f why u
+
+  abbrev pub byGround : Grounded → A
+  byGround g = byCheck (g .check) (g .tableau)
+
+-- ---- what is found
+module _ (P : Posed) (v : List ℤ) (L : Lent) (t : List ℤ) where
+  pub ground-failed : {why : Refusal} → firstCause P L ≡ Failed why → ground P v L t ≡ grounded (Failed why) t
+  unfolding ground
+  ground-failed e = rw e refl
+
+  pub ground-off : firstCause P L ≡ Passed → stands P v ≡ false → ground P v L t ≡ grounded (Failed Standing) t
+  unfolding ground
+  ground-off e s = rw (e, s) refl
+
+  pub ground-over : firstCause P L ≡ Passed → stands P v ≡ true → formed P .over ≡ true
+      → ground P v L t ≡ grounded (Failed Elimination) (zeros (length t))
+  unfolding ground
+  ground-over e s o = rw (e, s, o) refl
+
+  pub ground-clear : firstCause P L ≡ Passed → stands P v ≡ true → formed P .over ≡ false → ground P v L t ≡ grounded Passed (flat (formed P .table))
+  unfolding ground
+  ground-clear e s o = rw (e, s, o) refl
+
+  -- ---- nothing is refused
+  pub record Clear (u : List ℤ) : Type 0 where
+    pub passed : firstCause P L ≡ Passed
+    pub standing : stands P v ≡ true
+    pub kept : formed P .over ≡ false
+    pub is : u ≡ flat (formed P .table)
+
+  pub clear : {u : List ℤ} → grounded Passed u ≡ ground P v L t → Clear u
+  unfolding ground
+  clear {u} e = go (firstCause P L) refl (stands P v) refl (formed P .over) refl e
+    where
+      T : List ℤ
+      T = flat (formed P .table)
+
+      refused-not : {why : Refusal} → Passed ≡ Failed why → Clear u
+      refused-not {why} e = never (cc)
+
+      go : (c : Check) → firstCause P L ≡ c → (s : Bool) → stands P v ≡ s → (o : Bool) → formed P .over ≡ o
+          → grounded Passed u
+          ≡ onFirst c t (cond s (cond o (grounded (Failed Elimination) (zeros (length t))) (grounded Passed T)) (grounded (Failed Standing) t))
+          → Clear u
+      go (Failed why) g s h o k e = refused-not (ap (λ (x : Grounded). x .check) e)
+      go Passed g false h o k e = refused-not (ap (λ (x : Grounded). x .check) e)
+      go Passed g true h true k e = refused-not (ap (λ (x : Grounded). x .check) e)
+      go Passed g true h false k e = record { passed = g; standing = h; kept = k; is = ap (λ (x : Grounded). x .tableau) e }
+
+  module _ {u : List ℤ} (c : Clear u) where
+    abbrev pub clear-passes : Passes P L
+    clear-passes = passes P L (c .passed)
+
+    abbrev pub clear-fits : Fits P L
+    clear-fits = fits P L clear-passes
+
+    abbrev pub clear-laid : Laid P L clear-passes u
+    clear-laid = record { is = c .is; kept = c .kept }
+
+    pub clear-placed : length v ≡ n P → {l : List ℤ} → l ≡ table P → Placed (P .problem) u v l
+    clear-placed e h =
+        subst (Placed (P .problem) u v) (sym h)
+        (laid-placed P L clear-passes clear-laid v e (λ j. within-entry v j (not-true _ (both-true (not (anyBeyond v)) _ (c .standing) .0))))
+
+pub unpacked : {why : Refusal} (P : Posed) (l : List ℤ) → Packs (Failed why) P l
+unpacked {why} P l = record { is = λ e. never (cc) }
+
+-- ---- what is made of it
+module _ (P : Posed) (B : Buffers) where
+  abbrev d : Done
+  d = settleOn P (formed P .table) (basis (m P) (formed P .table)) (B .values)
+
+  by-cases :
+      (c : Check) (s o : Bool) (u : List ℤ)
+      → onCheck c B (cond s (cond o (overLimit B) d) (refused Standing (B .tableau) B))
+      ≡ byGround (λ why t. refused why t B) d (onFirst c (B .tableau)
+      (cond s (cond o (grounded (Failed Elimination) (zeros (length (B .tableau)))) (grounded Passed u)) (grounded (Failed Standing) (B .tableau))))
+  by-cases (Failed why) s o u = refl
+  by-cases Passed false o u = refl
+  by-cases Passed true true u = refl
+  by-cases Passed true false u = refl
+
+  pub continue-ground : continue P B ≡ byGround (λ why t. refused why t B) d (ground P (B .values) (lentOf B) (B .tableau))
+  unfolding continue ground
+  continue-ground = by-cases (firstCause P (lentOf B)) (stands P (B .values)) (formed P .over) (flat (formed P .table))

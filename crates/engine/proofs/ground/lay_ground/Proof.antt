@@ -1,0 +1,168 @@
+-- `engine::ground::lay_ground` meets its contract: what the checks find decides, and then 10 and 7. Assumes nothing.
+use mathlib.Core.Path.{_≡_, sym, _∙_, ap}
+use mathlib.Core.Bool.{Bool, true, false, cond}
+use mathlib.Core.List.{List}
+use native.Mathlib.Omega.{arith}
+use borrow.Author.Tests.{not-true, not-false}
+use lib.IntN.{ℤ}
+use lib.ListN.{length}
+use Rattle.whole.specs.Lists.{zeros}
+use Rattle.lattice.specs.Rows.{flat}
+use Rattle.problem.specs.Checks.{Posed, firstCause}
+use Rattle.problem.proofs.CheckLaws.{Passes, passes, Fits, fits}
+use Rattle.problem.specs.declared.Check.the-variants.{Passed, Failed}
+use Rattle.problem.specs.declared.Refusal.the-variants.{Elimination}
+use Rattle.settling.proofs.Fronts.{part-length}
+use Rattle.engine.specs.Assign.{posedBy, stands, formed}
+use Rattle.engine.specs.Ground.{grounded}
+use Rattle.engine.proofs.Readiness.{cells, packable, packed-in, packed-back}
+use Rattle.engine.proofs.Forming.{formable}
+use Rattle.engine.proofs.Keeping.{stands-in, standable}
+use Rattle.engine.proofs.Grounding.{ground-failed, ground-off, ground-over, ground-clear, unpacked}
+use borrow.Author.Needs.{needs}
+use Rattle.engine.proofs.ground.lay_ground.Statement.{statement}
+use Rattle.engine.proofs.ground.lay_ground.Tie as tie
+
+module _ (a : tie.Start) where
+  abbrev P : Posed
+  P = posedBy (a .args .p) (a .args .coefficients .now) (a .args .rights .now) (a .args .lower .now) (a .args .upper .now) (a .args .goals .now)
+
+-- a problem that the checks have passed
+module _ (w : tie.After-enum-told) where
+  abbrev at : tie.Start
+  at = w .before .before .before
+
+  passed : firstCause (P at) (at .args .lent) ≡ Passed
+  passed = sym (w .before .before .first-cause .ensures) ∙ w .enum-told .given .1
+
+  abbrev q : Passes (P at) (at .args .lent)
+  q = passes (P at) (at .args .lent) passed
+
+  abbrev f : Fits (P at) (at .args .lent)
+  f = fits (P at) (at .args .lent) q
+
+-- what the test of the list says
+module _ (w : tie.After-stands) where
+  abbrev from : tie.Start
+  from = at (w .before)
+
+  standing : {t : Bool} → w .stands .result ≡ t → stands (P from) (from .args .list .now) ≡ t
+  standing e = sym (stands-in (P from) (from .args .list .now)) ∙ sym (w .stands .ensures) ∙ e
+
+-- what is left in the tableau
+module _ (g : tie.After-form) where
+  abbrev behind : tie.Start
+  behind = from (g .before .before .before)
+
+  left :
+      {o : Bool} → formed (P behind) .over ≡ o
+      → g .form .last .0 ≡ cond o (zeros (length (behind .args .tableau .now))) (flat (formed (P behind) .table))
+  left e = g .form .ensures .1 ∙ ap (λ (t : Bool). cond t (zeros (length (behind .args .tableau .now))) (flat (formed (P behind) .table))) e
+
+first-cause-requires : tie.Need-first-cause-requires
+first-cause-requires c κs = search needs
+
+enum-known-why : tie.Need-enum-known-why
+enum-known-why c = search needs
+
+returns : tie.Need-returns
+returns c =
+    let s = c .before .before .before .before in (
+      sym (ground-failed (P s) (s .args .list .now) (s .args .lent) (s .args .tableau .now) (sym (c .before .before .before .first-cause .ensures) ∙ c .before .why .given .1)),
+      unpacked (P s) _,
+    )
+
+enum-told : tie.Need-enum-told
+enum-told c = search needs
+
+stands-requires : tie.Need-stands-requires
+stands-requires c κs =
+    let s = at c in
+    standable (P s) (s .args .lent) (f c) (s .args .list .now) (s .pre .list (f c .values-long) ∙ sym (f c .values-long))
+
+returns-2 : tie.Need-returns-2
+returns-2 c =
+    let w = c .before in
+    let s = from w in (
+      sym (ground-off (P s) (s .args .list .now) (s .args .lent) (s .args .tableau .now) (passed (w .before)) (standing w (not-true _ (c .if1 .taken)))),
+      unpacked (P s) _,
+    )
+
+form-requires : tie.Need-form-requires
+form-requires c κs =
+    let w = c .before .before .before in
+    let s = at w in
+    formable (P s) (s .args .lent) (q w) (s .args .tableau .now) (s .pre .tableau)
+
+same-length : tie.Need-same-length
+same-length c = search needs
+
+returns-3 : tie.Need-returns-3
+returns-3 c =
+    let g = c .before .before in
+    let w = g .before .before .before in
+    let s = from w in
+    let o : formed (P s) .over ≡ true = sym (g .form .ensures .0) ∙ c .if2 .taken in (
+      ap (grounded (Failed Elimination)) (left g o)
+          ∙ sym (ground-over (P s) (s .args .list .now) (s .args .lent) (s .args .tableau .now) (passed (w .before))
+          (standing w (not-false _ (c .before .before .before .before .if1 .left))) o),
+      unpacked (P s) _,
+    )
+
+mul-used : tie.Need-mul-used
+mul-used c = omega (arith, f (c .before .before .before .before .before .before .before) .few-columns)
+
+slice-relend-prefix-pack : tie.Need-slice-relend-prefix-pack
+slice-relend-prefix-pack c =
+    let w = c .before .before .before .before .before .before .before in
+    omega (arith, f w .few-columns, at w .pre .table)
+
+slice-aggregate-pack : tie.Need-slice-aggregate-pack
+slice-aggregate-pack c =
+    let w = c .before .before .before .before .before .before .before .before in
+    part-length (cells (P (at w))) _ (omega (arith, f w .few-columns, at w .pre .table))
+
+pack-requires : tie.Need-pack-requires
+pack-requires c κs =
+    let w = c .before .before .before .before .before .before .before .before in
+    let s = at w in
+    packable (P s) (s .args .lent) (f w) _ (part-length (cells (P s)) _ (omega (arith, f w .few-columns, s .pre .table)))
+
+same-length-2 : tie.Need-same-length-2
+same-length-2 c = search needs
+
+same-length-3 : tie.Need-same-length-3
+same-length-3 c = search needs
+
+returns-4 : tie.Need-returns-4
+returns-4 c =
+    let g = c .before .before .before .before .before .before in
+    let w = g .before .before .before in
+    let s = from w in
+    let o : formed (P s) .over ≡ false = sym (g .form .ensures .0) ∙ c .before .before .before .before .if2 .left in (
+      ap (grounded Passed) (left g o)
+          ∙ sym (ground-clear (P s) (s .args .list .now) (s .args .lent) (s .args .tableau .now) (passed (w .before))
+          (standing w (not-false _ (c .before .before .before .before .before .before .before .before .if1 .left))) o),
+      record { is = λ e. packed-back (packed-in (P s) (s .args .lent) (f (w .before)) _ (c .before .pack .ensures)) _ },
+    )
+
+pub lay-ground-spec : {M : Type 1} → statement M
+lay-ground-spec =
+    tie.close
+    (tie.spec
+    first-cause-requires
+    enum-known-why
+    returns
+    enum-told
+    stands-requires
+    returns-2
+    form-requires
+    same-length
+    returns-3
+    mul-used
+    slice-relend-prefix-pack
+    slice-aggregate-pack
+    pack-requires
+    same-length-2
+    same-length-3
+    returns-4)
