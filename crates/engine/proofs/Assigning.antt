@@ -5,8 +5,8 @@
 --   solved-form, solved-kept   the form that the right side goes through, and that it is not past the limit where the whole is not
 --   assign-over, -none, -found   a whole assignment past the limit, without whole numbers, and from a starting list on
 --   finishable      what is found can be finished
---   assign-failed, -passed, continue-failed, -passed   by what the checks find
---   continue-off, -over, -settled   a Continue of a list that does not stand, past the limit, and over the form
+--   assign-failed, -passed, continue-passed   by what the checks find
+--   continue-settled   a Continue over the form
 -- Assumes nothing.
 use mathlib.Core.Path.{_≡_, refl, sym, _∙_, ap, ap₂, subst}
 use mathlib.Core.Bool.{Bool, true, false, cond, _||_}
@@ -167,21 +167,11 @@ module _ (P : Posed) (B : Buffers) where
   unfolding assign
   assign-passed e = rw e refl
 
-  pub continue-failed : {why : Refusal} → firstCause P (lentOf B) ≡ Failed why → continue P B ≡ refused why (B .tableau) B
-  unfolding continue
-  continue-failed e = rw e refl
-
   pub continue-passed : firstCause P (lentOf B) ≡ Passed → continue P B ≡ continueFit P B
   unfolding continue
   continue-passed e = rw e refl
 
   -- ---- Continue past the checks
-  pub continue-off : stands P (B .values) ≡ false → continueFit P B ≡ refused Standing (B .tableau) B
-  continue-off e = rw e refl
-
-  pub continue-over : stands P (B .values) ≡ true → formed P .over ≡ true → continueFit P B ≡ overLimit B
-  continue-over e o = rw (e, o) refl
-
   continue-on : stands P (B .values) ≡ true → formed P .over ≡ false
       → continueFit P B ≡ settleOn P (formed P .table) (basis (m P) (formed P .table)) (B .values)
   continue-on e o = rw (e, o) refl

@@ -1,5 +1,5 @@
 -- What Continue and the preview start from, by what is found.
---   byGround f a g      what f makes of a refusal and the tableau left, or a where nothing is refused
+--   byCheck, byGround   what f makes of a refusal and the tableau left, or a where nothing is refused
 --   ground-failed, -off, -over, -clear   what is found: by the checks, of a list that does not stand, past the limit, and with nothing refused
 --   Clear P v L u       nothing is refused, and u is the form's table; clear, where that is found; clear-few, -placed, what it gives
 --   unpacked            with a refusal nothing is said of the table of columns
@@ -32,7 +32,7 @@ use Rattle.engine.proofs.Readiness.{table}
 use Rattle.engine.proofs.Forming.{Laid, laid-placed}
 
 module _ {A : Type 0} (f : Refusal → List ℤ → A) (a : A) where
-  abbrev byCheck : Check → List ℤ → A
+  abbrev pub byCheck : Check → List ℤ → A
   byCheck Passed u = a
   byCheck (Failed why) u = f why u
 

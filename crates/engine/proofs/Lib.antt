@@ -8,6 +8,7 @@ pub mod Finishing
 pub mod Assigning
 pub mod Grounding
 pub mod Showing
+pub mod Previews
 pub mod Keeping
 pub mod BasisLaws
 pub mod Refusals
