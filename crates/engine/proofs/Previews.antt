@@ -1,7 +1,7 @@
 -- What a preview says.
 --   preview-continue   it equals Continue with limit 1 on a copy of the list
 --   preview-step       what it names is a step
---   preview-small      whose column and vectors are such as a problem can have
+--   preview-small      whose column and move are such as a problem can have
 --   preview-limit      the limit held beside the problem plays no part
 -- Assumes nothing.
 use mathlib.Core.Path.{_≡_, refl, sym, _∙_, ap, ap₂, subst}
@@ -272,10 +272,12 @@ module _ (P : Posed) (v : List ℤ) (B : Buffers) (p : Part) (i : ℕ) (o : Move
       taken-ready (basisView q h) v (table P) (drop (basisStart q h) (g .tableau)) i o
       (clear-placed _ _ _ _ is-clear (both-long (n P) (length v) (length (B .values)) (fit .values-long) .0) refl .ready h) next-in .0
 
-  pub preview-small : (i < maxColumns) × ((o .s < maxColumns) × (o .t < maxColumns))
+  pub preview-small : (i < maxColumns) × OfBasis maxColumns o
   preview-small =
-      let f = fit .few-columns in
-      (omega (arith, preview-step P v B p i o e .improving .inside, f), (omega (arith, of-basis .s, f), omega (arith, of-basis .t, f)))
+      let f = fit .few-columns in (
+        omega (arith, preview-step P v B p i o e .improving .inside, f),
+        record { s = omega (arith, of-basis .s, f); t = omega (arith, of-basis .t, f); a = of-basis .a; b = of-basis .b },
+      )
 
 -- ---- the limit
 or-not : (t : Bool) (why : Refusal) (c : Check) → (why ≡ Limit → ⊥) → (c ≡ Failed Limit → ⊥) → orNext t why c ≡ Failed Limit → ⊥

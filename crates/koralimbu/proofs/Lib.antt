@@ -3,3 +3,4 @@ pub mod Telling
 pub mod Sizes
 pub mod CallLaws
 pub mod ReadLaws
+pub mod PreviewLaws

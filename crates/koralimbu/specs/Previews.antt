@@ -7,7 +7,7 @@
 --                      0s where no move improves, and with a refusal
 --   previewTold x      what is returned and left of a preview that has shown x; in the buffers the interval list is the list after
 --   previewCalled P v B r   that of P and the standing list v, by the length of the report r
---   SmallStep x        column and vectors of a step are such as a problem can have
+--   SmallStep x        column and move of a step are such as a problem can have
 -- Assumes nothing.
 use mathlib.Core.Path.{_≡_}
 use mathlib.Core.Bool.{cond}
@@ -22,6 +22,7 @@ use Rattle.problem.specs.Limits.{maxColumns}
 use Rattle.settling.specs.declared.Move.{Move}
 use Rattle.settling.specs.declared.Part.{Part}
 use Rattle.settling.specs.declared.Part.the-variants.{Bounds, Goals}
+use Rattle.settling.specs.Views.{OfBasis}
 use Rattle.engine.specs.Assign.{Buffers, buffers}
 use Rattle.engine.specs.Preview.{Shown, preview}
 use Rattle.engine.specs.declared.preview.Seen.{Seen}
@@ -65,5 +66,4 @@ previewCalled P v B r = cond (eqb (length r) previewLength) (previewTold (previe
 -- so that they fit the report's numbers
 pub record SmallStep (x : Seen) : Type 0 where
   pub column : (p : Part) (i : ℕ) (o : Move) → x ≡ Next p i o → i < maxColumns
-  pub first : (p : Part) (i : ℕ) (o : Move) → x ≡ Next p i o → o .s < maxColumns
-  pub second : (p : Part) (i : ℕ) (o : Move) → x ≡ Next p i o → o .t < maxColumns
+  pub move : (p : Part) (i : ℕ) (o : Move) → x ≡ Next p i o → OfBasis maxColumns o

@@ -1,7 +1,7 @@
 // The preview's call for C, which has no `requires` either.
 ghost use mathlib.Core.Path.{_≡_};
 ghost use mathlib.Core.List.{[], _∷_};
-ghost use Prim.Native.Nat.{_<_};
+ghost use Prim.Native.Nat.{suc, _<_};
 ghost use lib.ListN.{length};
 ghost use Rattle.problem.specs.Limits.{maxColumns};
 ghost use Rattle.engine.specs.Assign.{posedBy, buffers};
@@ -48,6 +48,14 @@ fn sign_number(x: i64) -> u32
     1
 }
 
+// A column or a vector, counted from 1.
+fn from_one(i: usize) -> u32
+    requires { ⌜ i < maxColumns ⌝ }
+    ensures { λ r. ⌜ r ≡ suc i ⌝ }
+{
+    (i + 1) as u32
+}
+
 fn vector_number(s: usize, x: i64) -> u32
     requires { ⌜ s < maxColumns ⌝ }
     ensures { λ r. ⌜ r ≡ vectorNumber s x ⌝ }
@@ -55,7 +63,7 @@ fn vector_number(s: usize, x: i64) -> u32
     if magnitude(x) == 0 {
         return 0;
     }
-    (s + 1) as u32
+    from_one(s)
 }
 
 // Writes the numbers of a step.
@@ -84,7 +92,8 @@ fn tell_step(seen: Seen, report: &mut [u32])
             let a = sign_number(o.a);
             let t = vector_number(o.t, o.b);
             let b = sign_number(o.b);
-            write(report, number, (i + 1) as u32, s, a, t, b);
+            let column = from_one(i);
+            write(report, number, column, s, a, t, b);
         }
     }
 }

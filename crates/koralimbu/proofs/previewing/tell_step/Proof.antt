@@ -1,0 +1,93 @@
+use mathlib.Core.Path.{_≡_, sym, _∙_, ap}
+use Rattle.koralimbu.proofs.PreviewLaws.{read-signs}
+use Rattle.koralimbu.specs.Previews.{stepOf, signNumber, vectorNumber}
+-- `koralimbu::previewing::tell_step` meets its contract: each number of the step, at its place. Assumes nothing.
+use mathlib.Core.List.{[], _∷_}
+use borrow.Author.Needs.{needs}
+use Rattle.koralimbu.proofs.previewing.tell_step.Statement.{statement}
+use Rattle.koralimbu.proofs.previewing.tell_step.Tie as tie
+
+enum-told : tie.Need-enum-told
+enum-told c = search needs
+
+write-requires : tie.Need-write-requires
+write-requires c κs = search needs
+
+enum-told-2 : tie.Need-enum-told-2
+enum-told-2 c = search needs
+
+write-requires-2 : tie.Need-write-requires-2
+write-requires-2 c κs = search needs
+
+enum-known-seen : tie.Need-enum-known-seen
+enum-known-seen c = search needs
+
+part-number-requires : tie.Need-part-number-requires
+part-number-requires c κs = search needs
+
+vector-number-requires : tie.Need-vector-number-requires
+vector-number-requires c κs = c .before .before .before .before .before .before .pre .1 .move _ _ _ (c .before .before .before .seen .given .1) .s
+
+sign-number-requires : tie.Need-sign-number-requires
+sign-number-requires c κs = search needs
+
+vector-number-requires-2 : tie.Need-vector-number-requires-2
+vector-number-requires-2 c κs = c .before .before .before .before .before .before .before .before .before .before .pre .1 .move _ _ _ (c .before .before .before .before .before .before .before .seen .given .1) .t
+
+sign-number-requires-2 : tie.Need-sign-number-requires-2
+sign-number-requires-2 c κs = search needs
+
+from-one-requires : tie.Need-from-one-requires
+from-one-requires c κs = c .before .before .before .before .before .before .before .before .before .before .before .before .before .pre .1 .column _ _ _ (c .before .before .before .before .before .before .before .before .before .before .seen .given .1)
+
+write-requires-3 : tie.Need-write-requires-3
+write-requires-3 c κs = search needs
+
+same-length : tie.Need-same-length
+same-length c = search needs
+
+returns : tie.Need-returns
+returns c = c .before .before .write .ensures ∙ sym (ap stepOf (c .before .before .before .before .enum-told .given .1))
+
+same-length-2 : tie.Need-same-length-2
+same-length-2 c = search needs
+
+returns-2 : tie.Need-returns-2
+returns-2 c = c .before .before .write2 .ensures ∙ sym (ap stepOf (c .before .before .before .before .enum-told2 .given .1))
+
+same-length-3 : tie.Need-same-length-3
+same-length-3 c = search needs
+
+returns-3 : tie.Need-returns-3
+returns-3 c =
+    let m = c .before .before .before .before .before .before .before .before .before .before .before .before .before .before .before .before .before .before .pre .1 .move _ _ _ (c .before .before .before .before .before .before .before .before .before .before .before .before .before .before .before .seen .given .1) in
+    let a = read-signs _ m .0 in
+    let b = read-signs _ m .1 in
+    c .before .before .write3 .ensures
+    ∙ (λ i. (c .before .before .before .before .before .before .before .before .before .before .before .before .before .part-number .ensures i) ∷ (c .before .before .before .before .from-one .ensures i) ∷ ((c .before .before .before .before .before .before .before .before .before .before .before .vector-number .ensures ∙ ap (vectorNumber _) a) i)
+    ∷ ((c .before .before .before .before .before .before .before .before .before .sign-number .ensures ∙ ap signNumber a) i) ∷ ((c .before .before .before .before .before .before .before .vector-number2 .ensures ∙ ap (vectorNumber _) b) i)
+    ∷ ((c .before .before .before .before .before .sign-number2 .ensures ∙ ap signNumber b) i) ∷ [])
+    ∙ sym (ap stepOf (c .before .before .before .before .before .before .before .before .before .before .before .before .before .before .before .seen .given .1))
+
+pub tell-step-spec : {M : Type 1} → statement M
+tell-step-spec =
+    tie.close
+    (tie.spec
+    enum-told
+    write-requires
+    enum-told-2
+    write-requires-2
+    enum-known-seen
+    part-number-requires
+    vector-number-requires
+    sign-number-requires
+    vector-number-requires-2
+    sign-number-requires-2
+    from-one-requires
+    write-requires-3
+    same-length
+    returns
+    same-length-2
+    returns-2
+    same-length-3
+    returns-3)
