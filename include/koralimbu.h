@@ -172,7 +172,7 @@ uint32_t koralimbu_continue(size_t n, size_t m, uint32_t limit,
  *   strides       n              afterwards the strides
  *   report        PREVIEW_COUNT  afterwards the step
  *
- * The first six are only read. The columns that the step changes are those where after differs from standing.
+ * The first six are only read, so after is a list of its own. The columns that the step changes are those where it differs from standing.
  *
  * The report, by the place of each number:
  *
