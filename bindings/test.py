@@ -4,9 +4,11 @@
 
 Builds the static library; compiles the C example and runs it on every sample deck;
 compiles and runs the C and C++ programs that try what the header says; builds, tests
-and documents the Rust package, offline, and runs its example on every sample deck. A
-listing must be the deck's, byte for byte. What a machine has no tool for is told in a
-line 'left out: ..'. The last line is 'N passed, M failed'.
+and documents the Rust package, offline, and runs its examples on every sample deck. A
+listing must be the deck's, byte for byte. A run step by step must be the one that lies
+beside the example, where there is one, and end with the list and the verdict of the
+deck's listing. What a machine has no tool for is told in a line 'left out: ..'. The last
+line is 'N passed, M failed'.
 """
 
 import glob
@@ -20,6 +22,8 @@ ROOT = os.path.dirname(os.path.dirname(os.path.abspath(__file__)))
 ARCHIVE = os.path.join("target", "staticlib", "libkoralimbu.a")
 BUILT = os.path.join("target", "bindings")
 RUST = os.path.join("bindings", "rust")
+# The decks whose run lies beside the example: steps of both kinds of move, towards the bounds and towards the goals.
+RUNS = ["bounds-conflict", "paved-bulkhead"]
 STRICT = ["-Wall", "-Wextra", "-Wpedantic", "-Wconversion", "-Wsign-conversion", "-Wshadow", "-Wundef", "-Werror", "-Iinclude"]
 
 passed = failed = 0
@@ -64,16 +68,37 @@ def add_counts(what, done, line):
         failed += 0 if wrong else 1
 
 
-def lists_every_deck(what, command, folder="."):
-    """The command with a deck's name prints the deck's listing; with none, the paving deck's."""
-    decks = sorted(glob.glob(os.path.join(ROOT, "decks", "*.txt")))
-    for deck in [None] + decks:
-        wanted = (deck or os.path.join(ROOT, "decks", "paving.txt"))[:-len(".txt")] + ".listing"
-        with open(wanted, "rb") as file:
-            listing = file.read()
-        done = run(command + ([deck] if deck else []), folder)
-        count("%s on %s" % (what, os.path.basename(deck) if deck else "its own deck"),
-              done.returncode == 0 and done.stdout == listing, done.stdout + done.stderr)
+def contents(*path):
+    with open(os.path.join(ROOT, *path), "rb") as file:
+        return file.read()
+
+
+def on_every_deck(what, command, own, good, folder="."):
+    """Runs the command with the file of each deck, and with none, for which it has the deck own; good(name, done) tells whether it did well."""
+    names = sorted(os.path.basename(deck)[:-len(".txt")] for deck in glob.glob(os.path.join(ROOT, "decks", "*.txt")))
+    for name in [None] + names:
+        done = run(command + ([os.path.join(ROOT, "decks", name + ".txt")] if name else []), folder)
+        count("%s on %s" % (what, name + ".txt" if name else "its own deck"), good(name or own, done), done.stdout + done.stderr)
+
+
+def lists(name, done):
+    """What is printed is the deck's listing."""
+    return done.returncode == 0 and done.stdout == contents("decks", name + ".listing")
+
+
+def shows_steps(name, done):
+    """A run step by step is that beside the example, if the deck is one of RUNS, and ends as the deck's listing says."""
+    if name in RUNS and done.stdout != contents(RUST, "examples", name + ".steps"):
+        return False
+    verdict, *columns = contents("decks", name + ".listing").decode().splitlines()
+    if not columns:
+        # NONE is refusal 8; a refused deck has no run.
+        refusal = "refused with %s: " % ("8" if verdict == "NONE" else verdict.split()[1])
+        return done.returncode != 0 and done.stdout == b"" and refusal.encode() in done.stderr
+    values = [column.split()[1] for column in columns]
+    lines = done.stdout.decode().splitlines()
+    # The words between the values only part the curves from the added columns.
+    return done.returncode == 0 and lines[-1:] == [verdict] and re.findall(r"-?\d+", " ".join(lines[-2:-1])) == values
 
 
 def first_of(*names):
@@ -101,7 +126,7 @@ def test_c(compiler):
     strict = [compiler, "-std=c99", "-Wstrict-prototypes"]
     example = compiled(strict, "bindings/c/paving.c")
     if example:
-        lists_every_deck("the C example", [example])
+        on_every_deck("the C example", [example], "paving", lists)
     counts_itself(compiled(strict, "bindings/c/edges.c"))
 
 
@@ -113,7 +138,8 @@ def test_rust(cargo):
     add_counts("cargo test", run([cargo, "test", "--offline", "--no-fail-fast"], RUST),
                rb"^test result: .* (\d+) passed; (\d+) failed;")
     ran("cargo doc", run([cargo, "doc", "--offline", "--no-deps"], RUST, RUSTDOCFLAGS="-D warnings"))
-    lists_every_deck("the Rust example", [cargo, "run", "--quiet", "--offline", "--example", "paving", "--"], RUST)
+    for example, own, good in [("paving", "paving", lists), ("steps", "paved-bulkhead", shows_steps)]:
+        on_every_deck("the Rust example " + example, [cargo, "run", "--quiet", "--offline", "--example", example, "--"], own, good, RUST)
 
 
 def library():

@@ -1,5 +1,5 @@
-/* Koralimbu: deck texts, whole assignments and Continue on lent buffers. The functions lie in libkoralimbu.a (`rt staticlib koralimbu`),
- * which is proved.
+/* Koralimbu: deck texts, whole assignments, Continue and its preview on lent buffers. The functions lie in libkoralimbu.a
+ * (`rt staticlib koralimbu`), which is proved.
  *
  * Buffers. Each is a pointer and then its count of numbers. A pointer may be null where its count is 0. A buffer that is written
  * overlaps no other.
@@ -22,7 +22,7 @@ extern "C" {
 /* The version, which rises with each change of a call or of the text; docs/CHANGES.md has the list. A header and an archive of different
  * versions must not be used together: a program compares KORALIMBU_VERSION with koralimbu_version() once, at its start. */
 #define KORALIMBU_VERSION_MAJOR 0
-#define KORALIMBU_VERSION_MINOR 2
+#define KORALIMBU_VERSION_MINOR 3
 #define KORALIMBU_VERSION_PATCH 0
 #define KORALIMBU_VERSION (KORALIMBU_VERSION_MAJOR * 1000000 + KORALIMBU_VERSION_MINOR * 1000 + KORALIMBU_VERSION_PATCH)
 
@@ -53,6 +53,18 @@ uint32_t koralimbu_version(void);
 #define KORALIMBU_OUTSIDE 2
 #define KORALIMBU_SPENT 3
 
+/* The part that a previewed step belongs to.
+ *   NONE    no move improves, so there is no step
+ *   BOUNDS  some value is out of bounds
+ *   GOALS   all values are in bounds */
+#define KORALIMBU_PART_NONE 0
+#define KORALIMBU_PART_BOUNDS 1
+#define KORALIMBU_PART_GOALS 2
+
+/* What a move does with a vector of the basis: it adds it, or takes it away. */
+#define KORALIMBU_SIGN_PLUS 1
+#define KORALIMBU_SIGN_MINUS 2
+
 /* The most that a problem has: n, m, the counts m * n and n * (m + n), and its step limit. */
 #define KORALIMBU_MOST_COLUMNS 48
 #define KORALIMBU_MOST_ROWS 48
@@ -75,8 +87,9 @@ uint32_t koralimbu_version(void);
 /* Document 01's M: how far a number of the elimination and a value may lie from 0, to both sides. */
 #define KORALIMBU_M 2147483647
 
-/* The counts of a report and of sizes. */
+/* The counts of a report, of a preview's report and of sizes. */
 #define KORALIMBU_REPORT_COUNT 3
+#define KORALIMBU_PREVIEW_COUNT 6
 #define KORALIMBU_SIZES_COUNT 3
 
 /* The bytes of stack that are enough for any call. */
@@ -145,6 +158,67 @@ uint32_t koralimbu_continue(size_t n, size_t m, uint32_t limit,
                             int64_t *values, size_t values_count,
                             uint64_t *strides, size_t strides_count,
                             uint32_t *report, size_t report_count);
+
+/* The preview: tells the next step of a standing list without taking it. It is what Continue with the limit 1 does on a copy of the list.
+ *
+ *                 count          holds
+ *   coefficients  m * n          the rows, n to a row
+ *   rights        m              what each row must add up to
+ *   lower, upper  n              the bounds of each column
+ *   goals         n              the goal of each column, in thousandths; 0 for none
+ *   standing      n              the value of each column, as it stands
+ *   tableau       n * (m + n)    afterwards the form, m + n to a row
+ *   after         n              afterwards the value of each column after the step; the standing one where no move improves
+ *   strides       n              afterwards the strides
+ *   report        PREVIEW_COUNT  afterwards the step
+ *
+ * The first six are only read, so after is a list of its own. The columns that the step changes are those where it differs from standing.
+ *
+ * The report, by the place of each number:
+ *
+ *   0  the part of the step: PART_BOUNDS or PART_GOALS; PART_NONE where no move improves
+ *   1  the column that the step improves, counted from 1 as in the listing
+ *   2  the first vector of the move, counted from 1
+ *   3  its sign: SIGN_PLUS or SIGN_MINUS
+ *   4  the second vector of the move, counted from 1; 0 where the move is a single vector
+ *   5  its sign; 0 where there is none
+ *
+ * It is 0, 0, 0, 0, 0, 0 where no move improves and with a refusal. A report whose count is not PREVIEW_COUNT is refused with REFUSED_LENGTH
+ * before anything else is looked at, and every buffer is left as it was, the report too.
+ *
+ * Vector s of the basis stands in the tableau that the call leaves: it is the s-th of the rows whose first m numbers are all 0, without
+ * these m numbers. So after is standing with the vectors of the move added or taken away.
+ *
+ * What is returned, and what is then left:
+ *
+ *                                                                               tableau    after, strides
+ *    0  ACCEPTED             there is a step, or no move improves               the form   the list after and the strides
+ *    1  REFUSED_SIZE         n is not 1 to MOST_COLUMNS, or m is not 0 to       as it was  as they were
+ *                            MOST_ROWS
+ *    2  REFUSED_LENGTH       a count is not exactly what n and m need           as it was  as they were
+ *    3  REFUSED_COEFFICIENT  a coefficient is beyond RANGE_COEFFICIENT, or a    as it was  as they were
+ *                            right side beyond RANGE_RIGHT, of either sign
+ *    4  REFUSED_BOUND        a bound is beyond RANGE_BOUND of either sign, or   as it was  as they were
+ *                            a lower bound is above its upper bound
+ *    5  REFUSED_GOAL         a goal is not 0 to RANGE_GOAL, or stands with a    as it was  as they were
+ *                            lower bound below 1
+ *    7  REFUSED_ELIMINATION  the elimination met a number beyond M              all 0      as they were
+ *   10  REFUSED_STANDING     a value of the standing list is beyond M, or the   as it was  as they were
+ *                            list fails a row
+ *
+ * The first cause that holds is returned, in the order 1 to 5, then 10, then 7. There is no step limit, so 6 is never returned.
+ */
+uint32_t koralimbu_preview(size_t n, size_t m,
+                           const int64_t *coefficients, size_t coefficients_count,
+                           const int64_t *rights, size_t rights_count,
+                           const int64_t *lower, size_t lower_count,
+                           const int64_t *upper, size_t upper_count,
+                           const int64_t *goals, size_t goals_count,
+                           const int64_t *standing, size_t standing_count,
+                           int64_t *tableau, size_t tableau_count,
+                           int64_t *after, size_t after_count,
+                           uint64_t *strides, size_t strides_count,
+                           uint32_t *report, size_t report_count);
 
 /* The reader: makes the problem of a deck text, in buffers of the largest size.
  *

@@ -1,5 +1,5 @@
-/* What the header says, tried over the archive: the version, null pointers, every refusal and limit by its name, the sizes of a deck,
- * calls in several threads at once, and calls on a small stack.
+/* What the header says, tried over the archive: the version, null pointers, every refusal and limit by its name, the preview beside
+ * Continue, the sizes of a deck, calls in several threads at once, and calls on a small stack.
  *
  * Prints a line for each check that fails, and last 'N passed, M failed'.
  */
@@ -14,7 +14,7 @@
 #include "koralimbu.h"
 
 /* The names are numbers for the preprocessor too. */
-#if KORALIMBU_VERSION < 2000 || KORALIMBU_MOST_COEFFICIENTS != KORALIMBU_MOST_ROWS * KORALIMBU_MOST_COLUMNS \
+#if KORALIMBU_VERSION < 3000 || KORALIMBU_MOST_COEFFICIENTS != KORALIMBU_MOST_ROWS * KORALIMBU_MOST_COLUMNS \
     || KORALIMBU_MOST_TABLEAU != KORALIMBU_MOST_COLUMNS * (KORALIMBU_MOST_ROWS + KORALIMBU_MOST_COLUMNS) \
     || KORALIMBU_DECK_COEFFICIENTS != KORALIMBU_DECK_ROWS * KORALIMBU_DECK_COLUMNS
 #error "names of koralimbu.h that do not agree"
@@ -30,7 +30,7 @@
 /* What a buffer holds before a call. */
 #define MARK 77
 
-/* A problem, and the list that Continue starts from. */
+/* A problem, and the list that Continue and the preview start from. */
 struct posed {
     size_t n, m;
     uint32_t limit;
@@ -40,6 +40,13 @@ struct posed {
 struct answer {
     uint32_t number, report[KORALIMBU_REPORT_COUNT];
     int64_t tableau[COLUMNS * (ROWS + COLUMNS)], values[COLUMNS];
+    uint64_t strides[COLUMNS];
+};
+
+/* A preview's. */
+struct seen {
+    uint32_t number, report[KORALIMBU_PREVIEW_COUNT];
+    int64_t tableau[COLUMNS * (ROWS + COLUMNS)], after[COLUMNS];
     uint64_t strides[COLUMNS];
 };
 
@@ -104,6 +111,23 @@ static void settle(engine *call, const struct posed *p, struct answer *a)
                      a->tableau, n * (m + n), a->values, n, a->strides, n, a->report, KORALIMBU_REPORT_COUNT);
 }
 
+static void look(const struct posed *p, struct seen *s)
+{
+    size_t n = p->n, m = p->m, k;
+
+    memset(s, 0, sizeof *s);
+    for (k = 0; k < KORALIMBU_PREVIEW_COUNT; k++)
+        s->report[k] = MARK;
+    for (k = 0; k < n * (m + n); k++)
+        s->tableau[k] = MARK;
+    for (k = 0; k < n; k++) {
+        s->after[k] = MARK;
+        s->strides[k] = MARK;
+    }
+    s->number = koralimbu_preview(n, m, p->coefficients, m * n, p->rights, m, p->lower, n, p->upper, n, p->goals, n, p->start, n,
+                                  s->tableau, n * (m + n), s->after, n, s->strides, n, s->report, KORALIMBU_PREVIEW_COUNT);
+}
+
 static void read_text(const uint8_t *text, size_t count, struct deck *d)
 {
     memset(d, 0, sizeof *d);
@@ -113,7 +137,58 @@ static void read_text(const uint8_t *text, size_t count, struct deck *d)
                                d->goals, KORALIMBU_DECK_COLUMNS, d->sizes, KORALIMBU_SIZES_COUNT);
 }
 
-/* Both calls return a number; with a refusal the report is all 0. */
+/* Whether count numbers of a list are all the same one. */
+static int all_are(const int64_t *list, size_t count, int64_t number)
+{
+    size_t k;
+
+    for (k = 0; k < count && list[k] == number; k++)
+        ;
+    return k == count;
+}
+
+/* What a preview leaves with a refusal: as it was lent, but for the report and the tableau of an elimination beyond M. */
+static int left_alone(const struct posed *p, const struct seen *s)
+{
+    static const uint32_t nothing[KORALIMBU_PREVIEW_COUNT];
+    int64_t tableau = s->number == KORALIMBU_REFUSED_ELIMINATION ? 0 : MARK;
+    size_t j;
+
+    for (j = 0; j < p->n && s->strides[j] == MARK; j++)
+        ;
+    return j == p->n && all_are(s->after, p->n, MARK) && all_are(s->tableau, p->n * (p->m + p->n), tableau)
+           && memcmp(s->report, nothing, sizeof nothing) == 0;
+}
+
+/* What a preview leaves besides is what Continue with the limit 1 left, and its part is the one whose count is 1. */
+static int as_continued(const struct posed *p, const struct seen *s, const struct answer *a)
+{
+    size_t n = p->n, m = p->m;
+    uint32_t part = s->report[0];
+
+    return memcmp(s->tableau, a->tableau, n * (m + n) * sizeof *s->tableau) == 0
+           && memcmp(s->after, a->values, n * sizeof *s->after) == 0 && memcmp(s->strides, a->strides, n * sizeof *s->strides) == 0
+           && a->report[1] == (part == KORALIMBU_PART_BOUNDS) && a->report[2] == (part == KORALIMBU_PART_GOALS);
+}
+
+/* The preview returns a number. It equals Continue with the limit 1 on a copy of the list, and only reads the problem and the list. */
+static void previewed(const char *what, const struct posed *p, uint32_t wanted)
+{
+    static struct posed copy;
+    static struct seen s;
+    static struct answer a;
+
+    memcpy(&copy, p, sizeof copy);
+    look(p, &s);
+    expect(what, s.number, wanted);
+    check(what, memcmp(&copy, p, sizeof copy) == 0);
+    copy.limit = 1;
+    settle(koralimbu_continue, &copy, &a);
+    expect(what, s.number, a.number);
+    check(what, wanted == KORALIMBU_ACCEPTED ? as_continued(p, &s, &a) : left_alone(p, &s));
+}
+
+/* Both calls and the preview return a number; with a refusal the report is all 0. The preview has no limit. */
 static void both(const char *what, const struct posed *p, uint32_t wanted)
 {
     static const uint32_t nothing[KORALIMBU_REPORT_COUNT];
@@ -127,6 +202,7 @@ static void both(const char *what, const struct posed *p, uint32_t wanted)
         if (wanted != KORALIMBU_ACCEPTED)
             check(what, memcmp(a.report, nothing, sizeof nothing) == 0);
     }
+    previewed(what, p, wanted == KORALIMBU_REFUSED_LIMIT ? KORALIMBU_ACCEPTED : wanted);
 }
 
 static void assigned(const char *what, const struct posed *p, uint32_t wanted, uint32_t verdict)
@@ -144,6 +220,7 @@ static void continued(const char *what, const struct posed *p, uint32_t wanted)
 
     settle(koralimbu_continue, p, &a);
     expect(what, a.number, wanted);
+    previewed(what, p, wanted);
 }
 
 static void reads(const char *what, const char *text, uint32_t wanted)
@@ -156,7 +233,7 @@ static void reads(const char *what, const char *text, uint32_t wanted)
 
 /* ---------------------------------------------------------------- null pointers */
 
-enum { LOWER, UPPER, GOALS, TABLEAU, VALUES, STRIDES, REPORT, TAKEN, COEFFICIENTS, RIGHTS, SIZES };
+enum { LOWER, UPPER, GOALS, TABLEAU, VALUES, STRIDES, REPORT, STANDING, TAKEN, COEFFICIENTS, RIGHTS, SIZES };
 
 /* Null with a count of 0 at one place, and what is lent otherwise. */
 #define LENT(place, pointer, count) none == (place) ? NULL : (pointer), none == (place) ? 0 : (size_t)(count)
@@ -171,6 +248,17 @@ static uint32_t without(engine *call, int none)
     return call(1, 0, LIMIT, NULL, 0, NULL, 0, LENT(LOWER, &lower, 1), LENT(UPPER, &upper, 1), LENT(GOALS, &goals, 1),
                 LENT(TABLEAU, &tableau, 1), LENT(VALUES, &values, 1), LENT(STRIDES, &strides, 1),
                 LENT(REPORT, report, KORALIMBU_REPORT_COUNT));
+}
+
+static uint32_t preview_without(int none)
+{
+    int64_t lower = 3, upper = 5, goals = 0, standing = 4, tableau = 0, after = 0;
+    uint64_t strides = 0;
+    uint32_t report[KORALIMBU_PREVIEW_COUNT];
+
+    return koralimbu_preview(1, 0, NULL, 0, NULL, 0, LENT(LOWER, &lower, 1), LENT(UPPER, &upper, 1), LENT(GOALS, &goals, 1),
+                             LENT(STANDING, &standing, 1), LENT(TABLEAU, &tableau, 1), LENT(VALUES, &after, 1),
+                             LENT(STRIDES, &strides, 1), LENT(REPORT, report, KORALIMBU_PREVIEW_COUNT));
 }
 
 static uint32_t read_without(int none)
@@ -199,6 +287,21 @@ static void all_null(engine *call)
            KORALIMBU_REFUSED_LENGTH);
 }
 
+static void preview_all_null(void)
+{
+    uint32_t report[KORALIMBU_PREVIEW_COUNT];
+
+    expect("a preview of no column and every buffer null",
+           koralimbu_preview(0, 0, NULL, 0, NULL, 0, NULL, 0, NULL, 0, NULL, 0, NULL, 0, NULL, 0, NULL, 0, NULL, 0,
+                             report, KORALIMBU_PREVIEW_COUNT), KORALIMBU_REFUSED_SIZE);
+    expect("a preview of a column and every buffer null",
+           koralimbu_preview(1, 0, NULL, 0, NULL, 0, NULL, 0, NULL, 0, NULL, 0, NULL, 0, NULL, 0, NULL, 0, NULL, 0,
+                             report, KORALIMBU_PREVIEW_COUNT), KORALIMBU_REFUSED_LENGTH);
+    expect("a preview with every buffer null, the report too",
+           koralimbu_preview(0, 0, NULL, 0, NULL, 0, NULL, 0, NULL, 0, NULL, 0, NULL, 0, NULL, 0, NULL, 0, NULL, 0, NULL, 0),
+           KORALIMBU_REFUSED_LENGTH);
+}
+
 static void try_null_pointers(void)
 {
     static const int lent[] = {COEFFICIENTS, RIGHTS, LOWER, UPPER, GOALS, SIZES};
@@ -213,6 +316,10 @@ static void try_null_pointers(void)
             expect("a null buffer of a column", without(calls[k], none), KORALIMBU_REFUSED_LENGTH);
         all_null(calls[k]);
     }
+    expect("null rows of no row in a preview", preview_without(TAKEN), KORALIMBU_ACCEPTED);
+    for (none = LOWER; none <= STANDING; none++)
+        expect("a null buffer of a preview", preview_without(none), KORALIMBU_REFUSED_LENGTH);
+    preview_all_null();
     expect("a deck's buffers", read_without(TAKEN), KORALIMBU_ACCEPTED);
     for (k = 0; k < sizeof lent / sizeof *lent; k++)
         expect("a null buffer of a deck", read_without(lent[k]), KORALIMBU_REFUSED_LENGTH);
@@ -360,6 +467,100 @@ static void try_report(void)
     }
 }
 
+/* ---------------------------------------------------------------- the preview */
+
+/* The step of a list, by the numbers of its report; the list after it is p's own next time. */
+static void steps(const char *what, struct posed *p, uint32_t part, uint32_t column, uint32_t s, uint32_t s_sign, uint32_t t, uint32_t t_sign)
+{
+    static struct seen seen;
+    uint32_t wanted[KORALIMBU_PREVIEW_COUNT];
+
+    wanted[0] = part;
+    wanted[1] = column;
+    wanted[2] = s;
+    wanted[3] = s_sign;
+    wanted[4] = t;
+    wanted[5] = t_sign;
+    previewed(what, p, KORALIMBU_ACCEPTED);
+    look(p, &seen);
+    check(what, memcmp(seen.report, wanted, sizeof wanted) == 0);
+    memcpy(p->start, seen.after, p->n * sizeof *p->start);
+}
+
+/* v1 = v2, bounds 1..10 and 3..10, goals of 4 intervals: towards the bounds, then towards the goals, then at rest. */
+static void try_a_run(void)
+{
+    static struct posed p;
+    size_t j;
+
+    pose(&p, 2, 1);
+    p.coefficients[0] = 1;
+    p.coefficients[1] = -1;
+    for (j = 0; j < 2; j++) {
+        p.lower[j] = 1 + 2 * (int64_t)j;
+        p.goals[j] = 4000;
+        p.start[j] = 1;
+    }
+    steps("a step towards the bounds", &p, KORALIMBU_PART_BOUNDS, 2, 1, KORALIMBU_SIGN_PLUS, 0, 0);
+    check("the list after it", p.start[0] == 2 && p.start[1] == 2);
+    steps("the last step towards the bounds", &p, KORALIMBU_PART_BOUNDS, 2, 1, KORALIMBU_SIGN_PLUS, 0, 0);
+    steps("a step towards the goals", &p, KORALIMBU_PART_GOALS, 1, 1, KORALIMBU_SIGN_PLUS, 0, 0);
+    check("the list after it", p.start[0] == 4 && p.start[1] == 4);
+    steps("no step", &p, KORALIMBU_PART_NONE, 0, 0, 0, 0, 0);
+    check("the list where no move improves", p.start[0] == 4 && p.start[1] == 4);
+    p.start[1] = 5;
+    previewed("a list that fails a row", &p, KORALIMBU_REFUSED_STANDING);
+}
+
+/* v1 + v2 = v3 with v3 held at 5: a vector alone moves v3, so that a pair lifts v1 to its lower bound. */
+static void try_a_pair(void)
+{
+    static struct posed p;
+    static struct seen s;
+
+    pose(&p, 3, 1);
+    p.coefficients[0] = p.coefficients[1] = 1;
+    p.coefficients[2] = -1;
+    p.lower[0] = 1;
+    p.lower[2] = p.upper[2] = p.start[1] = p.start[2] = 5;
+    look(&p, &s);
+    /* The rows of the form whose first number is 0 are the vectors (1, 0, 1) and (0, 1, 1). */
+    check("a row of the form that is no vector", s.tableau[0] != 0);
+    check("the first vector", s.tableau[4] == 0 && s.tableau[5] == 1 && s.tableau[6] == 0 && s.tableau[7] == 1);
+    check("the second vector", s.tableau[8] == 0 && s.tableau[9] == 0 && s.tableau[10] == 1 && s.tableau[11] == 1);
+    steps("a step by a pair", &p, KORALIMBU_PART_BOUNDS, 1, 1, KORALIMBU_SIGN_PLUS, 2, KORALIMBU_SIGN_MINUS);
+    check("the list after a pair", p.start[0] == 1 && p.start[1] == 4 && p.start[2] == 5);
+    steps("no step after a pair", &p, KORALIMBU_PART_NONE, 0, 0, 0, 0, 0);
+}
+
+/* Counts that are not a preview's. A report of another count is not written. */
+static void try_preview_counts(void)
+{
+    int64_t lower = 3, upper = 5, goals = 0, standing[2] = {1, 1}, tableau = MARK, after[2] = {MARK, MARK};
+    uint64_t strides = MARK;
+    uint32_t report[KORALIMBU_PREVIEW_COUNT + 1];
+    size_t counts[][3] = {{2, 1, KORALIMBU_PREVIEW_COUNT}, {0, 1, KORALIMBU_PREVIEW_COUNT}, {1, 2, KORALIMBU_PREVIEW_COUNT},
+                          {1, 0, KORALIMBU_PREVIEW_COUNT}, {1, 1, KORALIMBU_PREVIEW_COUNT - 1}, {1, 1, KORALIMBU_PREVIEW_COUNT + 1},
+                          {1, 1, KORALIMBU_REPORT_COUNT}, {1, 1, 0}};
+    size_t k, j;
+
+    for (k = 0; k < sizeof counts / sizeof *counts; k++) {
+        uint32_t left = counts[k][2] == KORALIMBU_PREVIEW_COUNT ? 0 : MARK;
+
+        for (j = 0; j <= KORALIMBU_PREVIEW_COUNT; j++)
+            report[j] = MARK;
+        expect("a preview's other count", koralimbu_preview(1, 0, NULL, 0, NULL, 0, &lower, 1, &upper, 1, &goals, 1, standing, counts[k][0],
+               &tableau, 1, after, counts[k][1], &strides, 1, report, counts[k][2]), KORALIMBU_REFUSED_LENGTH);
+        check("the lists at such a count", tableau == MARK && all_are(after, 2, MARK) && strides == MARK && all_are(standing, 2, 1));
+        for (j = 0; j < KORALIMBU_PREVIEW_COUNT && report[j] == left; j++)
+            ;
+        check("the report at such a count", j == KORALIMBU_PREVIEW_COUNT && report[j] == MARK);
+    }
+    /* The report comes first: there is no column either. */
+    expect("a report of another count and no column", koralimbu_preview(0, 0, NULL, 0, NULL, 0, NULL, 0, NULL, 0, NULL, 0, NULL, 0, NULL, 0,
+           NULL, 0, NULL, 0, report, 1), KORALIMBU_REFUSED_LENGTH);
+}
+
 /* ---------------------------------------------------------------- a deck's limits */
 
 /* A deck of equal curves and of rows that say nothing but their kind, and then spaces up to a count of bytes. */
@@ -427,11 +628,12 @@ static void try_deck_sizes(void)
 
 /* ---------------------------------------------------------------- threads */
 
-/* What one thread does: all three calls, on a text and a problem that all threads read. */
+/* What one thread does: all four calls, on a text and a problem that all threads read. */
 struct work {
     const struct posed *posed;
     size_t rounds;
     struct answer assigned, continued;
+    struct seen seen;
     struct deck deck;
 };
 
@@ -444,6 +646,7 @@ static void *work(void *given)
         read_text((const uint8_t *)paving, sizeof paving - 1, &w->deck);
         settle(koralimbu_assign, w->posed, &w->assigned);
         settle(koralimbu_continue, w->posed, &w->continued);
+        look(w->posed, &w->seen);
     }
     return NULL;
 }
@@ -451,7 +654,8 @@ static void *work(void *given)
 static int same(const struct work *a, const struct work *b)
 {
     return memcmp(&a->assigned, &b->assigned, sizeof a->assigned) == 0
-           && memcmp(&a->continued, &b->continued, sizeof a->continued) == 0 && memcmp(&a->deck, &b->deck, sizeof a->deck) == 0;
+           && memcmp(&a->continued, &b->continued, sizeof a->continued) == 0
+           && memcmp(&a->seen, &b->seen, sizeof a->seen) == 0 && memcmp(&a->deck, &b->deck, sizeof a->deck) == 0;
 }
 
 /* The largest problem, of pairs v(2k) = v(2k + 1) whose bounds begin far from each other, so that it takes many steps. */
@@ -521,6 +725,9 @@ int main(void)
     try_m();
     try_verdicts();
     try_report();
+    try_a_run();
+    try_a_pair();
+    try_preview_counts();
     try_deck_limits();
     try_deck_sizes();
     pose_pairs(&pairs);
@@ -529,6 +736,8 @@ int main(void)
     work(&alone);
     expect("many steps", alone.assigned.number, KORALIMBU_ACCEPTED);
     check("many steps towards the bounds", alone.assigned.report[1] > 1000 && alone.continued.report[1] > 1000);
+    check("the first of them", alone.seen.number == KORALIMBU_ACCEPTED && alone.seen.report[0] == KORALIMBU_PART_BOUNDS);
+    previewed("the first of many steps", &pairs, KORALIMBU_ACCEPTED);
     try_threads(&pairs, &alone);
     try_small_stack(&pairs, &alone);
     printf("%d passed, %d failed\n", passed, failed);

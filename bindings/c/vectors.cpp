@@ -31,12 +31,36 @@ static uint32_t without_rows(Engine *call) {
     return number;
 }
 
+// The preview of the same column below its bounds.
+static uint32_t preview_without_rows() {
+    std::vector<int64_t> coefficients, rights, lower{3}, upper{5}, goals{0}, tableau(1), after(1);
+    const std::vector<int64_t> standing{2};
+    std::vector<uint64_t> strides(1);
+    std::vector<uint32_t> report(KORALIMBU_PREVIEW_COUNT);
+    uint32_t number = koralimbu_preview(lower.size(), rights.size(), coefficients.data(), coefficients.size(), rights.data(), rights.size(),
+                                        lower.data(), lower.size(), upper.data(), upper.size(), goals.data(), goals.size(),
+                                        standing.data(), standing.size(), tableau.data(), tableau.size(), after.data(), after.size(),
+                                        strides.data(), strides.size(), report.data(), report.size());
+    const std::vector<uint32_t> step{KORALIMBU_PART_BOUNDS, 1, 1, KORALIMBU_SIGN_PLUS, 0, 0};
+    expect("the step of a preview", report == step, true);
+    expect("the list after it", after == lower, true);
+    return number;
+}
+
 static uint32_t all_empty(Engine *call) {
     std::vector<int64_t> none;
     std::vector<uint64_t> strides;
     std::vector<uint32_t> report;
     return call(1, 0, 0, none.data(), 0, none.data(), 0, none.data(), 0, none.data(), 0, none.data(), 0,
                 none.data(), 0, none.data(), 0, strides.data(), 0, report.data(), 0);
+}
+
+static uint32_t preview_all_empty() {
+    std::vector<int64_t> none;
+    std::vector<uint64_t> strides;
+    std::vector<uint32_t> report;
+    return koralimbu_preview(1, 0, none.data(), 0, none.data(), 0, none.data(), 0, none.data(), 0, none.data(), 0, none.data(), 0,
+                             none.data(), 0, none.data(), 0, strides.data(), 0, report.data(), 0);
 }
 
 static uint32_t empty_text() {
@@ -55,6 +79,8 @@ int main() {
         expect("no rows", without_rows(call), KORALIMBU_ACCEPTED);
         expect("empty vectors", all_empty(call), KORALIMBU_REFUSED_LENGTH);
     }
+    expect("a preview without rows", preview_without_rows(), KORALIMBU_ACCEPTED);
+    expect("a preview of empty vectors", preview_all_empty(), KORALIMBU_REFUSED_LENGTH);
     expect("an empty text", empty_text(), KORALIMBU_REFUSED_LAYOUT);
     std::printf("%d passed, %d failed\n", passed, failed);
     return failed != 0;

@@ -1,6 +1,7 @@
 //! The calls of `include/koralimbu.h`, each behind a safe function.
 
-use crate::{Answer, Buffers, DeckBuffers, Problem, Refusal, Sizes, Steps, Verdict};
+use crate::step::{step_of, PREVIEW_COUNT};
+use crate::{Answer, Buffers, DeckBuffers, PreviewBuffers, Problem, Refusal, Sizes, Step, Steps, Verdict};
 
 // Line for line the header's.
 #[rustfmt::skip]
@@ -29,6 +30,20 @@ extern "C" {
         goals: *const i64, goals_count: usize,
         tableau: *mut i64, tableau_count: usize,
         values: *mut i64, values_count: usize,
+        strides: *mut u64, strides_count: usize,
+        report: *mut u32, report_count: usize,
+    ) -> u32;
+
+    fn koralimbu_preview(
+        n: usize, m: usize,
+        coefficients: *const i64, coefficients_count: usize,
+        rights: *const i64, rights_count: usize,
+        lower: *const i64, lower_count: usize,
+        upper: *const i64, upper_count: usize,
+        goals: *const i64, goals_count: usize,
+        standing: *const i64, standing_count: usize,
+        tableau: *mut i64, tableau_count: usize,
+        after: *mut i64, after_count: usize,
         strides: *mut u64, strides_count: usize,
         report: *mut u32, report_count: usize,
     ) -> u32;
@@ -98,6 +113,31 @@ pub fn verdict_of(number: u32) -> Result<Verdict, Refusal> {
     }
 }
 
+pub fn preview(problem: &Problem, standing: &[i64], buffers: &mut PreviewBuffers) -> Result<Option<Step>, Refusal> {
+    let Problem { columns, rows, limit: _ } = problem;
+    let (n, m) = (columns.lower.len(), rows.rights.len());
+    let mut report = [0; PREVIEW_COUNT];
+    // Sound for the reasons above.
+    #[rustfmt::skip]
+    let number = unsafe {
+        koralimbu_preview(
+            n, m,
+            rows.coefficients.as_ptr(), rows.coefficients.len(),
+            rows.rights.as_ptr(), rows.rights.len(),
+            columns.lower.as_ptr(), columns.lower.len(),
+            columns.upper.as_ptr(), columns.upper.len(),
+            columns.goals.as_ptr(), columns.goals.len(),
+            standing.as_ptr(), standing.len(),
+            buffers.tableau.as_mut_ptr(), buffers.tableau.len(),
+            buffers.after.as_mut_ptr(), buffers.after.len(),
+            buffers.strides.as_mut_ptr(), buffers.strides.len(),
+            report.as_mut_ptr(), report.len(),
+        )
+    };
+    Refusal::check(number)?;
+    step_of(report, n)
+}
+
 pub fn read(text: &[u8], buffers: &mut DeckBuffers) -> Result<Sizes, Refusal> {
     let mut sizes = [0; SIZES_COUNT];
     // Sound for the reasons above.
@@ -127,7 +167,7 @@ mod tests {
         for number in [0, 4, u32::MAX] {
             let refusal = verdict_of(number).unwrap_err();
             assert_eq!((refusal, refusal.number()), (Refusal::Unknown(0), 0));
-            assert!(refusal.to_string().starts_with("a verdict that this package does not know"));
+            assert!(refusal.to_string().starts_with("a verdict or a step that this package does not know"));
         }
     }
 }

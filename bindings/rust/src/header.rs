@@ -3,7 +3,8 @@
 use std::collections::BTreeMap;
 
 use crate::calls::{verdict_of, REPORT_COUNT, SIZES_COUNT};
-use crate::{Refusal, Verdict};
+use crate::step::{part_of, sign_of, PREVIEW_COUNT};
+use crate::{Part, Refusal, Sign, Verdict};
 
 const HEADER: &str = include_str!("../../../include/koralimbu.h");
 
@@ -26,6 +27,7 @@ fn limits() -> BTreeMap<&'static str, i64> {
         RANGE_COEFFICIENT RANGE_RIGHT RANGE_BOUND RANGE_GOAL M MOST_STACK
     });
     names.insert("REPORT_COUNT", REPORT_COUNT as i64);
+    names.insert("PREVIEW_COUNT", PREVIEW_COUNT as i64);
     names.insert("SIZES_COUNT", SIZES_COUNT as i64);
     names
 }
@@ -49,6 +51,12 @@ const REFUSED: [(&str, Refusal); 12] = [
 const VERDICTS: [(&str, Verdict); 3] =
     [("FITTED", Verdict::Fitted), ("OUTSIDE", Verdict::Outside), ("SPENT", Verdict::Spent)];
 
+/// Where there is no step, there is no part.
+const PARTS: [(&str, Option<Part>); 3] =
+    [("PART_NONE", None), ("PART_BOUNDS", Some(Part::Bounds)), ("PART_GOALS", Some(Part::Goals))];
+
+const SIGNS: [(&str, Sign); 2] = [("SIGN_PLUS", Sign::Plus), ("SIGN_MINUS", Sign::Minus)];
+
 #[test]
 fn the_limits_are_the_headers() {
     for (name, number) in limits() {
@@ -68,6 +76,16 @@ fn the_refusals_and_verdicts_are_the_headers() {
 }
 
 #[test]
+fn the_parts_and_signs_are_the_headers() {
+    for (name, part) in PARTS {
+        assert_eq!(part_of(defined()[name] as u32), part, "{name}");
+    }
+    for (name, sign) in SIGNS {
+        assert_eq!(sign_of(defined()[name] as u32), Some(sign), "{name}");
+    }
+}
+
+#[test]
 fn the_version_is_the_headers_and_the_librarys() {
     let [major, minor, patch] =
         ["MAJOR", "MINOR", "PATCH"].map(|part| defined()[format!("VERSION_{part}").as_str()] as u32);
@@ -80,7 +98,9 @@ fn the_version_is_the_headers_and_the_librarys() {
 fn every_name_of_the_header_is_compared() {
     let mut names = defined();
     names.retain(|name, _| !limits().contains_key(name) && !name.starts_with("VERSION_") && *name != "ACCEPTED");
-    for name in REFUSED.map(|(name, _)| name).iter().chain(&VERDICTS.map(|(name, _)| name)) {
+    let answers = REFUSED.map(|(name, _)| name).into_iter().chain(VERDICTS.map(|(name, _)| name));
+    let steps = PARTS.map(|(name, _)| name).into_iter().chain(SIGNS.map(|(name, _)| name));
+    for name in answers.chain(steps) {
         names.remove(name);
     }
     assert_eq!(names, BTreeMap::new());

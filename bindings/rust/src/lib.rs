@@ -17,7 +17,17 @@
 //! # Ok::<(), koralimbu::Refusal>(())
 //! ```
 //!
-//! [`assign`], [`continue_from`] and [`read_deck`] are the engine's own calls, for callers who keep their buffers. They allocate
+//! The next step of a list can be seen before it is taken, with the columns that it changes:
+//!
+//! ```
+//! let deck = koralimbu::Deck::read("2\n1 9 0\n5 9 0\n1\n0 0 2 1 1 2 -1\n")?;
+//! let next = koralimbu::next_step(&deck.problem(0), &[1, 1])?.expect("curve 2 lies below its bounds");
+//! assert_eq!(next.step.to_string(), "bounds part: +N1 for column 2");
+//! assert_eq!(next.after, [2, 2]);
+//! # Ok::<(), koralimbu::Refusal>(())
+//! ```
+//!
+//! [`assign`], [`continue_from`], [`preview`] and [`read_deck`] are the engine's own calls, for callers who keep their buffers. They allocate
 //! nothing. What a call leaves in each buffer stands in `include/koralimbu.h`.
 //!
 //! The engine keeps no state of its own, so that any of this may be called in several threads at once.
@@ -29,11 +39,13 @@ mod calls;
 mod header;
 mod limits;
 mod refusal;
+mod step;
 mod version;
 
 use calls::Call;
 pub use limits::*;
 pub use refusal::Refusal;
+pub use step::{basis, Change, Move, NextStep, Part, Sign, SignedVector, Step};
 pub use version::{version, VERSION};
 
 /// The bounds and the goal of each column. There are as many columns as lower bounds.
@@ -115,6 +127,39 @@ pub fn assign(problem: &Problem, buffers: &mut Buffers) -> Result<Answer, Refusa
 /// Document 01's Continue: settles the list that `buffers.values` holds, which must satisfy the rows.
 pub fn continue_from(problem: &Problem, buffers: &mut Buffers) -> Result<Answer, Refusal> {
     calls::settle(Call::Continue, problem, buffers)
+}
+
+/// What a preview fills. For n columns and m rows the tableau has n(m + n) numbers, the others n.
+#[derive(Debug)]
+pub struct PreviewBuffers<'a> {
+    /// Afterwards the form; [`basis`] finds the vectors of a [`Move`] in it.
+    pub tableau: &'a mut [i64],
+    /// Afterwards the value of each column after the step; the standing one where no move improves.
+    pub after: &'a mut [i64],
+    /// Afterwards the stride of each column, the step by which it can change at all.
+    pub strides: &'a mut [u64],
+}
+
+/// The next step of a standing list, which must satisfy the rows; `None` where no move improves. The list is only read.
+///
+/// It is what [`continue_from`] with the limit 1 does on a copy of the list. The problem's own limit plays no part.
+///
+/// ```
+/// use koralimbu::*;
+///
+/// // v1 + v2 = v3: no single vector lifts the first column to its lower bound and keeps the third at 5.
+/// let columns = Columns { lower: &[1, 0, 5], upper: &[9, 9, 5], goals: &[0; 3] };
+/// let problem = Problem { columns, rows: Rows { coefficients: &[1, 1, -1], rights: &[0] }, limit: 0 };
+/// let (mut tableau, mut after, mut strides) = ([0; 12], [0; 3], [0; 3]);
+/// let mut buffers = PreviewBuffers { tableau: &mut tableau, after: &mut after, strides: &mut strides };
+/// let step = preview(&problem, &[0, 5, 5], &mut buffers)?.expect("the first column lies below its bounds");
+/// assert_eq!((step.part, step.column, step.by.to_string()), (Part::Bounds, 0, "+N1 -N2".to_string()));
+/// assert_eq!(after, [1, 4, 5]);
+/// assert_eq!(basis(&tableau, 3, 1).collect::<Vec<_>>(), [[1, 0, 1], [0, 1, 1]]);
+/// # Ok::<(), Refusal>(())
+/// ```
+pub fn preview(problem: &Problem, standing: &[i64], buffers: &mut PreviewBuffers) -> Result<Option<Step>, Refusal> {
+    calls::preview(problem, standing, buffers)
 }
 
 /// What the reader fills.
@@ -251,9 +296,29 @@ pub fn solve_from(problem: &Problem, values: &[i64]) -> Result<Solved, Refusal> 
     in_own_buffers(continue_from, problem, values.to_vec())
 }
 
+/// The next step of a list, in buffers of its own; `None` where no move improves. See [`preview`].
+pub fn next_step(problem: &Problem, values: &[i64]) -> Result<Option<NextStep>, Refusal> {
+    let n = problem.columns.lower.len();
+    let (mut tableau, mut after, mut strides) = (vec![0; room(problem)], vec![0; n], vec![0; n]);
+    let mut buffers = PreviewBuffers { tableau: &mut tableau, after: &mut after, strides: &mut strides };
+    let step = preview(problem, values, &mut buffers)?;
+    Ok(step.map(|step| NextStep { step, changes: step::changes(values, &after), after }))
+}
+
 /// A whole assignment of a deck's text. The curves' values come first; with [`Deck::solve`] the deck tells how many they are.
 pub fn solve_text(text: impl AsRef<[u8]>, limit: u32) -> Result<Solved, Refusal> {
     Deck::read(text)?.solve(limit)
+}
+
+/// The numbers of a problem's tableau.
+fn room(problem: &Problem) -> usize {
+    let (n, m) = (problem.columns.lower.len(), problem.rows.rights.len());
+    // A problem too large is refused by its counts, whatever it lends.
+    if n <= MOST_COLUMNS && m <= MOST_ROWS {
+        n * (m + n)
+    } else {
+        0
+    }
 }
 
 fn in_own_buffers(
@@ -261,11 +326,8 @@ fn in_own_buffers(
     problem: &Problem,
     mut values: Vec<i64>,
 ) -> Result<Solved, Refusal> {
-    let (n, m) = (problem.columns.lower.len(), problem.rows.rights.len());
-    // A problem too large is refused by its counts, whatever it lends.
-    let room = if n <= MOST_COLUMNS && m <= MOST_ROWS { n * (m + n) } else { 0 };
-    let mut tableau = vec![0; room];
-    let mut strides = vec![0; n];
+    let mut tableau = vec![0; room(problem)];
+    let mut strides = vec![0; problem.columns.lower.len()];
     let mut buffers = Buffers { tableau: &mut tableau, values: &mut values, strides: &mut strides };
     let Answer { verdict, steps } = call(problem, &mut buffers)?;
     Ok(Solved { verdict, steps, values, strides })

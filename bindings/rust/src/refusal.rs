@@ -31,7 +31,8 @@ pub enum Refusal {
     Layout,
     /// 12: a row's kind, its count of terms, an index or a coefficient of 0 is wrong, or a row adds a column too many.
     Term,
-    /// The library answered with a number, or where this is 0 with a verdict, that this package does not know: it is of another version.
+    /// The library answered with a number, or where this is 0 with a verdict or a step, that this package does not know: it is of
+    /// another version.
     Unknown(u32),
 }
 
@@ -98,9 +99,9 @@ impl Refusal {
 impl fmt::Display for Refusal {
     fn fmt(&self, f: &mut fmt::Formatter) -> fmt::Result {
         match self {
-            Unknown(0) => {
-                f.write_str("a verdict that this package does not know, since libkoralimbu.a is of another version")
-            }
+            Unknown(0) => f.write_str(
+                "a verdict or a step that this package does not know, since libkoralimbu.a is of another version",
+            ),
             _ => write!(f, "refused with {}: {}", self.number(), self.why()),
         }
     }

@@ -73,6 +73,11 @@ impl Lent {
     fn buffers(&mut self) -> Buffers<'_> {
         Buffers { tableau: &mut self.tableau, values: &mut self.values, strides: &mut self.strides }
     }
+
+    /// The same for a preview, whose list after the step is the values.
+    fn preview_buffers(&mut self) -> PreviewBuffers<'_> {
+        PreviewBuffers { tableau: &mut self.tableau, after: &mut self.values, strides: &mut self.strides }
+    }
 }
 
 /// Both calls refuse the problem and leave the buffers as they were.
@@ -82,6 +87,19 @@ fn both_refuse(posed: &Posed, lent: &Lent, refusal: Refusal) {
         assert_eq!(call(&posed.problem(), &mut after.buffers()), Err(refusal));
         assert_eq!(&after, lent);
     }
+}
+
+/// The preview refuses the standing list and leaves the buffers as given.
+fn preview_refuses(posed: &Posed, standing: &[i64], lent: &Lent, refusal: Refusal, left: &Lent) {
+    let mut after = lent.clone();
+    assert_eq!(preview(&posed.problem(), standing, &mut after.preview_buffers()), Err(refusal));
+    assert_eq!(&after, left);
+}
+
+/// All three calls refuse the problem and leave the buffers as they were.
+fn all_refuse(posed: &Posed, lent: &Lent, refusal: Refusal) {
+    both_refuse(posed, lent, refusal);
+    preview_refuses(posed, &vec![MARK; posed.lower.len()], lent, refusal, lent);
 }
 
 /// A whole assignment is refused with the tableau as given and the lists as they were.
@@ -178,51 +196,188 @@ fn continue_where_the_limit_stopped() {
     assert_eq!(settled.values, [5, 5]);
 }
 
+// ---------------------------------------------------------------- the preview
+
+fn plus(vector: usize) -> SignedVector {
+    SignedVector { sign: Sign::Plus, vector }
+}
+
+fn minus(vector: usize) -> SignedVector {
+    SignedVector { sign: Sign::Minus, vector }
+}
+
+/// The preview equals Continue with the limit 1 on a copy of the list: its refusals, and every buffer. The list after, and the step.
+fn previewed(posed: &Posed, standing: &[i64]) -> Result<(Vec<i64>, Option<Step>), Refusal> {
+    let marked = Lent::marked(posed);
+    let mut seen = marked.clone();
+    let step = preview(&posed.problem(), standing, &mut seen.preview_buffers());
+    let once = Posed { limit: 1, ..posed.clone() };
+    let mut copy = Lent { values: standing.to_vec(), ..marked.clone() };
+    match continue_from(&once.problem(), &mut copy.buffers()) {
+        Err(refusal) => {
+            assert_eq!(step, Err(refusal));
+            // Continue starts from its list, so that it is left as that; the preview's is left as it was lent.
+            assert_eq!(seen, Lent { values: marked.values, ..copy });
+        }
+        Ok(answer) => {
+            assert_eq!(seen, copy);
+            let part = step?.map(|step| step.part);
+            let taken = |wanted| u32::from(part == Some(wanted));
+            assert_eq!(answer.steps, Steps { bounds: taken(Part::Bounds), goals: taken(Part::Goals) });
+        }
+    }
+    if let Some(step) = step? {
+        adds_up(posed, standing, &seen, step);
+    }
+    Ok((seen.values, step?))
+}
+
+/// The list after is the standing one and the vectors of the move, and the step changes its column.
+fn adds_up(posed: &Posed, standing: &[i64], seen: &Lent, step: Step) {
+    let vectors: Vec<&[i64]> = basis(&seen.tableau, posed.lower.len(), posed.rights.len()).collect();
+    let mut sum = standing.to_vec();
+    for SignedVector { sign, vector } in [Some(step.by.first), step.by.second].into_iter().flatten() {
+        for (value, entry) in sum.iter_mut().zip(vectors[vector]) {
+            *value += if sign == Sign::Plus { *entry } else { -entry };
+        }
+    }
+    assert_eq!(seen.values, sum);
+    assert_ne!(standing[step.column], sum[step.column]);
+}
+
+/// The steps of a list up to its last list.
+fn run(posed: &Posed, standing: &[i64]) -> (Vec<Step>, Vec<i64>) {
+    let (mut steps, mut values) = (vec![], standing.to_vec());
+    while let (after, Some(step)) = previewed(posed, &values).unwrap() {
+        steps.push(step);
+        values = after;
+        assert!(steps.len() < LIMIT as usize);
+    }
+    (steps, values)
+}
+
+#[test]
+fn a_step_by_one_vector_with_every_buffer() {
+    let posed = Posed::tied();
+    let mut lent = Lent::marked(&posed);
+    let step = Step { part: Part::Bounds, column: 1, by: Move { first: plus(0), second: None } };
+    assert_eq!(preview(&posed.problem(), &[1, 1], &mut lent.preview_buffers()), Ok(Some(step)));
+    assert_eq!(lent, Lent { tableau: vec![1, 0, -1, 0, 1, 1], values: vec![2, 2], strides: vec![1, 1] });
+}
+
+#[test]
+fn a_step_by_two_vectors() {
+    // v1 + v2 = v3, where v3 is held and v1 lies below its bounds.
+    let mut posed = Posed::new(&[&[1, 1, -1]], &[0], 3, 1, 9);
+    (posed.lower[2], posed.upper[2]) = (5, 5);
+    let step = Step { part: Part::Bounds, column: 0, by: Move { first: plus(0), second: Some(minus(1)) } };
+    assert_eq!(previewed(&posed, &[0, 5, 5]), Ok((vec![1, 4, 5], Some(step))));
+}
+
+#[test]
+fn a_step_towards_the_goals() {
+    let mut posed = Posed::new(&[&[3, -2]], &[0], 2, 1, 100);
+    posed.goals = vec![2500, 4000];
+    let step = Step { part: Part::Goals, column: 0, by: Move { first: minus(0), second: None } };
+    assert_eq!(previewed(&posed, &[4, 6]), Ok((vec![2, 3], Some(step))));
+}
+
+#[test]
+fn no_move_improves() {
+    assert_eq!(previewed(&Posed::tied(), &[9, 9]), Ok((vec![9, 9], None)));
+    let mut outside = Posed::new(&[&[1, -2]], &[0], 2, 1, 10);
+    outside.upper[0] = 1;
+    assert_eq!(previewed(&outside, &[2, 1]), Ok((vec![2, 1], None)));
+    assert_eq!(next_step(&outside.problem(), &[2, 1]), Ok(None));
+}
+
+/// Previews taken one after the other are the run: the bounds part first, then the goals part.
+#[test]
+fn a_run_of_both_parts() {
+    let posed = Posed { goals: vec![8000, 8000], ..Posed::tied() };
+    let (steps, values) = run(&posed, &[1, 1]);
+    let parts: Vec<Part> = steps.iter().map(|step| step.part).collect();
+    assert_eq!(parts, [vec![Part::Bounds; 4], vec![Part::Goals; 3]].concat());
+    assert_eq!(values, [8, 8]);
+    let settled = solve_from(&posed.problem(), &[1, 1]).unwrap();
+    assert_eq!((settled.values, settled.steps), (values, Steps { bounds: 4, goals: 3 }));
+}
+
+#[test]
+fn the_limit_plays_no_part() {
+    for limit in [0, 1, MOST_STEPS + 1, u32::MAX] {
+        let posed = Posed { limit, ..Posed::tied() };
+        assert_eq!(next_step(&posed.problem(), &[1, 1]).unwrap().unwrap().after, [2, 2]);
+    }
+}
+
+#[test]
+fn the_next_step_in_its_own_buffers() {
+    let next = next_step(&Posed::tied().problem(), &[3, 3]).unwrap().unwrap();
+    assert_eq!(next.step.to_string(), "bounds part: +N1 for column 2");
+    assert_eq!(next.changes, [Change { column: 0, from: 3, to: 4 }, Change { column: 1, from: 3, to: 4 }]);
+    assert_eq!(next.after, [4, 4]);
+}
+
+/// A standing list may lie at M, and not beyond it.
+#[test]
+fn a_standing_list_at_m() {
+    let posed = Posed::new(&[], &[], 1, 1, 10);
+    let step = Step { part: Part::Bounds, column: 0, by: Move { first: minus(0), second: None } };
+    assert_eq!(previewed(&posed, &[M]), Ok((vec![M - 1], Some(step))));
+    assert_eq!(previewed(&posed, &[M + 1]), Err(Refusal::Standing));
+}
+
 // ---------------------------------------------------------------- refusals
 
 #[test]
 fn refusal_1_no_columns_or_too_many() {
     for n in [0, MOST_COLUMNS + 1] {
         let posed = Posed::new(&[], &[], n, 1, 10);
-        both_refuse(&posed, &Lent::marked(&posed), Refusal::Size);
+        all_refuse(&posed, &Lent::marked(&posed), Refusal::Size);
         assert_eq!(solve(&posed.problem()), Err(Refusal::Size));
+        assert_eq!(next_step(&posed.problem(), &vec![1; n]), Err(Refusal::Size));
     }
     let posed = Posed::new(&[&[0; MOST_ROWS + 1]], &[0; MOST_ROWS + 1], 1, 1, 10);
-    both_refuse(&posed, &Lent::marked(&posed), Refusal::Size);
+    all_refuse(&posed, &Lent::marked(&posed), Refusal::Size);
 }
 
 #[test]
 fn refusal_2_a_wrong_length() {
     let posed = Posed::tied();
     let lent = Lent::marked(&posed);
-    both_refuse(&posed, &Lent { tableau: vec![MARK; 7], ..lent.clone() }, Refusal::Length);
-    both_refuse(&posed, &Lent { values: vec![MARK; 1], ..lent.clone() }, Refusal::Length);
-    both_refuse(&posed, &Lent { strides: vec![], ..lent.clone() }, Refusal::Length);
-    both_refuse(&Posed { coefficients: vec![1], ..posed.clone() }, &lent, Refusal::Length);
-    both_refuse(&Posed { upper: vec![10; 3], ..posed.clone() }, &lent, Refusal::Length);
-    both_refuse(&Posed { goals: vec![], ..posed.clone() }, &lent, Refusal::Length);
+    all_refuse(&posed, &Lent { tableau: vec![MARK; 7], ..lent.clone() }, Refusal::Length);
+    all_refuse(&posed, &Lent { values: vec![MARK; 1], ..lent.clone() }, Refusal::Length);
+    all_refuse(&posed, &Lent { strides: vec![], ..lent.clone() }, Refusal::Length);
+    all_refuse(&Posed { coefficients: vec![1], ..posed.clone() }, &lent, Refusal::Length);
+    all_refuse(&Posed { upper: vec![10; 3], ..posed.clone() }, &lent, Refusal::Length);
+    all_refuse(&Posed { goals: vec![], ..posed.clone() }, &lent, Refusal::Length);
     assert_eq!(solve_from(&posed.problem(), &[9]), Err(Refusal::Length));
+    for standing in [vec![], vec![9], vec![9; 3]] {
+        preview_refuses(&posed, &standing, &lent, Refusal::Length, &lent);
+        assert_eq!(next_step(&posed.problem(), &standing), Err(Refusal::Length));
+    }
 }
 
 #[test]
 fn refusal_3_a_coefficient_or_right_side() {
     let lent = Lent::marked(&Posed::tied());
-    both_refuse(&Posed { coefficients: vec![1, -RANGE_COEFFICIENT - 1], ..Posed::tied() }, &lent, Refusal::Coefficient);
-    both_refuse(&Posed { rights: vec![RANGE_RIGHT + 1], ..Posed::tied() }, &lent, Refusal::Coefficient);
+    all_refuse(&Posed { coefficients: vec![1, -RANGE_COEFFICIENT - 1], ..Posed::tied() }, &lent, Refusal::Coefficient);
+    all_refuse(&Posed { rights: vec![RANGE_RIGHT + 1], ..Posed::tied() }, &lent, Refusal::Coefficient);
 }
 
 #[test]
 fn refusal_4_a_bound() {
     let lent = Lent::marked(&Posed::tied());
-    both_refuse(&Posed { lower: vec![1, 11], ..Posed::tied() }, &lent, Refusal::Bound);
-    both_refuse(&Posed { upper: vec![10, i64::MAX], ..Posed::tied() }, &lent, Refusal::Bound);
+    all_refuse(&Posed { lower: vec![1, 11], ..Posed::tied() }, &lent, Refusal::Bound);
+    all_refuse(&Posed { upper: vec![10, i64::MAX], ..Posed::tied() }, &lent, Refusal::Bound);
 }
 
 #[test]
 fn refusal_5_a_goal() {
     let lent = Lent::marked(&Posed::tied());
-    both_refuse(&Posed { goals: vec![0, -1], ..Posed::tied() }, &lent, Refusal::Goal);
-    both_refuse(&Posed { lower: vec![0, 5], goals: vec![1, 0], ..Posed::tied() }, &lent, Refusal::Goal);
+    all_refuse(&Posed { goals: vec![0, -1], ..Posed::tied() }, &lent, Refusal::Goal);
+    all_refuse(&Posed { lower: vec![0, 5], goals: vec![1, 0], ..Posed::tied() }, &lent, Refusal::Goal);
 }
 
 #[test]
@@ -236,6 +391,11 @@ fn refusal_7_the_elimination() {
     let posed = Posed::chain(5, 0, 10);
     assign_refuses(&posed, Refusal::Elimination, &[0; 45]);
     assert_eq!(solve_from(&posed.problem(), &[0; 5]), Err(Refusal::Elimination));
+    let lent = Lent::marked(&posed);
+    preview_refuses(&posed, &[0; 5], &lent, Refusal::Elimination, &Lent { tableau: vec![0; 45], ..lent.clone() });
+    assert_eq!(previewed(&posed, &[0; 5]), Err(Refusal::Elimination));
+    // A list that fails a row is told first.
+    preview_refuses(&posed, &[1; 5], &lent, Refusal::Standing, &lent);
 }
 
 #[test]
@@ -254,7 +414,9 @@ fn refusal_9_seating() {
 #[test]
 fn refusal_10_the_list() {
     let posed = Posed::tied();
-    for values in [vec![1, 2], vec![M + 1, M + 1]] {
+    for values in [vec![1, 2], vec![M + 1, M + 1], vec![-M - 1, -M - 1], vec![i64::MIN, i64::MIN]] {
+        preview_refuses(&posed, &values, &Lent::marked(&posed), Refusal::Standing, &Lent::marked(&posed));
+        assert_eq!(previewed(&posed, &values), Err(Refusal::Standing));
         let before = Lent { values, ..Lent::marked(&posed) };
         let mut after = before.clone();
         assert_eq!(continue_from(&posed.problem(), &mut after.buffers()), Err(Refusal::Standing));

@@ -102,6 +102,30 @@ fn a_deck_continues_from_its_own_answer() {
     assert_eq!(settled.values, solve(&deck.problem(LIMIT)).unwrap().values);
 }
 
+/// The steps of a deck, each seen before it is taken, lead from the seated list to the deck's answer.
+#[test]
+fn a_deck_step_by_step() {
+    for text in [
+        include_str!("../../../decks/paved-bulkhead.txt"),
+        include_str!("../../../decks/bounds-conflict.txt"),
+        include_str!("../../../decks/mapped-panels.txt"),
+    ] {
+        let deck = Deck::read(text).unwrap();
+        let solved = deck.solve(LIMIT).unwrap();
+        let mut values = deck.solve(0).unwrap().values;
+        let mut steps = Steps { bounds: 0, goals: 0 };
+        while let Some(next) = next_step(&deck.problem(LIMIT), &values).unwrap() {
+            match next.step.part {
+                Part::Bounds => steps.bounds += 1,
+                Part::Goals => steps.goals += 1,
+            }
+            assert!(next.changes.iter().any(|change| change.column == next.step.column));
+            values = next.after;
+        }
+        assert_eq!((values, steps), (solved.values, solved.steps));
+    }
+}
+
 #[test]
 fn refusal_1_a_count() {
     refuses("0\n0\n", Refusal::Size);
