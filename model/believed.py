@@ -14,13 +14,15 @@ import needs
 from needs import ROOT
 
 # The files of code whose public functions are the entry points.
-ENTRIES = ["engine/src/lib.rt", "deck/src/lib.rt", "solve/src/lib.rt", "koralimbu/src/lib.rt", "koralimbu/src/reading.rt", "koralimbu/src/version.rt"]
+ENTRIES = ["engine/src/lib.rt", "engine/src/preview.rt", "deck/src/lib.rt", "solve/src/lib.rt", "koralimbu/src/lib.rt", "koralimbu/src/previewing.rt",
+           "koralimbu/src/reading.rt", "koralimbu/src/version.rt"]
 
 # The files of statements that docs/PROMISES.md cites, and in files of more than statements these.
 STATEMENTS = {
     "engine/specs/Demand.antt": ["Demand3"],
     "engine/specs/Outcomes.antt": ["KeepsRows", "VerdictMeans", "NoneExactlyWhen"],
     "engine/specs/Stride.antt": ["AssignStrides", "ContinueStrides"],
+    "engine/specs/Preview.antt": ["PreviewContinue", "PreviewRoom", "PreviewStep", "PreviewLimit"],
     "whole/specs/Divisor.antt": ["DivisorGreatest"],
     "settling/specs/Strides.antt": ["StrideGreatest"],
     "solve/specs/Cases.antt": ["DeckCases"],

@@ -1,14 +1,17 @@
 -- What a preview says.
 --   preview-continue   it equals Continue with limit 1 on a copy of the list
+--   preview-room       where the list after has no room for the copy it is turned back with 1 or 2
 --   preview-step       what it names is a step
 --   preview-small      whose column and move are such as a problem can have
 --   preview-limit      the limit held beside the problem plays no part
 -- Assumes nothing.
 use mathlib.Core.Path.{_≡_, refl, sym, _∙_, ap, ap₂, subst}
-use mathlib.Core.Bool.{Bool, true, false, cond, true≢false}
+use mathlib.Core.Logic.{_⊎_, inl, inr, ⊎-elim}
+use mathlib.Core.Bool.{Bool, true, false, cond, _&&_, true≢false}
 use mathlib.Core.List.{List}
 use Prim.Native.Nat.{ℕ, _-_, _<_}
 use native.Mathlib.Omega.{arith}
+use borrow.Author.Tests.{ne-eqb}
 use lib.Dec.{eqb}
 use lib.IntN.{ℤ}
 use lib.ListN.{length, drop}
@@ -16,7 +19,7 @@ use Rattle.whole.specs.Lists.{zeros}
 use Rattle.whole.proofs.Never.{never, untrue}
 use Rattle.problem.specs.Limits.{maxColumns, maxRows}
 use Rattle.problem.specs.Answers.{noSteps, answerCounts, isVerdict}
-use Rattle.problem.specs.Checks.{Posed, sizesFit, rowLengthsFit, columnLengthsFit, lentFit, rowsFit, boundsFit, goalsFit, orNext, firstCause}
+use Rattle.problem.specs.Checks.{Posed, sizesFit, rowLengthsFit, columnLengthsFit, lentFit, rowsFit, boundsFit, goalsFit, limitFits, orNext, firstCause}
 use Rattle.problem.specs.declared.Counts.{Counts}
 use Rattle.problem.proofs.CheckLaws.{Fits}
 use Rattle.problem.specs.declared.Problem.{Problem}
@@ -45,8 +48,8 @@ use Rattle.engine.specs.Assign.{Buffers, Done, n, columns, lentOf, refus
 use Rattle.engine.specs.BasisPlace.{tableOf, basisView, basisStart}
 use Rattle.engine.specs.Ground.{Grounded, grounded, ground}
 use Rattle.engine.specs.Outcomes.{basisLeft}
-use Rattle.engine.specs.Preview.{Shown, withLimit, lentBeside, unshown, onCause, told, after, shownOn, previewFit, preview}
-use Rattle.engine.specs.Preview.{copied, ShowsStep, Equals, EqualsContinue, PreviewContinue, NamesStep, PreviewStep, LimitUnused, PreviewLimit}
+use Rattle.engine.specs.Preview.{Shown, withLimit, listLength, lentBeside, unshown, onCause, told, after, shownOn, previewFit, preview}
+use Rattle.engine.specs.Preview.{copied, ShowsStep, Equals, EqualsContinue, PreviewContinue, PreviewRoom, NamesStep, PreviewStep, LimitUnused, PreviewLimit}
 use Rattle.engine.specs.declared.preview.Seen.{Seen}
 use Rattle.engine.specs.declared.preview.Seen.the-variants.{Refused, Rest, Next}
 use Rattle.engine.proofs.BasisLaws.{basis-in}
@@ -192,6 +195,38 @@ module _ (P : Posed) (v : List ℤ) (B : Buffers) where
 
 pub preview-continue : PreviewContinue
 preview-continue P v B e = equal P v B e
+
+-- ---- no room for the copy
+short-lent : (a b c : Bool) → b ≡ false → a && (b && c) ≡ false
+short-lent true b c e = rw e refl
+short-lent false b c e = refl
+
+first-short : (a b c : Bool) (r : Check) →
+    let f : Check = orNext a Size (orNext b Length (orNext c Length (orNext false Length r))) in (f ≡ Failed Size) ⊎ (f ≡ Failed Length)
+first-short false b c r = inl refl
+first-short true false c r = inr refl
+first-short true true false r = inr refl
+first-short true true true r = inr refl
+
+short-cause : (P : Posed) (L : Lent) → lentFit (P .problem) L ≡ false → (firstCause P L ≡ Failed Size) ⊎ (firstCause P L ≡ Failed Length)
+unfolding firstCause
+short-cause P L e =
+    rw e (first-short (sizesFit maxColumns maxRows (P .problem)) (rowLengthsFit (P .problem) (P .coefficients) (P .rights))
+    (columnLengthsFit (P .problem) (P .lower) (P .upper) (P .goals))
+    (orNext (rowsFit (P .coefficients) (P .rights)) Coefficient (orNext (boundsFit (P .lower) (P .upper)) Bound
+    (orNext (goalsFit (P .lower) (P .goals)) Goal (orNext (limitFits (P .problem)) Limit Passed)))))
+
+turned : (P : Posed) (v : List ℤ) (B : Buffers) (why : Refusal) → firstCause (withLimit 1 P) (lentBeside (n P) v B) ≡ Failed why
+    → preview P v B .seen ≡ Refused why
+unfolding preview
+turned P v B why e = rw e refl
+
+pub preview-room : PreviewRoom
+preview-room P v B f =
+    ⊎-elim (λ e. inl (turned P v B Size e)) (λ e. inr (turned P v B Length e))
+    (short-cause (withLimit 1 P) (lentBeside (n P) v B)
+    (short-lent _ (eqb (listLength (n P) (length v) (length (B .values))) (n P)) _
+    (ne-eqb _ (n P) (λ e. let b = both-long (n P) (length v) (length (B .values)) e in f (b .1 ∙ sym (b .0))))))
 
 -- ---- what is named
 module _ (P : Posed) (v : List ℤ) (p : Part) (i : ℕ) (o : Move) where

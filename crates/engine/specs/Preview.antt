@@ -2,23 +2,25 @@
 --   Seen               what is told: a refusal, that no move improves, or a step's part, column and move (declared in src/)
 --   Shown              what is told, and what the tableau, the list after and the strides then hold; `shown` makes one of the four
 --   withLimit k P      the problem P with the step limit k for the one held beside it
---   listLength n a b   of two lists that need n numbers, a length that is n exactly if both are; lentBeside n v B, with it the lengths of the buffers B
+--   listLength n a b   of two lists that need n numbers, a length that is n exactly if both are
+--   lentBeside n v B   with it the lengths of the buffers B
 --   unshown ..         a refusal, with both lists as before; onCause, by what the checks find
 --   told, after        of a step: what is told of it, and the list after it
 --   shownOn P T N v    the next step of the list v over the basis N of the form T
 --   previewFit P v B   past the checks
 --   preview P v B      the preview of the problem P and the standing list v, which is only read; in B the interval list is the list after
--- and what makes it Continue's:
+-- What is promised of it:
 --   copied v B         the buffers B with "a copy of the list" v
 --   ShowsStep x p      x shows a step of part p
---   EqualsContinue P v B   "It equals Continue with limit 1 on a copy of the list, refusals included."
---   PreviewContinue    so it is, wherever the list after has room for the copy
---   NamesStep P v B    what is named is a step as document 01 has it
---   NoLimit P v B      a limit held beside the problem plays no part, and is never turned back
--- The theorems are `preview-continue`, `preview-step` and `preview-limit`, in proofs/Previews.
+--   Equals x d l       what is shown, x, is what a Continue has done, d; l is what the list after held before
+--   EqualsContinue, PreviewContinue   "It equals Continue with limit 1 on a copy of the list, refusals included.", wherever the list after has as many
+--                      numbers as the copy; PreviewRoom, elsewhere it is turned back with 1 or 2
+--   NamesStep, PreviewStep   what is named is the next step of document 01
+--   LimitUnused, PreviewLimit   a limit held beside the problem plays no part, so that 6 is never given
+-- The theorems are `preview-continue`, `preview-room`, `preview-step` and `preview-limit`, in proofs/Previews.
 -- Assumes nothing.
 use mathlib.Core.Path.{_≡_}
-use mathlib.Core.Logic.{_↔_}
+use mathlib.Core.Logic.{_↔_, _⊎_}
 use mathlib.Core.Bool.{true, false, cond}
 use mathlib.Core.List.{List}
 use Prim.Native.Nat.{ℕ}
@@ -31,7 +33,7 @@ use Rattle.problem.specs.Answers.{noSteps, answerCounts, isVerdict}
 use Rattle.problem.specs.Checks.{Posed, firstCause}
 use Rattle.problem.specs.declared.Lent.{Lent}
 use Rattle.problem.specs.declared.Refusal.{Refusal}
-use Rattle.problem.specs.declared.Refusal.the-variants.{Limit, Elimination, Standing}
+use Rattle.problem.specs.declared.Refusal.the-variants.{Size, Length, Limit, Elimination, Standing}
 use Rattle.problem.specs.declared.Check.{Check}
 use Rattle.problem.specs.declared.Check.the-variants.{Passed, Failed}
 use Rattle.problem.specs.declared.Answer.the-variants.{Refused as Turned}
@@ -143,6 +145,11 @@ EqualsContinue P v B = Equals (preview P v B) (continue (withLimit 1 P) (copied 
 abbrev pub PreviewContinue : Type 0
 PreviewContinue = (P : Posed) (v : List ℤ) (B : Buffers) → length (B .values) ≡ length v → EqualsContinue P v B
 
+abbrev pub PreviewRoom : Type 0
+PreviewRoom =
+    (P : Posed) (v : List ℤ) (B : Buffers) → (length (B .values) ≡ length v → ⊥)
+    → (preview P v B .seen ≡ Refused Size) ⊎ (preview P v B .seen ≡ Refused Length)
+
 -- ---- what is named
 pub record NamesStep (P : Posed) (v : List ℤ) (x : Shown) (p : Part) (i : ℕ) (o : Move) : Type 0 where
   pub part : partOf (columns P) v ≡ p
@@ -153,7 +160,8 @@ pub record NamesStep (P : Posed) (v : List ℤ) (x : Shown) (p : Part) (i : ℕ)
 
 abbrev pub PreviewStep : Type 0
 PreviewStep =
-    (P : Posed) (v : List ℤ) (B : Buffers) (p : Part) (i : ℕ) (o : Move) → preview P v B .seen ≡ Next p i o → NamesStep P v (preview P v B) p i o
+    (P : Posed) (v : List ℤ) (B : Buffers) (p : Part) (i : ℕ) (o : Move) → preview P v B .seen ≡ Next p i o
+    → NamesStep P v (preview P v B) p i o
 
 -- ---- the limit
 pub record LimitUnused (P : Posed) (v : List ℤ) (B : Buffers) : Type 0 where
