@@ -310,7 +310,8 @@ def property_preview_by_preview():
         if len(lists) > problem.limit or not engine.satisfies_rows(problem, values):
             continue
         chained, parts = [values], []
-        while True:
+        # one list too many ends a chain that would never end
+        while len(chained) <= len(lists):
             (number, told), after, _, _ = shown(engine.preview, problem, chained[-1])
             if told is None:
                 check("the end of a chain", (number, after), (0, chained[-1]))
