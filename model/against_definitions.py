@@ -1,13 +1,14 @@
 """The formal definitions against the plain model, on random cases.
 
-    python3 model/against_definitions.py [PROBLEMS TEXTS SEED RUNS]
+    python3 model/against_definitions.py [PROBLEMS TEXTS SEED RUNS PREVIEWS]
 
 The definitions of crates/*/specs compute. This writes a crate of one equation
 for each case below target/against, with the model's answer on its right side,
 and has the checker compute the left sides: whole assignments and Continue with
-every lent buffer afterwards, texts with the listing's bytes, and the runs of both
-calls with what falls at a step (document 02, (xiii)). Cases are kept
-small, since the checker computes slowly. The last line is 'N passed, M failed'.
+every lent buffer afterwards, texts with the listing's bytes, the runs of both calls
+with what falls at a step (document 02, (xiii)), and previews with what they tell and
+leave (document 02, (i)), many of which show a step. Cases are kept small, since the
+checker computes slowly. The last line is 'N passed, M failed'.
 """
 
 import os
@@ -18,8 +19,8 @@ from fractions import Fraction
 
 import needs
 import runs
-from engine import ratio
-from generate import problem_case, rng_for, text_case
+from engine import preview, ratio
+from generate import preview_case, problem_case, rng_for, text_case
 from listing import listing
 from needs import ROOT
 
@@ -69,6 +70,17 @@ def answer(outcome, bounds, goals):
     if isinstance(outcome, int):
         return "Refused " + REFUSALS[outcome - 1]
     return "%s (record { bounds = %d; goals = %d })" % (outcome.capitalize(), bounds, goals)
+
+
+def seen(number, step):
+    """What a preview tells. A single vector has no second one: its sign is 0."""
+    if number:
+        return "Unseen " + REFUSALS[number - 1]
+    if step is None:
+        return "Rest"
+    (s, a), (t, b) = step.move if len(step.move) == 2 else step.move + ((step.move[0][0], 0),)
+    return ("Next %s %d (record { s = %d; a = %s; t = %d; b = %s })"
+            % (step.part.capitalize(), step.column, s, integer(a), t, integer(b)))
 
 
 # ------------------------------------------------------------------- the cases
@@ -135,6 +147,22 @@ def run_equation(rng):
                *fallen[0], *fallen[1]))
 
 
+def preview_equation(rng):
+    """A preview as an equation, or None where it is too large, or shows no step in a draw
+    for one."""
+    wanted = rng.random() < 0.75
+    problem, standing, lent = preview_case(rng)
+    if problem.n * (problem.m + problem.n) > MOST_NUMBERS:
+        return None
+    before = "(record { %s })" % buffers(lent)
+    number, step = preview(problem, standing, lent)
+    if wanted and step is None:
+        return None
+    return ("preview %s %s %s ≡ record { seen = %s; tableau = %s; after = %s; strides = %s }"
+            % (posed(problem), integers(standing), before, seen(number, step),
+               integers(lent.tableau), integers(lent.values), naturals(lent.strides)))
+
+
 def some(make, count, seed):
     """The first count cases that are small enough."""
     found = []
@@ -196,7 +224,11 @@ use Rattle.problem.specs.declared.Counts.{Counts}
 use Rattle.problem.specs.declared.Refusal.the-variants.{%s}
 use Rattle.problem.specs.declared.Answer.the-variants.{Fitted, Outside, Spent, Refused}
 use Rattle.settling.specs.Measures.{fraction, below}
+use Rattle.settling.specs.declared.Move.{Move}
+use Rattle.settling.specs.declared.Part.the-variants.{Bounds, Goals}
 use Rattle.engine.specs.Assign.{Buffers, Done, columns, assign, continue}
+use Rattle.engine.specs.Preview.{Shown, preview}
+use Rattle.engine.specs.declared.preview.Seen.the-variants.{Refused as Unseen, Rest, Next}
 use Rattle.runs.specs.Sorted.{sorted}
 use Rattle.runs.specs.Runs.{distances, ratios}
 use Rattle.runs.specs.CallRuns.{assignRun, continueRun}
@@ -239,11 +271,12 @@ def write_crate(equations):
 
 
 def main(arguments):
-    counts = needs.numbers(arguments, [60, 60, 1, 20], __doc__)
+    counts = needs.numbers(arguments, [60, 60, 1, 20, 30], __doc__)
     rt = needs.rt()
     equations = some(problem_equation, counts[0], counts[2])
     equations += some(text_equation, counts[1], counts[2])
     equations += some(run_equation, counts[3], counts[2])
+    equations += some(preview_equation, counts[4], counts[2])
     write_crate(equations)
     run = subprocess.run([rt, "check", "cases"], cwd=SCRATCH, capture_output=True, text=True)
     log = run.stdout + run.stderr

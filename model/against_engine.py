@@ -1,6 +1,6 @@
 """The proved engine against the plain model, on random calls.
 
-    python3 model/against_engine.py [COUNT SEED RUNS]
+    python3 model/against_engine.py [COUNT SEED RUNS PREVIEWS]
 
 Builds the crate koralimbu as a static library, links that into a shared object below
 target/, and calls koralimbu_assign and koralimbu_continue on the problems of
@@ -12,8 +12,17 @@ hold, are left out.
 
 Then RUNS runs are made list by list: the case's call with the step limit 0, and
 Continue with the limit 1 until no step is made. The lists must be those of the
-model's run, falling at each step, with no list twice (document 02, (xiii)). Runs of
-more than MOST_STEPS steps by the model are left out.
+model's run, falling at each step, with no list twice (document 02, (xiii)). From the
+first list the same run is made by previews alone, where each list after is the next
+standing list. Runs of more than MOST_STEPS steps by the model are left out.
+
+Last come PREVIEWS calls of koralimbu_preview (document 02, (i)) on lists from which
+steps are to be made, and on damaged ones, watched in the same way; the standing list
+must be as before too. “It equals Continue with limit 1 on a copy of the list,
+refusals included”: so each call is also compared with the engine's own
+koralimbu_continue, where the list after has room for the copy. How many previews
+showed what is printed, and each kind of KINDS must be among them: some 1,000 calls
+have them all.
 
 The last line is 'N passed, M failed'.
 """
@@ -22,22 +31,37 @@ import ctypes
 
 import needs
 from boundary import Buffer, Tally, call, declare, load
-from engine import FITTED, OUTSIDE, SPENT, WRONG_LENGTH
-from generate import Case, problem_case, rng_for
+from engine import BOUNDS, FITTED, GOALS, OUTSIDE, SPENT, WRONG_LENGTH, Lent, preview
+from generate import Case, preview_case, problem_case, rng_for
 from runs import faults, run_from
 
 VERDICTS = {FITTED: 1, OUTSIDE: 2, SPENT: 3}
+PARTS = {BOUNDS: 1, GOALS: 2}
+SIGNS = {1: 1, -1: 2}
+STEP_NUMBERS = 6
 READ = ["coefficients", "rights", "lower", "upper", "goals"]
 FILLED = ["tableau", "values", "strides"]
 NUMBERS = {"strides": ctypes.c_uint64, "report": ctypes.c_uint32}
 MOST_STEPS = 60
+
+# What previews show; a move of two vectors counts beside its part.
+KINDS = ["a bounds step", "a goals step", "a move of two vectors", "no move",
+         "refusal 1", "refusal 2", "refusal 3", "refusal 4", "refusal 5", "refusal 7",
+         "refusal 10", "a report of a wrong length"]
 
 
 def engine_functions(library):
     """The engine's functions by call."""
     numbers = [ctypes.c_size_t, ctypes.c_size_t, ctypes.c_uint32]
     return {"assign": declare(library.koralimbu_assign, numbers, 9),
-            "continue": declare(library.koralimbu_continue, numbers, 9)}
+            "continue": declare(library.koralimbu_continue, numbers, 9),
+            "preview": declare(library.koralimbu_preview, numbers[:2], 10)}
+
+
+def as_buffers(lists):
+    """Lists by name as C holds them."""
+    return {name: Buffer(NUMBERS.get(name, ctypes.c_int64), numbers)
+            for name, numbers in lists.items()}
 
 
 def engine_call(functions, case, report):
@@ -46,9 +70,8 @@ def engine_call(functions, case, report):
     lists = {name: getattr(problem, name) for name in READ}
     lists.update((name, getattr(case.lent, name)) for name in FILLED)
     lists["report"] = report
-    buffers = {name: Buffer(NUMBERS.get(name, ctypes.c_int64), numbers)
-               for name, numbers in lists.items()}
-    return call(functions[case.call], [problem.n, problem.m, problem.limit], buffers)
+    return call(functions[case.call], [problem.n, problem.m, problem.limit],
+                as_buffers(lists))
 
 
 def model_call(case, report):
@@ -67,9 +90,9 @@ def model_call(case, report):
     return after
 
 
-def random_report(rng):
+def random_report(rng, right, wrong):
     """What a lent report may hold, mostly of the right length."""
-    length = rng.choice([0, 1, 2, 4, 9]) if rng.random() < 0.05 else 3
+    length = rng.choice(wrong) if rng.random() < 0.05 else right
     return [rng.randrange(2 ** 32) for _ in range(length)]
 
 
@@ -103,6 +126,21 @@ def engine_run(functions, case):
     return lists
 
 
+def previewed_run(functions, case, first):
+    """The engine's lists by previews alone, from the first on, up to the preview that
+    shows no step; refusals and long runs as above."""
+    lists = [first]
+    while len(lists) <= MOST_STEPS + 1:
+        after = engine_preview(functions, case.problem, lists[-1], case.lent,
+                               [0] * STEP_NUMBERS)
+        if after["number"] != 0:
+            return lists + [after["number"]]
+        if after["report"][0] == 0:
+            break
+        lists.append(after["after"])
+    return lists
+
+
 def compare_runs(tally, functions, count, seed):
     """The first count runs of random problems that the model makes."""
     number = 0
@@ -117,10 +155,89 @@ def compare_runs(tally, functions, count, seed):
         wrong = faults(case.problem, got) if got == want else "not the model's run"
         tally.compare("run of case %d of seed %d" % (number, seed),
                       {"lists": got, "faults": wrong}, {"lists": want, "faults": []})
+        tally.compare("run of case %d of seed %d by previews" % (number, seed),
+                      {"lists": previewed_run(functions, case, want[0])}, {"lists": want})
+
+
+def told(step):
+    """What C is told of a step: the part, the column, and each of the move's vectors with
+    its sign; column and vectors are counted from 1."""
+    numbers = []
+    if step is not None:
+        numbers += [PARTS[step.part], step.column + 1]
+        for vector, sign in step.move:
+            numbers += [vector + 1, SIGNS[sign]]
+    return numbers + [0] * (STEP_NUMBERS - len(numbers))
+
+
+def engine_preview(functions, problem, standing, lent, report):
+    """The returned number and every buffer after the engine's preview."""
+    lists = {name: getattr(problem, name) for name in READ}
+    lists.update(standing=standing, tableau=lent.tableau, after=lent.values,
+                 strides=lent.strides, report=report)
+    return call(functions["preview"], [problem.n, problem.m], as_buffers(lists))
+
+
+def model_preview(problem, standing, lent, report):
+    """The same of the model; a report of a wrong length as above."""
+    after = {name: list(getattr(problem, name)) for name in READ}
+    after.update(standing=list(standing), number=WRONG_LENGTH, report=report, edges={})
+    if len(report) == STEP_NUMBERS:
+        after["number"], step = preview(problem, standing, lent)
+        after["report"] = told(step)
+    after.update(tableau=list(lent.tableau), after=list(lent.values),
+                 strides=list(lent.strides))
+    return after
+
+
+def by_continue(functions, problem, standing, lent):
+    """What a preview must leave by the engine's Continue with limit 1 on a copy of the
+    list: the list after is as before where that is refused, and the part is the one whose
+    count is 1."""
+    problem.limit = 1
+    copy = Lent(lent.tableau, standing, lent.strides)
+    after = engine_call(functions, Case("continue", problem, copy), [0, 0, 0])
+    _, bounds, goals = after["report"]
+    return {"number": after["number"], "tableau": after["tableau"],
+            "strides": after["strides"], "part": bounds * PARTS[BOUNDS] + goals * PARTS[GOALS],
+            "after": list(lent.values) if after["number"] else after["values"]}
+
+
+def kinds_of(got):
+    """Which of KINDS a preview is."""
+    report = got["report"]
+    if len(report) != STEP_NUMBERS:
+        return ["a report of a wrong length"]
+    if got["number"] != 0:
+        return ["refusal %d" % got["number"]]
+    if report[0] == 0:
+        return ["no move"]
+    part = "a bounds step" if report[0] == PARTS[BOUNDS] else "a goals step"
+    return [part, "a move of two vectors"] if report[4] else [part]
+
+
+def compare_previews(tally, functions, count, seed):
+    """Previews of random lists, by the model and by Continue."""
+    met = dict.fromkeys(KINDS, 0)
+    for number in range(1, count + 1):
+        rng = rng_for(seed, number)
+        problem, standing, lent = preview_case(rng)
+        report = random_report(rng, STEP_NUMBERS, [0, 1, 3, 5, 7, 9])
+        what = "preview %d of seed %d: n %d, m %d" % (number, seed, problem.n, problem.m)
+        got = engine_preview(functions, problem, standing, lent, report)
+        for kind in kinds_of(got):
+            met[kind] = met.get(kind, 0) + 1
+        if len(report) == STEP_NUMBERS and len(standing) == len(lent.values):
+            tally.compare(what + ", by Continue", dict(got, part=got["report"][0]),
+                          by_continue(functions, problem, standing, lent), "Continue's")
+        tally.compare(what, got, model_preview(problem, standing, lent, report))
+    print("previews: " + ", ".join("%s %d" % pair for pair in met.items()))
+    for kind in KINDS:
+        tally.require("a preview of the kind: " + kind, met[kind] > 0)
 
 
 def main(arguments):
-    count, seed, runs = needs.numbers(arguments, [4000, 1, 500], __doc__)
+    count, seed, runs, previews = needs.numbers(arguments, [4000, 1, 500, 3000], __doc__)
     tally = Tally()
     library = load("the engine is not compared with the plain model")
     if library is None:
@@ -130,7 +247,7 @@ def main(arguments):
     for number in range(1, count + 1):
         rng = rng_for(seed, number)
         case = problem_case(rng)
-        report = random_report(rng)
+        report = random_report(rng, 3, [0, 1, 2, 4, 9])
         problem = case.problem
         if problem.limit >= 2 ** 32:
             left_out += 1
@@ -141,6 +258,7 @@ def main(arguments):
         tally.compare(what, got, model_call(case, report))
     print("%d left out: a step limit beyond 32 bits" % left_out)
     compare_runs(tally, functions, runs, seed)
+    compare_previews(tally, functions, previews, seed)
     return tally.end()
 
 

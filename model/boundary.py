@@ -92,12 +92,12 @@ def call(function, numbers, buffers):
 
 # --------------------------------------------------------------------- the count
 
-def difference(name, got, want):
+def difference(name, got, want, whose):
     """Where two lists of one length first differ; otherwise both things whole."""
     if isinstance(want, list) and len(got) == len(want):
         at = [a == b for a, b in zip(got, want)].index(False)
         name, got, want = "%s[%d]" % (name, at), got[at], want[at]
-    return "  %s: the engine's %s, the model's %s" % (name, got, want)
+    return "  %s: the engine's %s, %s %s" % (name, got, whose, want)
 
 
 class Tally:
@@ -107,7 +107,7 @@ class Tally:
         self.passed = 0
         self.failed = 0
 
-    def compare(self, what, got, want):
+    def compare(self, what, got, want, whose="the model's"):
         wrong = [name for name in want if got[name] != want[name]]
         if not wrong:
             self.passed += 1
@@ -116,7 +116,15 @@ class Tally:
         if self.failed <= MOST_SHOWN:
             print(what)
             for name in wrong:
-                print(difference(name, got[name], want[name]))
+                print(difference(name, got[name], want[name], whose))
+
+    def require(self, what, holds):
+        """What must hold of a whole comparison, so that it is none in name only."""
+        if holds:
+            self.passed += 1
+            return
+        self.failed += 1
+        print("required: " + what)
 
     def end(self):
         """Prints the last line; returns the exit status."""

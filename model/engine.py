@@ -7,8 +7,11 @@ are counted from 0 in the code and from 1 in document 01.
 assign(problem, lent) is a whole assignment, cont(problem, lent) is Continue.
 Both return (outcome, steps of the bounds part, steps of the goals part), where
 the outcome is the word FITTED, OUTSIDE or SPENT or the number of a refusal.
+preview(problem, standing, lent) shows the next step (document 02, (i)); it returns
+(the number of a refusal or 0, the step or None).
 """
 
+import collections
 import functools
 
 # “These limits belong to the problem and are named once with it.”
@@ -25,6 +28,9 @@ M = 2147483647
 FITTED = "FITTED"
 OUTSIDE = "OUTSIDE"
 SPENT = "SPENT"
+
+BOUNDS = "bounds"
+GOALS = "goals"
 
 # The numbers of the table “Turned back” that a call on buffers can give.
 COUNTS_OUTSIDE = 1
@@ -60,6 +66,12 @@ class Lent:
         self.tableau = tableau
         self.values = values
         self.strides = strides
+
+
+class Step(collections.namedtuple("Step", ["part", "column", "move"])):
+    """Document 02, (i): “the preview names the part, the column, the move”. The part is
+    BOUNDS or GOALS, the column is the one that the move improves, and the move is named
+    as move_names does."""
 
 
 class Beyond(Exception):
@@ -303,24 +315,43 @@ def seat(problem, basis, values):
 
 # ----------------------------------------------------------- moves and settling
 
-def moves_in_order(basis):
+def move_names(r):
     """“Moves in order: +N1, −N1, +N2 and on; then the pairs s < t in rising (s, t),
-    each as ++, +−, −+, −−.”"""
-    for vector in basis:
+    each as ++, +−, −+, −−.” A move's name is its one or two vectors, each as (vector,
+    sign)."""
+    for s in range(r):
         for sign in (1, -1):
-            yield [sign * entry for entry in vector]
-    for s in range(len(basis)):
-        for t in range(s + 1, len(basis)):
+            yield ((s, sign),)
+    for s in range(r):
+        for t in range(s + 1, r):
             for sign_s, sign_t in ((1, 1), (1, -1), (-1, 1), (-1, -1)):
-                yield [sign_s * a + sign_t * b for a, b in zip(basis[s], basis[t])]
+                yield ((s, sign_s), (t, sign_t))
+
+
+def move_named(basis, name):
+    """What the move of this name adds to each column."""
+    (s, sign), *second = name
+    move = [sign * entry for entry in basis[s]]
+    for t, sign in second:
+        move = [a + sign * b for a, b in zip(move, basis[t])]
+    return move
+
+
+def moves_in_order(basis):
+    """The moves in the order of their names."""
+    return (move_named(basis, name) for name in move_names(len(basis)))
+
+
+def changes_of(move):
+    """A move as its changes: (column, change) for each column it changes."""
+    return [(j, change) for j, change in enumerate(move) if change != 0]
 
 
 def moves_by_column(basis, n):
-    """For each column, in order, the moves that change it. A move is kept as its
-    changes: (column, change) for each column it changes."""
+    """For each column, in order, the moves that change it, as their changes."""
     by_column = [[] for _ in range(n)]
     for move in moves_in_order(basis):
-        changes = [(j, change) for j, change in enumerate(move) if change != 0]
+        changes = changes_of(move)
         for j, _ in changes:
             by_column[j].append(changes)
     return by_column
@@ -329,6 +360,13 @@ def moves_by_column(basis, n):
 def distance(problem, j, value):
     """“A column's distance is how far it lies outside its bounds.”"""
     return max(problem.lower[j] - value, value - problem.upper[j], 0)
+
+
+def part_of(problem, values):
+    """“Bounds part, while some distance is above 0”; “Goals part, once all distances
+    are 0”."""
+    outside = any(distance(problem, j, value) > 0 for j, value in enumerate(values))
+    return BOUNDS if outside else GOALS
 
 
 def ratio(goal, value):
@@ -505,3 +543,77 @@ def cont(problem, lent):
     lent.tableau[:] = flat(table)
     basis = basis_of(table, leads, problem.m)
     return finish(problem, lent, basis, lent.values)
+
+
+# ------------------------------------------------- document 02, (i): the next step
+
+def preview_cause(problem, standing, lent):
+    """“It equals Continue with limit 1 on a copy of the list, refusals included”: causes
+    1 to 5 in their order. Both lists must have n numbers. A limit of 1 is never outside,
+    so 6 is never given, whatever limit the problem holds."""
+    if counts_outside(problem):
+        return COUNTS_OUTSIDE
+    if wrong_length(problem, lent) or len(standing) != problem.n:
+        return WRONG_LENGTH
+    if row_number_outside(problem):
+        return ROW_NUMBER_OUTSIDE
+    if bound_outside(problem):
+        return BOUND_OUTSIDE
+    if goal_outside(problem):
+        return GOAL_OUTSIDE
+    return 0
+
+
+def next_step(problem, basis, values):
+    """“A step takes the first column with an improving move, and its first such move”,
+    with its names. None if no move improves."""
+    moves = [(name, move_named(basis, name)) for name in move_names(len(basis))]
+    part = part_of(problem, values)
+    rank = rank_by_distance if part == BOUNDS else rank_by_ratio
+    improves = improves_bounds if part == BOUNDS else improves_goals
+    for i in rank(problem, values):
+        if part == BOUNDS:
+            old = distance(problem, i, values[i])
+        else:
+            old = ratio(problem.goals[i], values[i])
+        for name, move in moves:
+            # “A move improves column i if it changes i”
+            if move[i] != 0 and improves(problem, values, changes_of(move), old):
+                return Step(part, i, name)
+    return None
+
+
+def list_after(basis, standing, step):
+    """“the list after it”: the step's move is made once. It is the standing list where
+    no move improves, as Continue leaves its copy then."""
+    if step is None:
+        return list(standing)
+    return [value + change for value, change in
+            zip(standing, move_named(basis, step.move))]
+
+
+def preview(problem, standing, lent):
+    """“Given a problem and a standing list, the preview names the part, the column, the
+    move and the list after it, or says that no move improves.” The standing list is only
+    read; the list after goes to lent.values.
+
+    Returns (0, step), (0, None) where no move improves, or (number, None) with the number
+    of a refusal. The buffers are left as Continue with limit 1 leaves them, with a
+    refusal the list after and the strides as before."""
+    cause = preview_cause(problem, standing, lent)
+    if cause:
+        return cause, None
+    if list_not_fit(problem, standing):
+        return LIST_NOT_FIT, None
+    table = fill(problem)
+    try:
+        leads = bring_to_form(table)
+    except Beyond:
+        lent.tableau[:] = [0] * len(lent.tableau)
+        return ELIMINATION_BEYOND, None
+    basis = basis_of(table, leads, problem.m)
+    step = next_step(problem, basis, standing)
+    lent.tableau[:] = flat(table)
+    lent.values[:] = list_after(basis, standing, step)
+    lent.strides[:] = strides_of(basis, problem.n)
+    return 0, step

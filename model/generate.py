@@ -26,7 +26,8 @@ Counts, limits and strides are never negative and fit 64 bits, and no other numb
 is beyond 64 signed bits, so a caller with unsigned counts can take every case.
 
 To import: problems(count, seed) yields Case objects, texts(count, seed) yields
-bytes; problem_case(rng) and text_case(rng) make one.
+bytes; problem_case(rng) and text_case(rng) make one. preview_case(rng) makes the
+problem, the standing list and the lent buffers of a preview.
 """
 
 import os
@@ -34,8 +35,9 @@ import random
 import sys
 
 import needs
-from engine import (M, MAX_BOUND, MAX_COEFFICIENT, MAX_COLUMNS, MAX_GOAL, MAX_LIMIT,
-                    MAX_RIGHT, MAX_ROWS, Lent, Problem, assign, cont)
+from engine import (GOALS, M, MAX_BOUND, MAX_COEFFICIENT, MAX_COLUMNS, MAX_GOAL, MAX_LIMIT,
+                    MAX_RIGHT, MAX_ROWS, Lent, Problem, assign, basis_of, bring_to_form,
+                    cont, fill, part_of)
 from listing import listing
 from text import MAX_TEXT
 
@@ -360,6 +362,50 @@ def problem_case(rng):
         # far bounds take many steps; keep the run short
         problem.limit = min(problem.limit, 300)
     return Case(call, problem, lent)
+
+
+def walked(rng, problem, values):
+    """A list in bounds moved on by vectors of the basis, in bounds all the way, so that
+    its goals are missed; a list outside as it is."""
+    table = fill(problem)
+    basis = basis_of(table, bring_to_form(table), problem.m)
+    for vector in rng.choices(basis, k=6) if basis else []:
+        sign = rng.choice([-1, 1])
+        moved = [value + sign * entry for value, entry in zip(values, vector)]
+        if part_of(problem, moved) == GOALS:
+            values = moved
+    return values
+
+
+def left_standing(rng, case):
+    """The list that a whole assignment leaves under a small limit, or one walked on from
+    it, so that there are steps to be made; the lent list where it is refused."""
+    limit, case.problem.limit = case.problem.limit, rng.choice([0, 0, 1, 7, 30])
+    lent = Lent(*map(list, (case.lent.tableau, case.lent.values, case.lent.strides)))
+    outcome, _, _ = assign(case.problem, lent)
+    case.problem.limit = limit
+    if isinstance(outcome, str) and rng.random() < 0.7:
+        return walked(rng, case.problem, lent.values)
+    return lent.values
+
+
+def preview_case(rng):
+    """The problem, the standing list and the lent buffers of a preview: a Continue's
+    list, or what a whole assignment leaves. The list after holds anything."""
+    case = problem_case(rng)
+    problem, lent = case.problem, case.lent
+    standing = lent.values if case.call == "continue" else left_standing(rng, case)
+    lent.values = noise(rng, len(problem.lower))
+    if rng.random() < 0.1:
+        buffer = rng.choice([standing, lent.values])
+        what = rng.randrange(3)
+        if what == 0 and buffer:
+            buffer.pop()
+        elif what == 1:
+            buffer.append(rng.choice([0, SMALLEST, BIGGEST]))
+        else:
+            put(rng, buffer, rng.choice([SMALLEST, BIGGEST, M + 1, -M - 1]))
+    return problem, standing, lent
 
 
 def problems(count, seed):

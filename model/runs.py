@@ -7,10 +7,8 @@ breaks of the request's words. Ratios are Python's fractions, compared exactly.
 
 from fractions import Fraction
 
-from engine import basis_of, bring_to_form, distance, fill, ratio, settle
-
-BOUNDS = "bounds"
-GOALS = "goals"
+from engine import (BOUNDS, GOALS, basis_of, bring_to_form, distance, fill, part_of, ratio,
+                    settle)
 
 
 def run_from(problem, values):
@@ -21,13 +19,6 @@ def run_from(problem, values):
     lists = []
     answer = settle(problem, basis, values, lists)
     return lists, answer
-
-
-def part_of(problem, values):
-    """“Bounds part, while some distance is above 0”; “Goals part, once all distances
-    are 0”."""
-    outside = any(distance(problem, j, value) > 0 for j, value in enumerate(values))
-    return BOUNDS if outside else GOALS
 
 
 def distances(problem, values):
