@@ -9,7 +9,7 @@ use mathlib.Core.Path.{_≡_, refl, sym, _∙_, ap, ap₂, subst}
 use mathlib.Core.Logic.{_⊎_, inl, inr, ⊎-elim}
 use mathlib.Core.Bool.{Bool, true, false, cond, _&&_, true≢false}
 use mathlib.Core.List.{List}
-use Prim.Native.Nat.{ℕ, _-_, _<_}
+use Prim.Native.Nat.{ℕ, _+_, _-_, _*_, _<_}
 use native.Mathlib.Omega.{arith}
 use borrow.Author.Tests.{ne-eqb}
 use lib.Dec.{eqb}
@@ -44,7 +44,7 @@ use Rattle.settling.specs.Verdicts.{Improving}
 use Rattle.settling.specs.Views.{vectors, OfBasis}
 use Rattle.settling.proofs.Settlings.{taken-ready, settle-rest, settle-spent, settle-on}
 use Rattle.settling.proofs.Stepping.{next-taken}
-use Rattle.engine.specs.Assign.{Buffers, Done, n, columns, lentOf, refused, settleOn, stands, formed, continue}
+use Rattle.engine.specs.Assign.{Buffers, Done, n, m, columns, lentOf, refused, settleOn, stands, formed, continue}
 use Rattle.engine.specs.BasisPlace.{tableOf, basisView, basisStart}
 use Rattle.engine.specs.Ground.{Grounded, grounded, ground}
 use Rattle.engine.specs.Outcomes.{basisLeft}
@@ -225,7 +225,8 @@ pub preview-room : PreviewRoom
 preview-room P v B f =
     ⊎-elim (λ e. inl (turned P v B Size e)) (λ e. inr (turned P v B Length e))
     (short-cause (withLimit 1 P) (lentBeside (n P) v B)
-    (short-lent _ (eqb (listLength (n P) (length v) (length (B .values))) (n P)) _
+    (short-lent (eqb (length (B .tableau)) (n P * (m P + n P))) (eqb (listLength (n P) (length v) (length (B .values))) (n P))
+    (eqb (length (B .strides)) (n P))
     (ne-eqb _ (n P) (λ e. let b = both-long (n P) (length v) (length (B .values)) e in f (b .1 ∙ sym (b .0))))))
 
 -- ---- what is named
