@@ -23,7 +23,7 @@ use Rattle.problem.proofs.CheckLaws.{Passes, passes, Fits, fits}
 use Rattle.problem.specs.declared.Lent.{Lent}
 use Rattle.problem.specs.declared.Check.the-variants.{Passed, Failed}
 use Rattle.problem.specs.declared.Refusal.{Refusal}
-use Rattle.problem.specs.declared.Refusal.the-variants.{NoWholeNumbers, Standing}
+use Rattle.problem.specs.declared.Refusal.the-variants.{NoWholeNumbers}
 use Rattle.tableau.specs.RightSide.{basis, Found, none, some, Solved, rightSide, solve}
 use Rattle.tableau.specs.Generators.{Sized}
 use Rattle.whole.proofs.Tests.{neither}

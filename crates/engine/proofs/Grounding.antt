@@ -1,7 +1,7 @@
 -- What Continue and the preview start from, by what is found.
 --   byCheck, byGround   what f makes of a refusal and the tableau left, or a where nothing is refused
 --   ground-failed, -off, -over, -clear   what is found: by the checks, of a list that does not stand, past the limit, and with nothing refused
---   Clear P v L u       nothing is refused, and u is the form's table; clear, where that is found; clear-few, -placed, what it gives
+--   Clear P v L u       nothing is refused, and u is the form's table; clear, where that is found; clear-passes, -fits, -laid, -placed, what it gives
 --   unpacked            with a refusal nothing is said of the table of columns
 --   continue-ground     a Continue is made of what is found
 -- Assumes nothing.
@@ -25,8 +25,8 @@ use Rattle.problem.specs.declared.Check.{Check}
 use Rattle.problem.specs.declared.Check.the-variants.{Passed, Failed}
 use Rattle.tableau.specs.RightSide.{basis}
 use Rattle.tableau.proofs.Within.{within-entry}
-use Rattle.engine.specs.Assign.{Buffers, Done, n, m, lentOf, refused, overLimit, settleOn, onCheck, stands, formed, continueFit, continue}
-use Rattle.engine.specs.Ground.{Grounded, grounded, onFirst, groundFit, ground, Packs}
+use Rattle.engine.specs.Assign.{Buffers, Done, n, m, lentOf, refused, overLimit, settleOn, onCheck, stands, formed, continue}
+use Rattle.engine.specs.Ground.{Grounded, grounded, onFirst, ground, Packs}
 use Rattle.engine.specs.Placed.{Placed}
 use Rattle.engine.proofs.Readiness.{table}
 use Rattle.engine.proofs.Forming.{Laid, laid-placed}

@@ -19,7 +19,8 @@ use Rattle.whole.specs.Lists.{zeros}
 use Rattle.whole.proofs.Never.{never, untrue}
 use Rattle.problem.specs.Limits.{maxColumns, maxRows}
 use Rattle.problem.specs.Answers.{noSteps, answerCounts, isVerdict}
-use Rattle.problem.specs.Checks.{Posed, sizesFit, rowLengthsFit, columnLengthsFit, lentFit, rowsFit, boundsFit, goalsFit, limitFits, orNext, firstCause}
+use Rattle.problem.specs.Checks.{Posed, sizesFit, rowLengthsFit, columnLengthsFit, lentFit}
+use Rattle.problem.specs.Checks.{rowsFit, boundsFit, goalsFit, limitFits, orNext, firstCause}
 use Rattle.problem.specs.declared.Counts.{Counts}
 use Rattle.problem.proofs.CheckLaws.{Fits}
 use Rattle.problem.specs.declared.Problem.{Problem}
@@ -44,13 +45,13 @@ use Rattle.settling.specs.Verdicts.{Improving}
 use Rattle.settling.specs.Views.{vectors, OfBasis}
 use Rattle.settling.proofs.Settlings.{taken-ready, settle-rest, settle-spent, settle-on}
 use Rattle.settling.proofs.Stepping.{next-taken}
-use Rattle.engine.specs.Assign.{Buffers, Done, n, m, columns, lentOf, refused, settleOn, stands, formed, continue}
+use Rattle.engine.specs.Assign.{Buffers, Done, n, m, columns, lentOf, refused, settleOn, stands, formed}
 use Rattle.engine.specs.BasisPlace.{tableOf, basisView, basisStart}
 use Rattle.engine.specs.Ground.{Grounded, grounded, ground}
 use Rattle.engine.specs.Outcomes.{basisLeft}
 use Rattle.engine.specs.Preview.{Shown, withLimit, listLength, lentBeside, unshown, onCause, told, after, shownOn, previewFit, preview}
-use Rattle.engine.specs.Preview.{copied, ShowsStep, Equals, EqualsContinue, PreviewContinue, PreviewRoom, NamesStep, PreviewStep, LimitUnused, PreviewLimit}
-use Rattle.engine.specs.declared.preview.Seen.{Seen}
+use Rattle.engine.specs.Preview.{copied, Equals, EqualsContinue, PreviewContinue, PreviewRoom}
+use Rattle.engine.specs.Preview.{NamesStep, PreviewStep, PreviewLimit}
 use Rattle.engine.specs.declared.preview.Seen.the-variants.{Refused, Rest, Next}
 use Rattle.engine.proofs.BasisLaws.{basis-in}
 use Rattle.engine.proofs.Readiness.{table, table-columns}
@@ -73,8 +74,8 @@ turned-not : (a : Answer) (why : Refusal) → isVerdict a ≡ true → a ≡ Tur
 turned-not a why v e = true≢false (sym v ∙ ap isVerdict e)
 
 -- ---- what it is to equal Continue, by what is shown
-refused-equal : (P : Posed) (v : List ℤ) (B : Buffers) (why : Refusal) (t : List ℤ) → Equals (unshown why t B) (refused why t (copied v B)) (B .values)
-refused-equal P v B why t = record {
+refused-equal : (v : List ℤ) (B : Buffers) (why : Refusal) (t : List ℤ) → Equals (unshown why t B) (refused why t (copied v B)) (B .values)
+refused-equal v B why t = record {
   refused = λ other. ((λ e. cc), (λ e. cc));
   rests = ((λ e. never (cc)), (λ e. untrue (e .0)));
   steps = λ p. ((λ x. let e = x .is in never (cc)), (λ e. absurd (no-step p e)));
@@ -142,7 +143,8 @@ module _ (C : Columns) (N : List (List ℤ)) where
     step-ends : (i : ℕ) (o : Move) → nextStep C N v ≡ Take i o → EndsWith (settle 1 C N v) (counted (partOf C v) noSteps) (moved N o v)
     unfolding settle
     step-ends i o e =
-        subst (λ (z : Settled). EndsWith z (counted (partOf C v) noSteps) (moved N o v)) (sym (settle-on C N noSteps v 1 i o (λ h. omega (arith, h)) e))
+        subst (λ (z : Settled). EndsWith z (counted (partOf C v) noSteps) (moved N o v))
+        (sym (settle-on C N noSteps v 1 i o (λ h. omega (arith, h)) e))
         (none-left (counted (partOf C v) noSteps) (moved N o v))
 
 -- ---- over the form
@@ -180,7 +182,7 @@ module _ (P : Posed) (v : List ℤ) (B : Buffers) where
       (c : Check) (t : List ℤ)
       → Equals (byCheck (λ why t. unshown why t B) x c t) (byCheck (λ why t. refused why t (copied v B)) d c t) (B .values)
   by-check Passed t = shown-equal P v (formed P .table) (basisLeft P) (B .values)
-  by-check (Failed why) t = refused-equal P v B why t
+  by-check (Failed why) t = refused-equal v B why t
 
   module _ (e : length (B .values) ≡ length v) where
     same-lent : lentBeside (n P) v B ≡ lentOf (copied v B)

@@ -5,7 +5,7 @@
 --   preview-ground    a preview is made of what is found
 --   preview-shown     where nothing is refused it is what is displayed over the basis in the tableau
 -- Assumes nothing.
-use mathlib.Core.Path.{_≡_, refl, sym, _∙_, ap, ap₂}
+use mathlib.Core.Path.{_≡_, refl, sym, _∙_, ap}
 use mathlib.Core.Bool.{Bool, true, false, cond}
 use mathlib.Core.List.{List}
 use Prim.Native.Nat.{ℕ}
@@ -16,7 +16,6 @@ use lib.ListN.{length}
 use Rattle.whole.specs.Lists.{zeros}
 use Rattle.lattice.specs.Rows.{flat}
 use Rattle.problem.specs.Checks.{Posed, firstCause}
-use Rattle.problem.specs.declared.Refusal.{Refusal}
 use Rattle.problem.specs.declared.Refusal.the-variants.{Elimination, Standing}
 use Rattle.problem.specs.declared.Check.{Check}
 use Rattle.problem.specs.declared.Check.the-variants.{Passed, Failed}
@@ -28,10 +27,9 @@ use Rattle.settling.specs.Steps.{turnOf}
 use Rattle.settling.specs.Views.{vectors}
 use Rattle.settling.proofs.Settlings.{taken-ready}
 use Rattle.engine.specs.Assign.{Buffers, n, columns, stands, formed}
-use Rattle.engine.specs.BasisPlace.{basisOf}
 use Rattle.engine.specs.Ground.{grounded, onFirst, ground}
 use Rattle.engine.specs.Outcomes.{basisLeft}
-use Rattle.engine.specs.Preview.{Shown, shown, withLimit, listLength, lentBeside, unshown, onCause, shownOn, previewFit, preview}
+use Rattle.engine.specs.Preview.{Shown, shown, withLimit, listLength, lentBeside, unshown, onCause, shownOn, preview}
 use Rattle.engine.specs.Showing.{Displayed, displayedBy, displayedOver, Stepping}
 use Rattle.engine.proofs.Forming.{laid-basis}
 use Rattle.engine.proofs.Grounding.{byGround, Clear, clear-passes, clear-laid}

@@ -13,8 +13,8 @@
 --   copied v B         the buffers B with "a copy of the list" v
 --   ShowsStep x p      x shows a step of part p
 --   Equals x d l       what is shown, x, is what a Continue has done, d; l is what the list after held before
---   EqualsContinue, PreviewContinue   "It equals Continue with limit 1 on a copy of the list, refusals included.", wherever the list after has as many
---                      numbers as the copy; PreviewRoom, elsewhere it is turned back with 1 or 2
+--   EqualsContinue, PreviewContinue   "It equals Continue with limit 1 on a copy of the list, refusals included.", wherever the list after has
+--                      as many numbers as the copy; PreviewRoom, elsewhere it is turned back with 1 or 2
 --   NamesStep, PreviewStep   what is named is the next step of document 01
 --   LimitUnused, PreviewLimit   a limit held beside the problem plays no part, so that 6 is never given
 -- The theorems are `preview-continue`, `preview-room`, `preview-step` and `preview-limit`, in proofs/Previews.

@@ -27,7 +27,7 @@ use Rattle.engine.specs.Assign.{Buffers, buffers}
 use Rattle.engine.specs.Preview.{shown, preview}
 use Rattle.engine.specs.declared.preview.Seen.{Seen}
 use Rattle.engine.proofs.Previews.{preview-small}
-use Rattle.koralimbu.specs.Calls.{Called, returned, untold}
+use Rattle.koralimbu.specs.Calls.{returned}
 use Rattle.koralimbu.specs.Previews.{seenNumber, signNumber, vectorNumber, previewLength, stepOf, previewTold, previewCalled, SmallStep}
 
 pub stored-six :

@@ -1,6 +1,7 @@
 -- `engine::continue_from` meets its contract: what the ground refuses is refused, and over it the list is settled. Assumes nothing.
-use mathlib.Core.Path.{_≡_, refl, sym, _∙_, ap}
+use mathlib.Core.Path.{_≡_, sym, _∙_, ap}
 use mathlib.Core.List.{List}
+use Prim.Native.Nat.{_≤_}
 use native.Mathlib.Omega.{arith}
 use lib.IntN.{ℤ}
 use lib.ListN.{length, take}
@@ -9,7 +10,7 @@ use Rattle.problem.proofs.CheckLaws.{Fits}
 use Rattle.problem.specs.declared.Check.{Check}
 use Rattle.settling.specs.Columns.{Columns, columnsIn}
 use Rattle.settling.proofs.Packing.{packed-length}
-use Rattle.engine.specs.Assign.{Buffers, Done, posedBy, buffers, n, columns, lentOf, refused}
+use Rattle.engine.specs.Assign.{Buffers, posedBy, buffers, n, columns, lentOf, refused}
 use Rattle.engine.specs.Finish.{settledOver}
 use Rattle.engine.specs.Ground.{grounded}
 use Rattle.engine.proofs.Readiness.{cells, table, table-columns}
@@ -53,6 +54,9 @@ module _ (w : tie.After-enum-told) where
   abbrev fit : Fits (P at) (lentOf (B at))
   fit = clear-fits _ _ _ _ found
 
+  room : cells (P at) ≤ length (cells-left over)
+  room = omega (arith, fit .few-columns, over .lay-ground .kept .1 .1 .1 .1 .1 .1 .1 .1 .1 .0)
+
   packed : take (cells (P at)) (cells-left over) ≡ table (P at)
   packed = over .lay-ground .ensures .1 .is (w .enum-told .given .1)
 
@@ -78,7 +82,8 @@ returns : tie.Need-returns
 returns c =
     let g = c .before .before .before .before .before in
     let s = under g in
-    ap (byGround (λ why t. refused why t (B s)) _) (ap (λ (r : Check). grounded r (tableau g)) (sym (c .before .found .given .1)) ∙ g .lay-ground .ensures .0)
+    ap (byGround (λ why t. refused why t (B s)) _)
+    (ap (λ (r : Check). grounded r (tableau g)) (sym (c .before .found .given .1)) ∙ g .lay-ground .ensures .0)
     ∙ sym (continue-ground (P s) (B s))
 
 enum-told : tie.Need-enum-told
@@ -88,7 +93,7 @@ mul-used : tie.Need-mul-used
 mul-used c = omega (arith, fit (c .before) .few-columns)
 
 array-share-prefix-columns : tie.Need-array-share-prefix-columns
-array-share-prefix-columns c = omega (arith, fit (c .before) .few-columns, c .before .before .before .before .before .lay-ground .kept .1 .1 .1 .1 .1 .1 .1 .1 .1 .0)
+array-share-prefix-columns c = room (c .before)
 
 slice-aggregate-settle-over : tie.Need-slice-aggregate-settle-over
 slice-aggregate-settle-over c = packed-long (c .before .before)
@@ -109,10 +114,11 @@ same-length-5 c = search needs
 
 returns-2 : tie.Need-returns-2
 returns-2 c =
-    let w = c .before .before .before .before .before .before .before .before .before in
+    let after-settle-over = c .before .before .before in
+    let w = after-settle-over .before .before .before .before .before .before in
     let s = at w in
     ap (doneWith (tableau (over w)))
-    (c .before .before .before .settle-over .ensures
+    (after-settle-over .settle-over .ensures
     ∙ ap (λ (C : Columns). settledOver (s .args .p) C (tableau (over w)) (s .args .values .now))
     (ap (columnsIn (s .args .p .columns)) (packed w) ∙ table-columns (P s) (lentOf (B s)) (fit w)))
     ∙ sym (continue-settled (P s) (B s) (lentOf (B s)) (clear-passes _ _ _ _ (found w)) (clear-laid _ _ _ _ (found w)) (found w .standing))

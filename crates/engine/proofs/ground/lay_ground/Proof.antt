@@ -1,10 +1,8 @@
 -- `engine::ground::lay_ground` meets its contract: what the checks find decides, and then 10 and 7. Assumes nothing.
 use mathlib.Core.Path.{_≡_, sym, _∙_, ap}
 use mathlib.Core.Bool.{Bool, true, false, cond}
-use mathlib.Core.List.{List}
 use native.Mathlib.Omega.{arith}
 use borrow.Author.Tests.{not-true, not-false}
-use lib.IntN.{ℤ}
 use lib.ListN.{length}
 use Rattle.whole.specs.Lists.{zeros}
 use Rattle.lattice.specs.Rows.{flat}
@@ -51,8 +49,14 @@ module _ (w : tie.After-stands) where
 
 -- what is left in the tableau
 module _ (g : tie.After-form) where
+  abbrev tested : tie.After-stands
+  tested = g .before .before .before
+
+  abbrev checked : tie.After-enum-told
+  checked = tested .before
+
   abbrev behind : tie.Start
-  behind = from (g .before .before .before)
+  behind = from tested
 
   left :
       {o : Bool} → formed (P behind) .over ≡ o
@@ -67,10 +71,9 @@ enum-known-why c = search needs
 
 returns : tie.Need-returns
 returns c =
-    let s = c .before .before .before .before in (
-      sym (ground-failed (P s) (s .args .list .now) (s .args .lent) (s .args .tableau .now) (sym (c .before .before .before .first-cause .ensures) ∙ c .before .why .given .1)),
-      unpacked (P s) _,
-    )
+    let s = c .before .before .before .before in
+    let e = sym (c .before .before .before .first-cause .ensures) ∙ c .before .why .given .1 in
+    (sym (ground-failed (P s) (s .args .list .now) (s .args .lent) (s .args .tableau .now) e), unpacked (P s) _)
 
 enum-told : tie.Need-enum-told
 enum-told c = search needs
@@ -83,10 +86,9 @@ stands-requires c κs =
 returns-2 : tie.Need-returns-2
 returns-2 c =
     let w = c .before in
-    let s = from w in (
-      sym (ground-off (P s) (s .args .list .now) (s .args .lent) (s .args .tableau .now) (passed (w .before)) (standing w (not-true _ (c .if1 .taken)))),
-      unpacked (P s) _,
-    )
+    let s = from w in
+    let e = standing w (not-true _ (c .if1 .taken)) in
+    (sym (ground-off (P s) (s .args .list .now) (s .args .lent) (s .args .tableau .now) (passed (w .before)) e), unpacked (P s) _)
 
 form-requires : tie.Need-form-requires
 form-requires c κs =
@@ -100,31 +102,30 @@ same-length c = search needs
 returns-3 : tie.Need-returns-3
 returns-3 c =
     let g = c .before .before in
-    let w = g .before .before .before in
-    let s = from w in
+    let s = behind g in
+    let e = standing (tested g) (not-false _ (g .before .before .if1 .left)) in
     let o : formed (P s) .over ≡ true = sym (g .form .ensures .0) ∙ c .if2 .taken in (
       ap (grounded (Failed Elimination)) (left g o)
-          ∙ sym (ground-over (P s) (s .args .list .now) (s .args .lent) (s .args .tableau .now) (passed (w .before))
-          (standing w (not-false _ (c .before .before .before .before .if1 .left))) o),
+          ∙ sym (ground-over (P s) (s .args .list .now) (s .args .lent) (s .args .tableau .now) (passed (checked g)) e o),
       unpacked (P s) _,
     )
 
 mul-used : tie.Need-mul-used
-mul-used c = omega (arith, f (c .before .before .before .before .before .before .before) .few-columns)
+mul-used c = let w = checked (c .before .before .before) in omega (arith, f w .few-columns)
 
 slice-relend-prefix-pack : tie.Need-slice-relend-prefix-pack
 slice-relend-prefix-pack c =
-    let w = c .before .before .before .before .before .before .before in
+    let w = checked (c .before .before .before) in
     omega (arith, f w .few-columns, at w .pre .table)
 
 slice-aggregate-pack : tie.Need-slice-aggregate-pack
 slice-aggregate-pack c =
-    let w = c .before .before .before .before .before .before .before .before in
+    let w = checked (c .before .before .before .before) in
     part-length (cells (P (at w))) _ (omega (arith, f w .few-columns, at w .pre .table))
 
 pack-requires : tie.Need-pack-requires
 pack-requires c κs =
-    let w = c .before .before .before .before .before .before .before .before in
+    let w = checked (c .before .before .before .before) in
     let s = at w in
     packable (P s) (s .args .lent) (f w) _ (part-length (cells (P s)) _ (omega (arith, f w .few-columns, s .pre .table)))
 
@@ -136,14 +137,15 @@ same-length-3 c = search needs
 
 returns-4 : tie.Need-returns-4
 returns-4 c =
-    let g = c .before .before .before .before .before .before in
-    let w = g .before .before .before in
-    let s = from w in
-    let o : formed (P s) .over ≡ false = sym (g .form .ensures .0) ∙ c .before .before .before .before .if2 .left in (
+    let k = c .before in
+    let kept = k .before .before .before in
+    let g = kept .before .before in
+    let s = behind g in
+    let e = standing (tested g) (not-false _ (g .before .before .if1 .left)) in
+    let o : formed (P s) .over ≡ false = sym (g .form .ensures .0) ∙ kept .if2 .left in (
       ap (grounded Passed) (left g o)
-          ∙ sym (ground-clear (P s) (s .args .list .now) (s .args .lent) (s .args .tableau .now) (passed (w .before))
-          (standing w (not-false _ (c .before .before .before .before .before .before .before .before .if1 .left))) o),
-      record { is = λ e. packed-back (packed-in (P s) (s .args .lent) (f (w .before)) _ (c .before .pack .ensures)) _ },
+          ∙ sym (ground-clear (P s) (s .args .list .now) (s .args .lent) (s .args .tableau .now) (passed (checked g)) e o),
+      record { is = λ e. packed-back (packed-in (P s) (s .args .lent) (f (checked g)) _ (k .pack .ensures)) _ },
     )
 
 pub lay-ground-spec : {M : Type 1} → statement M

@@ -1,7 +1,7 @@
 -- `engine::preview::preview` meets its contract: what the ground refuses is refused, and over it the next step is shown. Assumes nothing.
 use mathlib.Core.Path.{_≡_, refl, sym, _∙_, ap}
 use mathlib.Core.List.{List}
-use Prim.Native.Nat.{ℕ}
+use Prim.Native.Nat.{ℕ, _≤_}
 use native.Mathlib.Omega.{arith}
 use lib.IntN.{ℤ}
 use lib.ListN.{length, take}
@@ -70,6 +70,9 @@ module _ (w : tie.After-enum-told) where
   both : (length (at .args .standing .now) ≡ n (P at)) × (length (at .args .after .now) ≡ n (P at))
   both = both-long (n (P at)) (length (at .args .standing .now)) (length (at .args .after .now)) (fit .values-long)
 
+  room : cells (P at) ≤ length (cells-left over)
+  room = omega (arith, fit .few-columns, over .lay-ground .kept .1 .1 .1 .1 .1 .1 .1 .1 .1 .0)
+
   packed : take (cells (P at)) (cells-left over) ≡ table (P at)
   packed = over .lay-ground .ensures .1 .is (w .enum-told .given .1)
 
@@ -85,11 +88,8 @@ slice-aggregate-lay-ground c = search needs
 lay-ground-requires : tie.Need-lay-ground-requires
 lay-ground-requires c κs =
     let s = c .before .before .before .before in
-    record {
-      tableau = refl;
-      list = λ e. both-long (s .args .p .columns) (length (s .args .standing .now)) (length (s .args .after .now)) (sym (c .before .before .list-length .ensures) ∙ e) .0;
-      table = refl;
-    }
+    let lists = both-long (s .args .p .columns) (length (s .args .standing .now)) (length (s .args .after .now)) in
+    record { tableau = refl; list = λ e. lists (sym (c .before .before .list-length .ensures) ∙ e) .0; table = refl }
 
 enum-known-found : tie.Need-enum-known-found
 enum-known-found c = search needs
@@ -111,7 +111,7 @@ mul-used : tie.Need-mul-used
 mul-used c = omega (arith, fit (c .before) .few-columns)
 
 array-share-prefix-columns : tie.Need-array-share-prefix-columns
-array-share-prefix-columns c = omega (arith, fit (c .before) .few-columns, c .before .before .before .before .before .lay-ground .kept .1 .1 .1 .1 .1 .1 .1 .1 .1 .0)
+array-share-prefix-columns c = room (c .before)
 
 slice-aggregate-show-over : tie.Need-slice-aggregate-show-over
 slice-aggregate-show-over c = packed-long (c .before .before)
@@ -132,12 +132,13 @@ same-length-4 c = search needs
 
 returns-2 : tie.Need-returns-2
 returns-2 c =
-    let w = c .before .before .before .before .before .before .before .before .before in
+    let after-show-over = c .before .before .before in
+    let w = after-show-over .before .before .before .before .before .before in
     let s = at w in
     ap (shownWith (tableau (over w)))
-    (c .before .before .before .show-over .ensures
+    (after-show-over .show-over .ensures
     ∙ ap (λ (C : Columns). displayedOver (withLimit 1 (P s) .problem) C (tableau (over w)) (s .args .standing .now))
-    (ap (columnsIn (s .args .p .columns)) (packed w) ∙ table-columns (withLimit 1 (P s)) (lentBeside (n (P s)) (s .args .standing .now) (B s)) (fit w)))
+    (ap (columnsIn (s .args .p .columns)) (packed w) ∙ table-columns (withLimit 1 (P s)) (L s) (fit w)))
     ∙ sym (preview-shown (P s) (s .args .standing .now) (B s) (found w))
 
 pub preview-spec : {M : Type 1} → statement M

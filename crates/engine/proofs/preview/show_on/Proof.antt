@@ -11,6 +11,14 @@ use borrow.Author.Needs.{needs}
 use Rattle.engine.proofs.preview.show_on.Statement.{statement}
 use Rattle.engine.proofs.preview.show_on.Tie as tie
 
+-- where the list is copied
+module _ (k : tie.After-copy) where
+  abbrev given : tie.After-strides
+  given = k .before .before .before .before
+
+  abbrev start : tie.Start
+  start = given .before .before .before
+
 strides-requires : tie.Need-strides-requires
 strides-requires c κs = search needs
 
@@ -22,9 +30,11 @@ turn-at-requires c κs = search needs
 
 show-turn-requires : tie.Need-show-turn-requires
 show-turn-requires c κs =
-    let s = c .before .before .before .before .before .before .before .before .before .before in
-    subst (λ (v : List ℤ). Stepping (c .before .turn-at .result) (s .args .view) v (s .args .basis .now)) (sym (c .before .before .before .copy .ensures))
-    (stepping (s .pre .0) (c .before .turn-at .ensures))
+    let found = c .before in
+    let k = found .before .before in
+    let s = start k in
+    subst (λ (v : List ℤ). Stepping (found .turn-at .result) (s .args .view) v (s .args .basis .now)) (sym (k .copy .ensures))
+    (stepping (s .pre .0) (found .turn-at .ensures))
 
 same-length : tie.Need-same-length
 same-length c = search needs
@@ -34,11 +44,14 @@ same-length-2 c = search needs
 
 returns : tie.Need-returns
 returns c =
-    let s = c .before .before .before .before .before .before .before .before .before .before .before .before in
-    let t = c .before .before .before .turn-at .ensures in
-    let p = c .before .show-turn .ensures .0 ∙ ap (λ (x : Turn). Preview.told (x .part) (x .step)) t in
-    let q = c .before .show-turn .ensures .1 ∙ (λ i. Preview.after (vectors (s .args .view) (s .args .basis .now)) (c .before .before .before .before .before .copy .ensures i) (t i .step)) in
-    (λ i. displayed (p i) (q i) (c .before .before .before .before .before .before .before .before .before .strides .ensures i))
+    let shows = c .before .show-turn .ensures in
+    let found = c .before .before .before in
+    let k = found .before .before in
+    let s = start k in
+    let t = found .turn-at .ensures in
+    let p = shows .0 ∙ ap (λ (x : Turn). Preview.told (x .part) (x .step)) t in
+    let q = shows .1 ∙ (λ i. Preview.after (vectors (s .args .view) (s .args .basis .now)) (k .copy .ensures i) (t i .step)) in
+    (λ i. displayed (p i) (q i) (given k .strides .ensures i))
 
 pub show-on-spec : {M : Type 1} → statement M
 show-on-spec =

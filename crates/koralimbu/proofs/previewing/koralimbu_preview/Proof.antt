@@ -15,6 +15,17 @@ module _ (a : tie.Start) where
   abbrev B : Buffers
   B = buffers (a .args .tableau .now) (a .args .after .now) (a .args .strides .now)
 
+-- what the preview has shown
+module _ (k : tie.After-preview) where
+  abbrev else1 : tie.Else1
+  else1 = k .before .before .before .before
+
+  abbrev start : tie.Start
+  start = else1 .before .before .before
+
+abbrev previewed : tie.After-tell-step-arg → tie.After-preview
+previewed w = w .before .before .before .before .before
+
 number-requires : tie.Need-number-requires
 number-requires c κs = search needs
 
@@ -28,8 +39,9 @@ preview-requires c κs = search needs
 
 tell-step-requires : tie.Need-tell-step-requires
 tell-step-requires c κs =
-    let a = c .before .before .before .before .before .before .before .before .before .before .before .before in
-    (c .before .before .before .before .before .before .before .before .before .if1 .left, small-step (P a) (a .args .standing .now) (B a) (c .before .before .before .before .before .preview .result) _ _ _ (c .before .before .before .before .before .preview .ensures))
+    let k = previewed c in
+    let a = start k in
+    (else1 k .if1 .left, small-step (P a) (a .args .standing .now) (B a) (k .preview .result) _ _ _ (k .preview .ensures))
 
 seen-number-requires : tie.Need-seen-number-requires
 seen-number-requires c κs = search needs
@@ -48,9 +60,11 @@ same-length-4 c = search needs
 
 returns-2 : tie.Need-returns-2
 returns-2 c =
-    let a = c .before .before .before .before .before .before .before .before .before .before .before .before .before .before .before .before in
-    is-shown (P a) (a .args .standing .now) (B a) (c .before .before .before .before .before .before .before .before .before .preview .result) _ _ _ (c .before .before .before .before .before .before .before .before .before .preview .ensures) (a .args .report .now) _ _ (c .before .before .before .before .before .before .before .before .before .before .before .before .before .if1 .left)
-    (c .before .before .before .tell-step .ensures) (c .seen-number .ensures)
+    let after-tell = c .before .before .before in
+    let k = previewed (after-tell .before) in
+    let a = start k in
+    is-shown (P a) (a .args .standing .now) (B a) (k .preview .result) _ _ _ (k .preview .ensures) (a .args .report .now) _ _ (else1 k .if1 .left)
+    (after-tell .tell-step .ensures) (c .seen-number .ensures)
 
 pub koralimbu-preview-spec : {M : Type 1} → statement M
 koralimbu-preview-spec =

@@ -1,11 +1,21 @@
-use mathlib.Core.Path.{_≡_, sym, _∙_, ap}
-use Rattle.koralimbu.proofs.PreviewLaws.{read-signs}
-use Rattle.koralimbu.specs.Previews.{stepOf, signNumber, vectorNumber}
 -- `koralimbu::previewing::tell_step` meets its contract: each number of the step, at its place. Assumes nothing.
+use mathlib.Core.Path.{sym, _∙_, ap}
 use mathlib.Core.List.{[], _∷_}
 use borrow.Author.Needs.{needs}
+use Rattle.koralimbu.specs.Previews.{signNumber, vectorNumber, stepOf}
+use Rattle.koralimbu.proofs.PreviewLaws.{read-signs}
 use Rattle.koralimbu.proofs.previewing.tell_step.Statement.{statement}
 use Rattle.koralimbu.proofs.previewing.tell_step.Tie as tie
+
+abbrev start : tie.After-seen → tie.Start
+start e = e .before .before .before
+
+-- from vector to vector, back to the step
+abbrev step-of : tie.After-vector-number → tie.After-seen
+step-of k = k .before .before .before .before
+
+abbrev first-of : tie.After-vector-number2 → tie.After-vector-number
+first-of k = k .before .before .before .before
 
 enum-told : tie.Need-enum-told
 enum-told c = search needs
@@ -26,19 +36,25 @@ part-number-requires : tie.Need-part-number-requires
 part-number-requires c κs = search needs
 
 vector-number-requires : tie.Need-vector-number-requires
-vector-number-requires c κs = c .before .before .before .before .before .before .pre .1 .move _ _ _ (c .before .before .before .seen .given .1) .s
+vector-number-requires c κs =
+    let e = c .before .before .before in
+    start e .pre .1 .move _ _ _ (e .seen .given .1) .s
 
 sign-number-requires : tie.Need-sign-number-requires
 sign-number-requires c κs = search needs
 
 vector-number-requires-2 : tie.Need-vector-number-requires-2
-vector-number-requires-2 c κs = c .before .before .before .before .before .before .before .before .before .before .pre .1 .move _ _ _ (c .before .before .before .before .before .before .before .seen .given .1) .t
+vector-number-requires-2 c κs =
+    let e = step-of (c .before .before .before) in
+    start e .pre .1 .move _ _ _ (e .seen .given .1) .t
 
 sign-number-requires-2 : tie.Need-sign-number-requires-2
 sign-number-requires-2 c κs = search needs
 
 from-one-requires : tie.Need-from-one-requires
-from-one-requires c κs = c .before .before .before .before .before .before .before .before .before .before .before .before .before .pre .1 .column _ _ _ (c .before .before .before .before .before .before .before .before .before .before .seen .given .1)
+from-one-requires c κs =
+    let e = step-of (first-of (c .before .before)) in
+    start e .pre .1 .column _ _ _ (e .seen .given .1)
 
 write-requires-3 : tie.Need-write-requires-3
 write-requires-3 c κs = search needs
@@ -60,14 +76,18 @@ same-length-3 c = search needs
 
 returns-3 : tie.Need-returns-3
 returns-3 c =
-    let m = c .before .before .before .before .before .before .before .before .before .before .before .before .before .before .before .before .before .before .pre .1 .move _ _ _ (c .before .before .before .before .before .before .before .before .before .before .before .before .before .before .before .seen .given .1) in
-    let a = read-signs _ m .0 in
-    let b = read-signs _ m .1 in
+    let column = c .before .before .before .before in
+    let second = column .before .before .before in
+    let first = first-of second in
+    let e = step-of first in
+    let read = read-signs _ (start e .pre .1 .move _ _ _ (e .seen .given .1)) in
+    let s = first .vector-number .ensures ∙ ap (vectorNumber _) (read .0) in
+    let a = second .before .before .sign-number .ensures ∙ ap signNumber (read .0) in
+    let t = second .vector-number2 .ensures ∙ ap (vectorNumber _) (read .1) in
+    let b = column .before .sign-number2 .ensures ∙ ap signNumber (read .1) in
     c .before .before .write3 .ensures
-    ∙ (λ i. (c .before .before .before .before .before .before .before .before .before .before .before .before .before .part-number .ensures i) ∷ (c .before .before .before .before .from-one .ensures i) ∷ ((c .before .before .before .before .before .before .before .before .before .before .before .vector-number .ensures ∙ ap (vectorNumber _) a) i)
-    ∷ ((c .before .before .before .before .before .before .before .before .before .sign-number .ensures ∙ ap signNumber a) i) ∷ ((c .before .before .before .before .before .before .before .vector-number2 .ensures ∙ ap (vectorNumber _) b) i)
-    ∷ ((c .before .before .before .before .before .sign-number2 .ensures ∙ ap signNumber b) i) ∷ [])
-    ∙ sym (ap stepOf (c .before .before .before .before .before .before .before .before .before .before .before .before .before .before .before .seen .given .1))
+    ∙ (λ i. first .before .before .part-number .ensures i ∷ column .from-one .ensures i ∷ s i ∷ a i ∷ t i ∷ b i ∷ [])
+    ∙ sym (ap stepOf (e .seen .given .1))
 
 pub tell-step-spec : {M : Type 1} → statement M
 tell-step-spec =
