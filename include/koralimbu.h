@@ -207,6 +207,15 @@ uint32_t koralimbu_continue(size_t n, size_t m, uint32_t limit,
  *                            list fails a row
  *
  * The first cause that holds is returned, in the order 1 to 5, then 10, then 7. There is no step limit, so 6 is never returned.
+ *
+ * A run step by step, each step shown before it is taken; some take thousands of steps:
+ *
+ *   while (koralimbu_preview(n, m, coefficients, m * n, rights, m, lower, n, upper, n, goals, n, values, n, tableau, n * (m + n),
+ *                            after, n, strides, n, report, KORALIMBU_PREVIEW_COUNT) == KORALIMBU_ACCEPTED
+ *          && report[0] != KORALIMBU_PART_NONE) {
+ *     show(report, values, after);
+ *     memcpy(values, after, n * sizeof *values);
+ *   }
  */
 uint32_t koralimbu_preview(size_t n, size_t m,
                            const int64_t *coefficients, size_t coefficients_count,

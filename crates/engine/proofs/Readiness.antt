@@ -1,7 +1,8 @@
 -- A problem that passes the checks is ready for seating and settling over the basis that lies in its tableau.
 --   view-lies   the basis lies in a tableau of n rows, and no number of it lies beyond ±M where none of the tableau does
 --   table P     its columns, packed; table-columns, and read back; fit-column, each of them fits
---   packable    they can be packed; PackedIn P l, and the list l holds them; packed-fits, -long, -back, in the front of a buffer, lent again
+--   packable    they can be packed; PackedIn P l, and the list l holds them; packed-fits, -long, -back, in the front of a buffer, lent again;
+--               table-fills, so do the numbers of a buffer that are the table
 --   ready       so it is, with a list of values within ±M
 -- Assumes nothing.
 use mathlib.Core.Path.{_≡_, refl, sym, _∙_, ap, subst}
@@ -87,6 +88,9 @@ module _ {P : Posed} {l : List ℤ} (a : PackedIn P l) (t : List ℤ) where
 
   pub packed-long : cells P ≡ length (take (cells P) (l ++ drop (cells P) t))
   packed-long = sym (a .long) ∙ sym (ap length (part-back (cells P) l t (a .long)))
+
+pub table-fills : (P : Posed) (l : List ℤ) → take (cells P) l ≡ table P → cells P ≡ length (take (cells P) l)
+table-fills P l e = sym (ap length e ∙ packed-length (columns P .column) (n P) 0)
 
 pub fit-column : (P : Posed) (L : Lent) → Fits P L → (j : ℕ) → FitColumn (columns P .column j)
 fit-column P L f j = record {

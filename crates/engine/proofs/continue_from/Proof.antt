@@ -9,11 +9,10 @@ use Rattle.problem.specs.Checks.{Posed}
 use Rattle.problem.proofs.CheckLaws.{Fits}
 use Rattle.problem.specs.declared.Check.{Check}
 use Rattle.settling.specs.Columns.{Columns, columnsIn}
-use Rattle.settling.proofs.Packing.{packed-length}
-use Rattle.engine.specs.Assign.{Buffers, posedBy, buffers, n, columns, lentOf, refused}
+use Rattle.engine.specs.Assign.{Buffers, posedBy, buffers, columns, lentOf, refused}
 use Rattle.engine.specs.Finish.{settledOver}
 use Rattle.engine.specs.Ground.{grounded}
-use Rattle.engine.proofs.Readiness.{cells, table, table-columns}
+use Rattle.engine.proofs.Readiness.{cells, table, table-columns, table-fills}
 use Rattle.engine.proofs.Assigning.{doneWith, continue-passed, continue-settled}
 use Rattle.engine.proofs.Grounding.{byGround, Clear, clear, clear-passes, clear-fits, clear-laid, clear-placed, continue-ground}
 use borrow.Author.Needs.{needs}
@@ -60,9 +59,6 @@ module _ (w : tie.After-enum-told) where
   packed : take (cells (P at)) (cells-left over) ≡ table (P at)
   packed = over .lay-ground .ensures .1 .is (w .enum-told .given .1)
 
-  packed-long : cells (P at) ≡ length (take (cells (P at)) (cells-left over))
-  packed-long = sym (ap length packed ∙ packed-length (columns (P at) .column) (n (P at)) 0)
-
 slice-aggregate-lay-ground : tie.Need-slice-aggregate-lay-ground
 slice-aggregate-lay-ground c = search needs
 
@@ -96,7 +92,7 @@ array-share-prefix-columns : tie.Need-array-share-prefix-columns
 array-share-prefix-columns c = room (c .before)
 
 slice-aggregate-settle-over : tie.Need-slice-aggregate-settle-over
-slice-aggregate-settle-over c = packed-long (c .before .before)
+slice-aggregate-settle-over c = let w = c .before .before in table-fills (P (at w)) _ (packed w)
 
 settle-over-requires : tie.Need-settle-over-requires
 settle-over-requires c κs =

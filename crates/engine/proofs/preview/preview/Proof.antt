@@ -10,12 +10,11 @@ use Rattle.problem.proofs.CheckLaws.{Fits}
 use Rattle.problem.specs.declared.Check.{Check}
 use Rattle.problem.specs.declared.Lent.{Lent}
 use Rattle.settling.specs.Columns.{Columns, columnsIn}
-use Rattle.settling.proofs.Packing.{packed-length}
 use Rattle.engine.specs.Assign.{Buffers, posedBy, buffers, n, columns}
 use Rattle.engine.specs.Ground.{grounded, ground}
 use Rattle.engine.specs.Preview.{withLimit, lentBeside, unshown}
 use Rattle.engine.specs.Showing.{displayedOver}
-use Rattle.engine.proofs.Readiness.{cells, table, table-columns}
+use Rattle.engine.proofs.Readiness.{cells, table, table-columns, table-fills}
 use Rattle.engine.proofs.Grounding.{byGround, Clear, clear, clear-fits, clear-placed}
 use Rattle.engine.proofs.Showing.{both-long, shownWith, preview-ground, preview-shown}
 use borrow.Author.Needs.{needs}
@@ -76,9 +75,6 @@ module _ (w : tie.After-enum-told) where
   packed : take (cells (P at)) (cells-left over) ≡ table (P at)
   packed = over .lay-ground .ensures .1 .is (w .enum-told .given .1)
 
-  packed-long : cells (P at) ≡ length (take (cells (P at)) (cells-left over))
-  packed-long = sym (ap length packed ∙ packed-length (columns (P at) .column) (n (P at)) 0)
-
 list-length-requires : tie.Need-list-length-requires
 list-length-requires c κs = search needs
 
@@ -114,7 +110,7 @@ array-share-prefix-columns : tie.Need-array-share-prefix-columns
 array-share-prefix-columns c = room (c .before)
 
 slice-aggregate-show-over : tie.Need-slice-aggregate-show-over
-slice-aggregate-show-over c = packed-long (c .before .before)
+slice-aggregate-show-over c = let w = c .before .before in table-fills (P (at w)) _ (packed w)
 
 show-over-requires : tie.Need-show-over-requires
 show-over-requires c κs =
