@@ -54,7 +54,7 @@ uint32_t koralimbu_version(void);
 #define KORALIMBU_SPENT 3
 
 /* The part that a previewed step belongs to.
- *   NONE    no move improves, so there is no step
+ *   NONE    there is no step: no move improves, or the call is refused
  *   BOUNDS  some value is out of bounds
  *   GOALS   all values are in bounds */
 #define KORALIMBU_PART_NONE 0

@@ -31,7 +31,8 @@ import ctypes
 
 import needs
 from boundary import Buffer, Tally, call, declare, load
-from engine import BOUNDS, FITTED, GOALS, OUTSIDE, SPENT, WRONG_LENGTH, Lent, preview
+from engine import (BOUNDS, FITTED, GOALS, OUTSIDE, SPENT, WRONG_LENGTH, Lent, Problem,
+                    preview)
 from generate import Case, preview_case, problem_case, rng_for
 from runs import faults, run_from
 
@@ -44,10 +45,12 @@ FILLED = ["tableau", "values", "strides"]
 NUMBERS = {"strides": ctypes.c_uint64, "report": ctypes.c_uint32}
 MOST_STEPS = 60
 
-# What previews show; a move of two vectors counts beside its part.
-KINDS = ["a bounds step", "a goals step", "a move of two vectors", "no move",
-         "refusal 1", "refusal 2", "refusal 3", "refusal 4", "refusal 5", "refusal 7",
-         "refusal 10", "a report of a wrong length"]
+# What previews show: of each part a step by each sign and each pair of signs.
+WORDS = {0: "", 1: "+", 2: "-"}
+KINDS = ["%s step %s" % (part, signs) for part in (BOUNDS, GOALS)
+         for signs in ("+", "-", "++", "+-", "-+", "--")]
+KINDS += ["no move", "refusal 1", "refusal 2", "refusal 3", "refusal 4", "refusal 5",
+          "refusal 7", "refusal 10", "a report of a wrong length"]
 
 
 def engine_functions(library):
@@ -194,26 +197,27 @@ def by_continue(functions, problem, standing, lent):
     """What a preview must leave by the engine's Continue with limit 1 on a copy of the
     list: the list after is as before where that is refused, and the part is the one whose
     count is 1."""
-    problem.limit = 1
+    once = Problem(problem.n, problem.m, problem.coefficients, problem.rights,
+                   problem.lower, problem.upper, problem.goals, 1)
     copy = Lent(lent.tableau, standing, lent.strides)
-    after = engine_call(functions, Case("continue", problem, copy), [0, 0, 0])
+    after = engine_call(functions, Case("continue", once, copy), [0, 0, 0])
     _, bounds, goals = after["report"]
     return {"number": after["number"], "tableau": after["tableau"],
             "strides": after["strides"], "part": bounds * PARTS[BOUNDS] + goals * PARTS[GOALS],
             "after": list(lent.values) if after["number"] else after["values"]}
 
 
-def kinds_of(got):
-    """Which of KINDS a preview is."""
+def kind_of(got):
+    """Which of KINDS a preview is, by what the engine tells."""
     report = got["report"]
     if len(report) != STEP_NUMBERS:
-        return ["a report of a wrong length"]
+        return "a report of a wrong length"
     if got["number"] != 0:
-        return ["refusal %d" % got["number"]]
+        return "refusal %d" % got["number"]
     if report[0] == 0:
-        return ["no move"]
-    part = "a bounds step" if report[0] == PARTS[BOUNDS] else "a goals step"
-    return [part, "a move of two vectors"] if report[4] else [part]
+        return "no move"
+    part = BOUNDS if report[0] == PARTS[BOUNDS] else GOALS
+    return "%s step %s%s" % (part, WORDS[report[3]], WORDS[report[5]])
 
 
 def compare_previews(tally, functions, count, seed):
@@ -225,8 +229,8 @@ def compare_previews(tally, functions, count, seed):
         report = random_report(rng, STEP_NUMBERS, [0, 1, 3, 5, 7, 9])
         what = "preview %d of seed %d: n %d, m %d" % (number, seed, problem.n, problem.m)
         got = engine_preview(functions, problem, standing, lent, report)
-        for kind in kinds_of(got):
-            met[kind] = met.get(kind, 0) + 1
+        kind = kind_of(got)
+        met[kind] = met.get(kind, 0) + 1
         if len(report) == STEP_NUMBERS and len(standing) == len(lent.values):
             tally.compare(what + ", by Continue", dict(got, part=got["report"][0]),
                           by_continue(functions, problem, standing, lent), "Continue's")

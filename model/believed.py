@@ -22,7 +22,7 @@ STATEMENTS = {
     "engine/specs/Demand.antt": ["Demand3"],
     "engine/specs/Outcomes.antt": ["KeepsRows", "VerdictMeans", "NoneExactlyWhen"],
     "engine/specs/Stride.antt": ["AssignStrides", "ContinueStrides"],
-    "engine/specs/Preview.antt": ["PreviewContinue", "PreviewRoom", "PreviewStep", "PreviewLimit"],
+    "engine/specs/Preview.antt": ["PreviewContinue", "PreviewRoom", "PreviewStep", "PreviewRest", "PreviewLimit"],
     "whole/specs/Divisor.antt": ["DivisorGreatest"],
     "settling/specs/Strides.antt": ["StrideGreatest"],
     "solve/specs/Cases.antt": ["DeckCases"],

@@ -37,7 +37,7 @@ import sys
 import needs
 from engine import (GOALS, M, MAX_BOUND, MAX_COEFFICIENT, MAX_COLUMNS, MAX_GOAL, MAX_LIMIT,
                     MAX_RIGHT, MAX_ROWS, Lent, Problem, assign, basis_of, bring_to_form,
-                    cont, fill, part_of)
+                    cont, fill, move_named, move_names, part_of)
 from listing import listing
 from text import MAX_TEXT
 
@@ -389,12 +389,49 @@ def left_standing(rng, case):
     return lent.values
 
 
+def held_problem(rng):
+    """A small problem and a list that satisfies its rows, made for a move of two vectors:
+    a column that it changes wants to go where it leads, by its bounds or by its goal, the
+    others that it changes are free, and all that it leaves alone are held where they
+    stand, so that few single vectors serve."""
+    n = rng.randint(3, 6)
+    m = rng.randint(0, n - 2)
+    standing = [rng.randint(20, 40) for _ in range(n)]
+    coefficients = random_matrix(rng, n, m, 2, 0.6)
+    rights = products(n, m, coefficients, standing)
+    problem = Problem(n, m, coefficients, rights, list(standing), list(standing), [0] * n,
+                      random_limit(rng))
+    table = fill(problem)
+    basis = basis_of(table, bring_to_form(table), m)
+    pairs = [name for name in move_names(len(basis)) if len(name) == 2]
+    # Better one in which both vectors change a column and the move does not.
+    cancelling = [name for name in pairs
+                  if any(basis[name[0][0]][j] != 0 and change == 0
+                         for j, change in enumerate(move_named(basis, name)))]
+    move = move_named(basis, rng.choice(cancelling or pairs))
+    changed = [j for j in range(n) if move[j] != 0]
+    for j in changed:
+        problem.lower[j], problem.upper[j] = 1, 1000
+    wanting = rng.choice(changed)
+    wanted = standing[wanting] + move[wanting]
+    if rng.random() < 0.5:
+        problem.lower[wanting] = problem.upper[wanting] = wanted
+    else:
+        problem.goals[wanting] = 1000 * max(1, wanted)
+    return problem, standing
+
+
 def preview_case(rng):
     """The problem, the standing list and the lent buffers of a preview: a Continue's
-    list, or what a whole assignment leaves. The list after holds anything."""
-    case = problem_case(rng)
-    problem, lent = case.problem, case.lent
-    standing = lent.values if case.call == "continue" else left_standing(rng, case)
+    list, what a whole assignment leaves, or one of a problem with held columns. The list
+    after holds anything."""
+    if rng.random() < 0.25:
+        problem, standing = held_problem(rng)
+        lent = noisy_lent(rng, problem.n, problem.m)
+    else:
+        case = problem_case(rng)
+        problem, lent = case.problem, case.lent
+        standing = lent.values if case.call == "continue" else left_standing(rng, case)
     lent.values = noise(rng, len(problem.lower))
     if rng.random() < 0.1:
         buffer = rng.choice([standing, lent.values])

@@ -2,8 +2,8 @@
 
 Runs every deck case of document 01, every row of its table of refusals, the close
 readings one by one, previews of the next step, properties of random problems, the sample
-decks, and what the page beside them says of verdicts; each room has its file in tests/. The last line printed is
-“N passed, M failed”, counted in single checks.
+decks, and what the page beside them says of verdicts; each room has its file in tests/.
+The last line printed is “N passed, M failed”, counted in single checks.
 """
 
 import sys

@@ -25,7 +25,7 @@ pub enum Refusal {
     NoWholeNumbers,
     /// 9: seating met a value beyond ±[`M`](crate::M).
     Seating,
-    /// 10: the list to continue from fails a row, or has a value beyond ±[`M`](crate::M).
+    /// 10: the standing list fails a row, or has a value beyond ±[`M`](crate::M).
     Standing,
     /// 11: the text is not laid out as a deck, or is longer than [`MOST_TEXT`](crate::MOST_TEXT).
     Layout,
@@ -85,7 +85,7 @@ impl Refusal {
             }
             NoWholeNumbers => "no whole numbers satisfy the rows",
             Seating => "a goal pulls some column beyond ±2,147,483,647",
-            Standing => "the list to continue from fails a row, or has a value beyond ±2,147,483,647",
+            Standing => "the standing list fails a row, or has a value beyond ±2,147,483,647",
             Layout => "a word is no number, a number is missing or one too many, or the text is over 32,768 bytes",
             Term => {
                 "a row's kind is not 0 to 3, its count of terms is wrong, an index does not rise or names no curve, \

@@ -78,7 +78,8 @@ pub struct NextStep {
 /// The vectors of the basis, from the tableau that a call left which was not refused: N1 first, as a [`Move`] counts them.
 pub fn basis(tableau: &[i64], columns: usize, rows: usize) -> impl Iterator<Item = &[i64]> {
     // A chunk of no numbers is not allowed; where there is no column, there is no tableau either.
-    let split = tableau.chunks_exact((rows + columns).max(1)).map(move |row| row.split_at(rows));
+    let width = rows.saturating_add(columns).max(1);
+    let split = tableau.chunks_exact(width).map(move |row| row.split_at(rows));
     split.filter(|(sums, _)| sums.iter().all(|sum| *sum == 0)).map(|(_, vector)| vector)
 }
 
@@ -155,7 +156,7 @@ impl fmt::Display for Sign {
 
 impl fmt::Display for SignedVector {
     fn fmt(&self, f: &mut fmt::Formatter) -> fmt::Result {
-        write!(f, "{}N{}", self.sign, self.vector + 1)
+        write!(f, "{}N{}", self.sign, self.vector.saturating_add(1))
     }
 }
 
@@ -170,7 +171,7 @@ impl fmt::Display for Move {
 
 impl fmt::Display for Step {
     fn fmt(&self, f: &mut fmt::Formatter) -> fmt::Result {
-        write!(f, "{} part: {} for column {}", self.part, self.by, self.column + 1)
+        write!(f, "{} part: {} for column {}", self.part, self.by, self.column.saturating_add(1))
     }
 }
 
@@ -224,6 +225,7 @@ mod tests {
         let tableau = [1, 0, 0, 1, 0, 1, 0, 1, 0, 0, 1, 1];
         assert_eq!(basis(&tableau, 3, 1).collect::<Vec<_>>(), [[1, 0, 1], [0, 1, 1]]);
         assert_eq!(basis(&[], 0, 0).count(), 0);
+        assert_eq!(basis(&[], usize::MAX, 1).count(), 0);
         assert_eq!(basis(&[1, 2], 0, 3).count(), 0);
     }
 

@@ -1,7 +1,7 @@
 -- What Continue and the preview start from, by what is found.
 --   byCheck, byGround   what f makes of a refusal and the tableau left, or a where nothing is refused
 --   ground-failed, -off, -over, -clear   what is found: by the checks, of a list that does not stand, past the limit, and with nothing refused
---   Clear P v L u       nothing is refused, and u is the form's table; clear, where that is found
+--   Clear P v L t u     nothing is refused, and u is the form's table; clear, where that is found
 --   clear-passes, -fits, -laid, -placed   what that gives
 --   unpacked            with a refusal nothing is said of the table of columns
 --   continue-ground     a Continue is made of what is found

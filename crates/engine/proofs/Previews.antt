@@ -1,17 +1,17 @@
 -- What a preview says.
 --   preview-continue   it equals Continue with limit 1 on a copy of the list
---   preview-room       where the list after has no room for the copy it is turned back with 1 or 2
+--   preview-room       where the list after has not n numbers it is turned back with 1 or 2
 --   preview-step       what it names is a step
+--   preview-rest       where it names none no move improves
 --   preview-small      whose column and move are such as a problem can have
 --   preview-limit      the limit held beside the problem plays no part
 -- Assumes nothing.
 use mathlib.Core.Path.{_≡_, refl, sym, _∙_, ap, ap₂, subst}
-use mathlib.Core.Logic.{_⊎_, inl, inr, ⊎-elim}
 use mathlib.Core.Bool.{Bool, true, false, cond, _&&_, true≢false}
 use mathlib.Core.List.{List}
 use Prim.Native.Nat.{ℕ, _+_, _-_, _*_, _<_}
 use native.Mathlib.Omega.{arith}
-use borrow.Author.Tests.{ne-eqb}
+use borrow.Author.Tests.{ne-eqb, eqb-true}
 use lib.Dec.{eqb}
 use lib.IntN.{ℤ}
 use lib.ListN.{length, drop}
@@ -45,13 +45,14 @@ use Rattle.settling.specs.Verdicts.{Improving}
 use Rattle.settling.specs.Views.{vectors, OfBasis}
 use Rattle.settling.proofs.Settlings.{taken-ready, settle-rest, settle-spent, settle-on}
 use Rattle.settling.proofs.Stepping.{next-taken}
+use Rattle.settling.proofs.Verdicts.{rest-exactly}
 use Rattle.engine.specs.Assign.{Buffers, Done, n, m, columns, lentOf, refused, settleOn, stands, formed}
 use Rattle.engine.specs.BasisPlace.{tableOf, basisView, basisStart}
 use Rattle.engine.specs.Ground.{Grounded, grounded, ground}
 use Rattle.engine.specs.Outcomes.{basisLeft}
 use Rattle.engine.specs.Preview.{Shown, withLimit, listLength, lentBeside, unshown, onCause, told, after, shownOn, previewFit, preview}
 use Rattle.engine.specs.Preview.{copied, Equals, EqualsContinue, PreviewContinue, PreviewRoom}
-use Rattle.engine.specs.Preview.{NamesStep, PreviewStep, PreviewLimit}
+use Rattle.engine.specs.Preview.{NamesStep, PreviewStep, AtRest, PreviewRest, PreviewLimit}
 use Rattle.engine.specs.declared.preview.Seen.the-variants.{Refused, Rest, Next}
 use Rattle.engine.proofs.BasisLaws.{basis-in}
 use Rattle.engine.proofs.Readiness.{table, table-columns}
@@ -167,9 +168,12 @@ shown-equal P v T N before = go (nextStep C N v) refl
         (partOf C v) i o (ap (told (partOf C v)) e) (w .counts)
 
 -- ---- whole
-same-lengths : (t : Bool) (a b : ℕ) → b ≡ a → cond t b a ≡ a
-same-lengths true a b e = e
-same-lengths false a b e = refl
+same-lengths : (n a b : ℕ) → b ≡ n → listLength n a b ≡ a
+same-lengths n a b e = go (eqb a n) refl
+  where
+    go : (t : Bool) → eqb a n ≡ t → cond t b a ≡ a
+    go true h = e ∙ sym (eqb-true a n h)
+    go false h = refl
 
 module _ (P : Posed) (v : List ℤ) (B : Buffers) where
   abbrev x : Shown
@@ -184,11 +188,11 @@ module _ (P : Posed) (v : List ℤ) (B : Buffers) where
   by-check Passed t = shown-equal P v (formed P .table) (basisLeft P) (B .values)
   by-check (Failed why) t = refused-equal v B why t
 
-  module _ (e : length (B .values) ≡ length v) where
+  module _ (e : length (B .values) ≡ n P) where
     same-lent : lentBeside (n P) v B ≡ lentOf (copied v B)
     same-lent =
         ap (λ (k : ℕ). record { tableau = length (B .tableau); values = k; strides = length (B .strides) })
-        (same-lengths (eqb (length v) (n P)) (length v) (length (B .values)) e)
+        (same-lengths (n P) (length v) (length (B .values)) e)
 
     equal : EqualsContinue P v B
     equal =
@@ -203,14 +207,16 @@ short-lent : (a b c : Bool) → b ≡ false → a && (b && c) ≡ false
 short-lent true b c e = rw e refl
 short-lent false b c e = refl
 
-first-short : (a b c : Bool) (r : Check) →
-    let f : Check = orNext a Size (orNext b Length (orNext c Length (orNext false Length r))) in (f ≡ Failed Size) ⊎ (f ≡ Failed Length)
-first-short false b c r = inl refl
-first-short true false c r = inr refl
-first-short true true false r = inr refl
-first-short true true true r = inr refl
+first-short :
+    (a b c : Bool) (r : Check) → orNext a Size (orNext b Length (orNext c Length (orNext false Length r))) ≡ Failed (cond a Length Size)
+first-short false b c r = refl
+first-short true false c r = refl
+first-short true true false r = refl
+first-short true true true r = refl
 
-short-cause : (P : Posed) (L : Lent) → lentFit (P .problem) L ≡ false → (firstCause P L ≡ Failed Size) ⊎ (firstCause P L ≡ Failed Length)
+short-cause :
+    (P : Posed) (L : Lent) → lentFit (P .problem) L ≡ false
+    → firstCause P L ≡ Failed (cond (sizesFit maxColumns maxRows (P .problem)) Length Size)
 unfolding firstCause
 short-cause P L e =
     rw e (first-short (sizesFit maxColumns maxRows (P .problem)) (rowLengthsFit (P .problem) (P .coefficients) (P .rights))
@@ -219,17 +225,17 @@ short-cause P L e =
     (orNext (goalsFit (P .lower) (P .goals)) Goal (orNext (limitFits (P .problem)) Limit Passed)))))
 
 turned : (P : Posed) (v : List ℤ) (B : Buffers) (why : Refusal) → firstCause (withLimit 1 P) (lentBeside (n P) v B) ≡ Failed why
-    → preview P v B .seen ≡ Refused why
+    → preview P v B ≡ unshown why (B .tableau) B
 unfolding preview
 turned P v B why e = rw e refl
 
 pub preview-room : PreviewRoom
 preview-room P v B f =
-    ⊎-elim (λ e. inl (turned P v B Size e)) (λ e. inr (turned P v B Length e))
+    turned P v B _
     (short-cause (withLimit 1 P) (lentBeside (n P) v B)
     (short-lent (eqb (length (B .tableau)) (n P * (m P + n P))) (eqb (listLength (n P) (length v) (length (B .values))) (n P))
     (eqb (length (B .strides)) (n P))
-    (ne-eqb _ (n P) (λ e. let b = both-long (n P) (length v) (length (B .values)) e in f (b .1 ∙ sym (b .0))))))
+    (ne-eqb _ (n P) (λ e. f (both-long (n P) (length v) (length (B .values)) e .1)))))
 
 -- ---- what is named
 module _ (P : Posed) (v : List ℤ) (p : Part) (i : ℕ) (o : Move) where
@@ -267,6 +273,31 @@ pub preview-step : PreviewStep
 preview-step P v B p i o e =
     let g : Grounded = ground (withLimit 1 P) v (lentBeside (n P) v B) (B .tableau) in
     rw (preview-ground P v B) (names P v p i o B (g .check) (g .tableau) (rw (preview-ground P v B) at e))
+
+-- ---- at rest
+module _ (P : Posed) (v : List ℤ) where
+  shown-rests : (T : List (List ℤ)) → shownOn P T (basisLeft P) v .seen ≡ Rest → AtRest P v (shownOn P T (basisLeft P) v)
+  shown-rests T = go (nextStep C N v) refl
+    where
+      C : Columns
+      C = columns P
+
+      N : List (List ℤ)
+      N = basisLeft P
+
+      go : (z : Step) → nextStep C N v ≡ z → told (partOf C v) (nextStep C N v) ≡ Rest → AtRest P v (shownOn P T N v)
+      go Still e h = record { none = rest-exactly C N v .0 e; after = ap (after N v) e }
+      go (Take j u) e h = let f : Next (partOf C v) j u ≡ Rest = sym (ap (told (partOf C v)) e) ∙ h in never (cc)
+
+  rests : (B : Buffers) (c : Check) (t : List ℤ) → byCheck (λ why t. unshown why t B) (x P v B) c t .seen ≡ Rest
+      → AtRest P v (byCheck (λ why t. unshown why t B) (x P v B) c t)
+  rests B Passed t e = shown-rests (formed P .table) e
+  rests B (Failed why) t e = never (cc)
+
+pub preview-rest : PreviewRest
+preview-rest P v B e =
+    let g : Grounded = ground (withLimit 1 P) v (lentBeside (n P) v B) (B .tableau) in
+    rw (preview-ground P v B) (rests P v B (g .check) (g .tableau) (rw (preview-ground P v B) at e))
 
 -- ---- how large it is
 no-refusal : (P : Posed) (v : List ℤ) (B : Buffers) (p : Part) (i : ℕ) (o : Move) (c : Check) (t : List ℤ)

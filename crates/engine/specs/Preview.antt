@@ -12,15 +12,16 @@
 -- What is promised of it:
 --   copied v B         the buffers B with "a copy of the list" v
 --   ShowsStep x p      x shows a step of part p
---   Equals x d l       what is shown, x, is what a Continue has done, d; l is what the list after held before
---   EqualsContinue, PreviewContinue   "It equals Continue with limit 1 on a copy of the list, refusals included.", wherever the list after has
---                      as many numbers as the copy; PreviewRoom, elsewhere it is turned back with 1 or 2
+--   Equals x d before  what is shown, x, is what a Continue has done, d; the list after held `before`
+--   EqualsContinue, PreviewContinue   "It equals Continue with limit 1 on a copy of the list, refusals included.", where the list after has n
+--                      numbers; PreviewRoom, elsewhere it is turned back with 1 or 2, all as before
 --   NamesStep, PreviewStep   what is named is the next step of document 01
+--   AtRest, PreviewRest   what "no move improves" says
 --   LimitUnused, PreviewLimit   a limit held beside the problem plays no part, so that 6 is never given
--- The theorems are `preview-continue`, `preview-room`, `preview-step` and `preview-limit`, in proofs/Previews.
+-- The theorems are `preview-continue`, `preview-room`, `preview-step`, `preview-rest` and `preview-limit`, in proofs/Previews.
 -- Assumes nothing.
 use mathlib.Core.Path.{_≡_}
-use mathlib.Core.Logic.{_↔_, _⊎_}
+use mathlib.Core.Logic.{_↔_}
 use mathlib.Core.Bool.{true, false, cond}
 use mathlib.Core.List.{List}
 use Prim.Native.Nat.{ℕ}
@@ -30,7 +31,8 @@ use lib.ListN.{length}
 use Rattle.whole.specs.Lists.{zeros}
 use Rattle.lattice.specs.Rows.{flat}
 use Rattle.problem.specs.Answers.{noSteps, answerCounts, isVerdict}
-use Rattle.problem.specs.Checks.{Posed, firstCause}
+use Rattle.problem.specs.Limits.{maxColumns, maxRows}
+use Rattle.problem.specs.Checks.{Posed, sizesFit, firstCause}
 use Rattle.problem.specs.declared.Lent.{Lent}
 use Rattle.problem.specs.declared.Refusal.{Refusal}
 use Rattle.problem.specs.declared.Refusal.the-variants.{Size, Length, Limit, Elimination, Standing}
@@ -46,7 +48,7 @@ use Rattle.settling.specs.Moves.{moved}
 use Rattle.settling.specs.Settle.{counted}
 use Rattle.settling.specs.Steps.{partOf, nextStep}
 use Rattle.settling.specs.Strides.{strides}
-use Rattle.settling.specs.Verdicts.{Improving}
+use Rattle.settling.specs.Verdicts.{Improving, NoMoveImproves}
 use Rattle.engine.specs.Assign.{Buffers, buffers, Done, n, m, columns, stands, formed, continue}
 use Rattle.engine.specs.Outcomes.{basisLeft}
 use Rattle.engine.specs.declared.preview.Seen.{Seen}
@@ -143,12 +145,13 @@ abbrev pub EqualsContinue : Posed → List ℤ → Buffers → Type 0
 EqualsContinue P v B = Equals (preview P v B) (continue (withLimit 1 P) (copied v B)) (B .values)
 
 abbrev pub PreviewContinue : Type 0
-PreviewContinue = (P : Posed) (v : List ℤ) (B : Buffers) → length (B .values) ≡ length v → EqualsContinue P v B
+PreviewContinue = (P : Posed) (v : List ℤ) (B : Buffers) → length (B .values) ≡ n P → EqualsContinue P v B
 
+-- 2, unless 1 holds
 abbrev pub PreviewRoom : Type 0
 PreviewRoom =
-    (P : Posed) (v : List ℤ) (B : Buffers) → (length (B .values) ≡ length v → ⊥)
-    → (preview P v B .seen ≡ Refused Size) ⊎ (preview P v B .seen ≡ Refused Length)
+    (P : Posed) (v : List ℤ) (B : Buffers) → (length (B .values) ≡ n P → ⊥)
+    → preview P v B ≡ unshown (cond (sizesFit maxColumns maxRows (P .problem)) Length Size) (B .tableau) B
 
 -- ---- what is named
 pub record NamesStep (P : Posed) (v : List ℤ) (x : Shown) (p : Part) (i : ℕ) (o : Move) : Type 0 where
@@ -162,6 +165,13 @@ abbrev pub PreviewStep : Type 0
 PreviewStep =
     (P : Posed) (v : List ℤ) (B : Buffers) (p : Part) (i : ℕ) (o : Move) → preview P v B .seen ≡ Next p i o
     → NamesStep P v (preview P v B) p i o
+
+pub record AtRest (P : Posed) (v : List ℤ) (x : Shown) : Type 0 where
+  pub none : NoMoveImproves (columns P) (basisLeft P) v
+  pub after : x .after ≡ v
+
+abbrev pub PreviewRest : Type 0
+PreviewRest = (P : Posed) (v : List ℤ) (B : Buffers) → preview P v B .seen ≡ Rest → AtRest P v (preview P v B)
 
 -- ---- the limit
 pub record LimitUnused (P : Posed) (v : List ℤ) (B : Buffers) : Type 0 where

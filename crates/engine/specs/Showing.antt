@@ -2,7 +2,7 @@
 --   Displayed             what is told, and what the list after and the strides then hold; `displayed` makes one of the three
 --   displayedBy C N v     the next step of the list v over the basis N, with the strides that it gives
 --   displayedOver p C t v   the same over the basis in the tableau t
---   Shows p v d           the list after and the strides have a number for each column
+--   Showable p v d        the list after and the strides have a number for each column
 --   Stepping x B v l      the step x, if it is one, can be taken on the list v over the basis in l
 -- Assumes nothing.
 use mathlib.Core.Path.{_≡_}
@@ -39,7 +39,7 @@ displayedBy C N v = displayed (told (partOf C v) (nextStep C N v)) (after N v (n
 abbrev pub displayedOver : Problem → Columns → List ℤ → List ℤ → Displayed
 displayedOver p C t v = displayedBy C (basisOf p t) v
 
-pub record Shows (p : Problem) (v : List ℤ) (d : List ℕ) : Type 0 where
+pub record Showable (p : Problem) (v : List ℤ) (d : List ℕ) : Type 0 where
   pub after : length v ≡ p .columns
   pub strides : length d ≡ p .columns
 

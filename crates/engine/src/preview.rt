@@ -8,7 +8,7 @@ ghost use Rattle.engine.specs.Assign.{posedBy, buffers};
 ghost use Rattle.engine.specs.Placed.{Placed};
 ghost use Rattle.engine.specs.Preview as Preview;
 ghost use Rattle.engine.specs.Preview.{shown, listLength};
-ghost use Rattle.engine.specs.Showing.{displayed, displayedBy, displayedOver, Shows, Stepping};
+ghost use Rattle.engine.specs.Showing.{displayed, displayedBy, displayedOver, Showable, Stepping};
 use crate::ground::lay_ground;
 use crate::views::basis_place;
 use problem::Check;
@@ -77,7 +77,7 @@ fn show_over(
     after: &mut [i64],
     strides: &mut [u64],
 ) -> Seen
-    requires { ⌜ Placed p (now tableau) (now standing) (now columns) × Shows p (now after) (now strides) ⌝ }
+    requires { ⌜ Placed p (now tableau) (now standing) (now columns) × Showable p (now after) (now strides) ⌝ }
     ensures { λ r. ⌜ displayed r (now (after .exit)) (now (strides .exit))
         ≡ displayedOver p (columnsIn (p .columns) (now (columns .entry))) (now (tableau .entry)) (now (standing .entry)) ⌝ }
 {
