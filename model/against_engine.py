@@ -19,10 +19,9 @@ standing list. Runs of more than MOST_STEPS steps by the model are left out.
 Last come PREVIEWS calls of koralimbu_preview (document 02, (i)) on lists from which
 steps are to be made, and on damaged ones, watched in the same way; the standing list
 must be as before too. “It equals Continue with limit 1 on a copy of the list,
-refusals included”: so each call is also compared with the engine's own
-koralimbu_continue, where the list after has room for the copy. How many previews
-showed what is printed, and each kind of KINDS must be among them: some 1,000 calls
-have them all.
+refusals included”: so each call whose list after has n numbers is also compared with
+the engine's own koralimbu_continue. How many previews showed what is printed, and each
+kind of KINDS must be among them: some 1,000 calls have them all.
 
 The last line is 'N passed, M failed'.
 """
@@ -217,7 +216,7 @@ def kind_of(got):
     if report[0] == 0:
         return "no move"
     part = BOUNDS if report[0] == PARTS[BOUNDS] else GOALS
-    return "%s step %s%s" % (part, WORDS[report[3]], WORDS[report[5]])
+    return "%s step %s%s" % (part, WORDS.get(report[3], "?"), WORDS.get(report[5], "?"))
 
 
 def compare_previews(tally, functions, count, seed):
@@ -231,7 +230,7 @@ def compare_previews(tally, functions, count, seed):
         got = engine_preview(functions, problem, standing, lent, report)
         kind = kind_of(got)
         met[kind] = met.get(kind, 0) + 1
-        if len(report) == STEP_NUMBERS and len(standing) == len(lent.values):
+        if len(report) == STEP_NUMBERS and len(lent.values) == problem.n:
             tally.compare(what + ", by Continue", dict(got, part=got["report"][0]),
                           by_continue(functions, problem, standing, lent), "Continue's")
         tally.compare(what, got, model_preview(problem, standing, lent, report))

@@ -122,8 +122,8 @@ def limit_outside(problem):
     return not 0 <= problem.limit <= MAX_LIMIT
 
 
-def first_cause(problem, lent):
-    """“Order: 1 to 6, ...” - the first of causes 1 to 6 that holds, 0 if none does."""
+def cause_but_limit(problem, lent):
+    """The first of causes 1 to 5 that holds, 0 if none does."""
     if counts_outside(problem):
         return COUNTS_OUTSIDE
     if wrong_length(problem, lent):
@@ -134,9 +134,15 @@ def first_cause(problem, lent):
         return BOUND_OUTSIDE
     if goal_outside(problem):
         return GOAL_OUTSIDE
-    if limit_outside(problem):
-        return LIMIT_OUTSIDE
     return 0
+
+
+def first_cause(problem, lent):
+    """“Order: 1 to 6, ...” - the first of causes 1 to 6 that holds, 0 if none does."""
+    cause = cause_but_limit(problem, lent)
+    if cause == 0 and limit_outside(problem):
+        return LIMIT_OUTSIDE
+    return cause
 
 
 # ------------------------------------------------------------------ the tableau
@@ -551,17 +557,9 @@ def preview_cause(problem, standing, lent):
     """“It equals Continue with limit 1 on a copy of the list, refusals included”: causes
     1 to 5 in their order. Both lists must have n numbers. A limit of 1 is never outside,
     so 6 is never given, whatever limit the problem holds."""
-    if counts_outside(problem):
-        return COUNTS_OUTSIDE
-    if wrong_length(problem, lent) or len(standing) != problem.n:
+    if len(standing) != problem.n and not counts_outside(problem):
         return WRONG_LENGTH
-    if row_number_outside(problem):
-        return ROW_NUMBER_OUTSIDE
-    if bound_outside(problem):
-        return BOUND_OUTSIDE
-    if goal_outside(problem):
-        return GOAL_OUTSIDE
-    return 0
+    return cause_but_limit(problem, lent)
 
 
 def next_step(problem, basis, values):

@@ -1,5 +1,5 @@
 -- The preview, by what is found before it.
---   both-long         the length that stands for both lists is n exactly if both have n numbers
+--   both-long         where the length that stands for both lists is n, both have n numbers
 --   stepping          the next step of a ready list can be taken
 --   shownWith t x     what is displayed, with t in the tableau
 --   preview-ground    a preview is made of what is found
