@@ -1,17 +1,21 @@
--- Document 01, "Continue, text, listing": the problem that a text states.
+-- Document 01, "Continue, text, listing": the problem that a text states, with the ideals of document 02, (ii).
 --   Deck            the intervals and the lines of a text
 --   deck s          the deck of a text's sections, one after the other, and nothing behind them
 --   readDeck s      the deck that the text s states, or the refusal of its first place that breaks a rule
---   columnsOf d     the columns: the intervals, then the y of each row that has one
---   posed limit d   the problem, with lists of just the lengths that n and m need
+--   columnsOf d     the columns: the intervals, then the y of each row that has one; countOf d, how many
+--   rowsOf, lowers, uppers, goals d   the lists that the deck states, of just the lengths that n and m need: the coefficients, and of its columns
+--   stated d        what it states of its rows and columns
+--   posed limit d   the problem: these lists, and "the reader gives such an interval an ideal"
 -- Assumes nothing.
 use mathlib.Core.Bool.{cond}
 use mathlib.Core.List.{List, _++_, map}
 use Prim.Native.Nat.{ℕ}
 use lib.Dec.{ltb}
+use lib.IntN.{ℤ}
 use lib.ListN.{length}
 use Rattle.problem.specs.Checks.{Posed}
 use Rattle.problem.specs.declared.Refusal.the-variants.{Layout}
+use Rattle.neighbours.specs.Neighbours.{Stated, statedBy, givenOf, idealsOf}
 use Rattle.sections.specs.Rules.{Outcome, no, then, closed}
 use Rattle.sections.specs.Sections.{maxText, Line, intervalSection, rowSection}
 use Rattle.sections.specs.StatedColumns.{slackColumns, coefficientRows, lowerOf, upperOf, goalOf, rightOf}
@@ -34,12 +38,32 @@ readDeck s = cond (ltb maxText (length s)) (no Layout) (deck s)
 abbrev pub columnsOf : Deck → List Interval
 columnsOf d = d .intervals ++ slackColumns (d .lines)
 
+abbrev pub countOf : Deck → ℕ
+countOf d = length (columnsOf d)
+
+abbrev pub rowsOf : Deck → List ℤ
+rowsOf d = coefficientRows (countOf d) (length (d .intervals)) (d .lines)
+
+abbrev pub lowers : Deck → List ℤ
+lowers d = map lowerOf (columnsOf d)
+
+abbrev pub uppers : Deck → List ℤ
+uppers d = map upperOf (columnsOf d)
+
+abbrev pub goals : Deck → List ℤ
+goals d = map goalOf (columnsOf d)
+
+abbrev pub stated : Deck → Stated
+stated d = statedBy (countOf d) (length (d .lines)) (length (d .intervals)) (rowsOf d) (lowers d) (uppers d) (goals d)
+
 unfoldable pub posed : ℕ → Deck → Posed
 posed limit d = record {
-  problem = record { columns = length (columnsOf d); rows = length (d .lines); limit = limit };
-  coefficients = coefficientRows (length (columnsOf d)) (length (d .intervals)) (d .lines);
+  problem = record { columns = countOf d; rows = length (d .lines); limit = limit };
+  coefficients = rowsOf d;
   rights = map rightOf (d .lines);
-  lower = map lowerOf (columnsOf d);
-  upper = map upperOf (columnsOf d);
-  goals = map goalOf (columnsOf d);
+  lower = lowers d;
+  upper = uppers d;
+  goals = goals d;
+  given = givenOf (stated d) (countOf d);
+  ideals = idealsOf (stated d) (countOf d);
 }

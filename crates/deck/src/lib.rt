@@ -1,6 +1,8 @@
 // The text reader: its sections, one after the other, and then the lent lists.
 mod tables;
 
+use neighbours::Shape;
+use neighbours::hand_in;
 use problem::Refusal;
 use sections::Interval;
 use sections::Section;
@@ -25,8 +27,16 @@ pub enum Reading {
 }
 
 // Whether lent lengths are those of the largest buffers.
-fn lengths_fit(coefficients: usize, rights: usize, lower: usize, upper: usize, goals: usize) -> bool
-    ensures { λ r. ⌜ r ≡ largest coefficients rights lower upper goals ⌝ }
+fn lengths_fit(
+    coefficients: usize,
+    rights: usize,
+    lower: usize,
+    upper: usize,
+    goals: usize,
+    given: usize,
+    ideals: usize,
+) -> bool
+    ensures { λ r. ⌜ r ≡ largest coefficients rights lower upper goals given ideals ⌝ }
 {
     if coefficients != Sizes::COEFFICIENTS {
         return false;
@@ -40,7 +50,13 @@ fn lengths_fit(coefficients: usize, rights: usize, lower: usize, upper: usize, g
     if upper != Sizes::COLUMNS {
         return false;
     }
-    goals == Sizes::COLUMNS
+    if goals != Sizes::COLUMNS {
+        return false;
+    }
+    if given != Sizes::COLUMNS {
+        return false;
+    }
+    ideals == Sizes::COLUMNS
 }
 
 // Whether no token is left.
@@ -86,11 +102,15 @@ pub fn read_deck(
     lower: &mut [i64],
     upper: &mut [i64],
     goals: &mut [i64],
+    given: &mut [i64],
+    ideals: &mut [i64],
 ) -> Reading
     ensures { λ r. ⌜ readDone r
-        (deckBuffers (now (coefficients .exit)) (now (rights .exit)) (now (lower .exit)) (now (upper .exit)) (now (goals .exit)))
+        (deckBuffers (now (coefficients .exit)) (now (rights .exit)) (now (lower .exit)) (now (upper .exit)) (now (goals .exit))
+        (now (given .exit)) (now (ideals .exit)))
         ≡ read (now (text .entry))
-        (deckBuffers (now (coefficients .entry)) (now (rights .entry)) (now (lower .entry)) (now (upper .entry)) (now (goals .entry))) ⌝ }
+        (deckBuffers (now (coefficients .entry)) (now (rights .entry)) (now (lower .entry)) (now (upper .entry)) (now (goals .entry))
+        (now (given .entry)) (now (ideals .entry))) ⌝ }
 {
     if !lengths_fit(
         coefficients.len(),
@@ -98,6 +118,8 @@ pub fn read_deck(
         lower.len(),
         upper.len(),
         goals.len(),
+        given.len(),
+        ideals.len(),
     ) {
         return Reading::Refused(Refusal::Length);
     }
@@ -118,6 +140,12 @@ pub fn read_deck(
             copy(rights, &b);
             wipe(coefficients);
             tables::compact(&t, n, m, coefficients);
+            let shape = Shape {
+                columns: n,
+                rows: m,
+                intervals: c.intervals,
+            };
+            hand_in(shape, coefficients, lower, upper, goals, given, ideals);
             Reading::Read(n, m, c.intervals)
         }
         Section::Refused(why) => Reading::Refused(why),

@@ -47,14 +47,16 @@ pub record Done : Type 0 where
   pub values : List ℤ
   pub strides : List ℕ
 
-abbrev pub posedBy : Problem → List ℤ → List ℤ → List ℤ → List ℤ → List ℤ → Posed
-posedBy p coefficients rights lower upper goals = record {
+abbrev pub posedBy : Problem → List ℤ → List ℤ → List ℤ → List ℤ → List ℤ → List ℤ → List ℤ → Posed
+posedBy p coefficients rights lower upper goals given ideals = record {
   problem = p;
   coefficients = coefficients;
   rights = rights;
   lower = lower;
   upper = upper;
   goals = goals;
+  given = given;
+  ideals = ideals;
 }
 
 abbrev pub buffers : List ℤ → List ℤ → List ℕ → Buffers
@@ -74,7 +76,7 @@ abbrev pub matrix : Posed → List (List ℤ)
 matrix P = chop (m P) (n P) (P .coefficients)
 
 abbrev pub columns : Posed → Columns
-columns P = listed (n P) (P .lower) (P .upper) (P .goals)
+columns P = listed (n P) (P .lower) (P .upper) (P .goals) (P .given) (P .ideals)
 
 abbrev pub lentOf : Buffers → Lent
 lentOf B = record { tableau = length (B .tableau); values = length (B .values); strides = length (B .strides) }

@@ -1,4 +1,6 @@
--- Demand 3: "Nobody who restates a requirement can move the intervals", in document 01's words ("The words of demand 3").
+-- Demand 3: "Nobody who restates a requirement can move the intervals", in document 01's words ("The words of demand 3") and, of ideals and strides,
+-- in those of document 02, (ii): "Two restated problems must now have the same ideals too before their verdicts, refusals, counts and intervals can be
+-- compared; their starting lists and bases are compared as before, and their strides where both have a verdict."
 --   WithinLimits P B  "A problem is within the limits if none of causes 1 to 6 holds for it and the buffers lent with it."
 --   PastLimit P B     "It is past the elimination limit if it meets 7"
 --   IsNone P B        "and "none" if it meets 8"
@@ -8,9 +10,10 @@
 --   Starts P s N      s is the starting list of P, and N its basis
 --   EqualStarts P Q   "starting lists and bases are equal"
 --   SameStart P Q ..  "starting lists and bases are equal, or both are "none""
---   SameColumns P Q   "the same bounds, goals and step limit"
+--   handedIn P j      the ideal that is handed in for column j, or that none is
+--   SameColumns P Q   "the same bounds, goals and step limit", and "the same ideals too": the same are set, to the same numbers
 --   SameOutcome d e   "Of two of them these are equal: the verdict or the refusal's number, and the step counts of both parts; with a verdict also
---                     the n intervals and the n strides."
+--                     the n intervals"
 --   Restated P Q ..   what the demand says of two such problems
 --   Demand3 P Q B C   the demand, as one statement about both problems and what was in their lent buffers. m and the rows may differ
 -- The theorem is `demand-3`, in proofs/.
@@ -19,7 +22,9 @@ use mathlib.Core.Path.{_≡_}
 use mathlib.Core.Logic.{_↔_, _⊎_}
 use mathlib.Core.Bool.{true}
 use mathlib.Core.List.{List}
+use Prim.Native.Nat.{ℕ}
 use lib.IntN.{ℤ}
+use Rattle.whole.specs.Lists.{entry}
 use Rattle.lattice.specs.Sums.{Satisfies}
 use Rattle.problem.specs.Answers.{isVerdict}
 use Rattle.problem.specs.Checks.{Posed, firstCause}
@@ -27,6 +32,8 @@ use Rattle.problem.specs.declared.Refusal.the-variants.{Elimination, NoWholeNum
 use Rattle.problem.specs.declared.Check.the-variants.{Passed}
 use Rattle.problem.specs.declared.Answer.the-variants.{Refused}
 use Rattle.tableau.specs.RightSide.{some}
+use Rattle.settling.specs.declared.Wish.{Wish}
+use Rattle.settling.specs.Ideals.{wishOf}
 use Rattle.engine.specs.Assign.{Buffers, Done, n, matrix, lentOf, solved, assign}
 
 -- ---- the words
@@ -57,24 +64,31 @@ pub record EqualStarts (P Q : Posed) : Type 0 where
 abbrev pub SameStart : Posed → Posed → Buffers → Buffers → Type 0
 SameStart P Q B C = EqualStarts P Q ⊎ (IsNone P B × IsNone Q C)
 
+abbrev pub handedIn : Posed → ℕ → Wish
+handedIn P j = wishOf (entry j (P .given)) (entry j (P .ideals))
+
 pub record SameColumns (P Q : Posed) : Type 0 where
   pub lower : P .lower ≡ Q .lower
   pub upper : P .upper ≡ Q .upper
   pub goals : P .goals ≡ Q .goals
+  pub ideals : (j : ℕ) → handedIn P j ≡ handedIn Q j
   pub limit : P .problem .limit ≡ Q .problem .limit
 
 pub record SameOutcome (d e : Done) : Type 0 where
   pub answer : d .answer ≡ e .answer
   pub intervals : isVerdict (d .answer) ≡ true → d .values ≡ e .values
-  pub strides : isVerdict (d .answer) ≡ true → d .strides ≡ e .strides
 
 -- ---- the demand
 pub record Restated (P Q : Posed) (B C : Buffers) : Type 0 where
   -- "starting lists and bases are equal, or both are "none", exactly when the same lists of whole numbers satisfy their rows"
   pub starts : SameStart P Q B C ↔ SameRows P Q
-  -- "and then, with the same bounds, goals and step limit, whole assignments give both the same verdict or refusal and step counts, and with a
-  -- verdict the same intervals and strides, whatever the other lent buffers held before"
+  -- "and then, with the same bounds, goals and step limit", and "the same ideals too", "whole assignments give both the same verdict or refusal and
+  -- step counts, and with a verdict the same intervals .. whatever the other lent buffers held before"
   pub outcomes : SameRows P Q → SameColumns P Q → SameOutcome (assign P B) (assign Q C)
+  -- "and their strides where both have a verdict", with whatever bounds, goals, ideals and step limits
+  pub strides :
+      SameRows P Q → isVerdict (assign P B .answer) ≡ true → isVerdict (assign Q C .answer) ≡ true
+      → assign P B .strides ≡ assign Q C .strides
 
 -- "For any two problems within the limits with the same number of columns, whatever rows each has, neither past the elimination limit"
 abbrev pub Demand3 : Posed → Posed → Buffers → Buffers → Type 0

@@ -71,6 +71,8 @@ withLimit k P = record {
   lower = P .lower;
   upper = P .upper;
   goals = P .goals;
+  given = P .given;
+  ideals = P .ideals;
 }
 
 -- 2: both lists have n numbers. One length stands for both: the list after's where the standing list has n, and else the standing list's

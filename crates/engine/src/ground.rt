@@ -20,22 +20,36 @@ pub(crate) fn lay_ground(
     lower: &[i64],
     upper: &[i64],
     goals: &[i64],
+    given: &[i64],
+    ideals: &[i64],
     list: &[i64],
     lent: Lent,
     tableau: &mut [i64],
     columns: &mut [i64],
 ) -> Check
-    requires { ⌜ Groundable (posedBy p (now coefficients) (now rights) (now lower) (now upper) (now goals)) (now list) lent
-        (now tableau) (now columns) ⌝ }
+    requires { ⌜ Groundable (posedBy p (now coefficients) (now rights) (now lower) (now upper) (now goals) (now given) (now ideals))
+        (now list) lent (now tableau) (now columns) ⌝ }
     ensures { λ r. ⌜ (grounded r (now (tableau .exit))
         ≡ ground
-        (posedBy p (now (coefficients .entry)) (now (rights .entry)) (now (lower .entry)) (now (upper .entry)) (now (goals .entry)))
+        (posedBy p (now (coefficients .entry)) (now (rights .entry)) (now (lower .entry)) (now (upper .entry)) (now (goals .entry))
+        (now (given .entry)) (now (ideals .entry)))
         (now (list .entry)) lent (now (tableau .entry)))
         × Packs r
-        (posedBy p (now (coefficients .entry)) (now (rights .entry)) (now (lower .entry)) (now (upper .entry)) (now (goals .entry)))
+        (posedBy p (now (coefficients .entry)) (now (rights .entry)) (now (lower .entry)) (now (upper .entry)) (now (goals .entry))
+        (now (given .entry)) (now (ideals .entry)))
         (now (columns .exit)) ⌝ }
 {
-    if let Check::Failed(why) = first_cause(p, coefficients, rights, lower, upper, goals, lent) {
+    if let Check::Failed(why) = first_cause(
+        p,
+        coefficients,
+        rights,
+        lower,
+        upper,
+        goals,
+        given,
+        ideals,
+        lent,
+    ) {
         return Check::Failed(why);
     }
     if !stands(p, coefficients, rights, list) {
@@ -45,6 +59,6 @@ pub(crate) fn lay_ground(
         return Check::Failed(Refusal::Elimination);
     }
     let used = WIDTH * p.columns;
-    pack(&mut columns[..used], lower, upper, goals);
+    pack(&mut columns[..used], lower, upper, goals, given, ideals);
     Check::Passed
 }

@@ -1,5 +1,5 @@
 // Whole assignments and Continue: document 01's calls on lent buffers. They have no `requires`: what a problem can break is an answer.
-// Past the checks the lists of bounds and goals are packed once into a table of columns, which is all that is lent on of them.
+// Past the checks the lists of bounds, goals and ideals are packed once into a table of columns, which is all that is lent on of them.
 ghost use mathlib.Core.Path.{_≡_};
 ghost use Rattle.engine.specs.Assign.{posedBy, buffers, done};
 ghost use Rattle.engine.specs.Assign as Assign;
@@ -31,12 +31,15 @@ pub fn assign(
     lower: &[i64],
     upper: &[i64],
     goals: &[i64],
+    given: &[i64],
+    ideals: &[i64],
     tableau: &mut [i64],
     values: &mut [i64],
     strides: &mut [u64],
 ) -> Answer
     ensures { λ r. ⌜ done r (now (tableau .exit)) (now (values .exit)) (now (strides .exit))
-        ≡ Assign.assign (posedBy p (now (coefficients .entry)) (now (rights .entry)) (now (lower .entry)) (now (upper .entry)) (now (goals .entry)))
+        ≡ Assign.assign (posedBy p (now (coefficients .entry)) (now (rights .entry)) (now (lower .entry)) (now (upper .entry)) (now (goals .entry))
+        (now (given .entry)) (now (ideals .entry)))
         (buffers (now (tableau .entry)) (now (values .entry)) (now (strides .entry))) ⌝ }
 {
     let lent = Lent {
@@ -44,13 +47,23 @@ pub fn assign(
         values: values.len(),
         strides: strides.len(),
     };
-    if let Check::Failed(why) = first_cause(p, coefficients, rights, lower, upper, goals, lent) {
+    if let Check::Failed(why) = first_cause(
+        p,
+        coefficients,
+        rights,
+        lower,
+        upper,
+        goals,
+        given,
+        ideals,
+        lent,
+    ) {
         return Answer::Refused(why);
     }
     let mut columns = [0i64; WIDTH * Problem::MAX_COLUMNS];
     let n = p.columns;
     let used = WIDTH * n;
-    pack(&mut columns[..used], lower, upper, goals);
+    pack(&mut columns[..used], lower, upper, goals, given, ideals);
     let mut start = [0i64; Problem::MAX_COLUMNS];
     let solution = rightside::solve(tableau, p, coefficients, rights, &mut start[..n]);
     match solution {
@@ -76,12 +89,15 @@ pub fn continue_from(
     lower: &[i64],
     upper: &[i64],
     goals: &[i64],
+    given: &[i64],
+    ideals: &[i64],
     tableau: &mut [i64],
     values: &mut [i64],
     strides: &mut [u64],
 ) -> Answer
     ensures { λ r. ⌜ done r (now (tableau .exit)) (now (values .exit)) (now (strides .exit))
-        ≡ Assign.continue (posedBy p (now (coefficients .entry)) (now (rights .entry)) (now (lower .entry)) (now (upper .entry)) (now (goals .entry)))
+        ≡ Assign.continue (posedBy p (now (coefficients .entry)) (now (rights .entry)) (now (lower .entry)) (now (upper .entry)) (now (goals .entry))
+        (now (given .entry)) (now (ideals .entry)))
         (buffers (now (tableau .entry)) (now (values .entry)) (now (strides .entry))) ⌝ }
 {
     let lent = Lent {
@@ -97,6 +113,8 @@ pub fn continue_from(
         lower,
         upper,
         goals,
+        given,
+        ideals,
         values,
         lent,
         tableau,

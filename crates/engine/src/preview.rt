@@ -106,6 +106,8 @@ pub fn preview(
     lower: &[i64],
     upper: &[i64],
     goals: &[i64],
+    given: &[i64],
+    ideals: &[i64],
     standing: &[i64],
     tableau: &mut [i64],
     after: &mut [i64],
@@ -113,7 +115,8 @@ pub fn preview(
 ) -> Seen
     ensures { λ r. ⌜ shown r (now (tableau .exit)) (now (after .exit)) (now (strides .exit))
         ≡ Preview.preview
-        (posedBy p (now (coefficients .entry)) (now (rights .entry)) (now (lower .entry)) (now (upper .entry)) (now (goals .entry)))
+        (posedBy p (now (coefficients .entry)) (now (rights .entry)) (now (lower .entry)) (now (upper .entry)) (now (goals .entry))
+        (now (given .entry)) (now (ideals .entry)))
         (now (standing .entry)) (buffers (now (tableau .entry)) (now (after .entry)) (now (strides .entry))) ⌝ }
 {
     let one = Problem {
@@ -134,6 +137,8 @@ pub fn preview(
         lower,
         upper,
         goals,
+        given,
+        ideals,
         standing,
         lent,
         tableau,

@@ -50,6 +50,8 @@ pub extern "C" fn koralimbu_assign(
     lower: &[i64],
     upper: &[i64],
     goals: &[i64],
+    given: &[i64],
+    ideals: &[i64],
     tableau: &mut [i64],
     values: &mut [i64],
     strides: &mut [u64],
@@ -58,7 +60,7 @@ pub extern "C" fn koralimbu_assign(
     ensures { λ r. ⌜ returned r (buffers (now (tableau .exit)) (now (values .exit)) (now (strides .exit))) (now (report .exit))
         ≡ called assign
         (posedBy (problemOf n m limit) (now (coefficients .entry)) (now (rights .entry))
-        (now (lower .entry)) (now (upper .entry)) (now (goals .entry)))
+        (now (lower .entry)) (now (upper .entry)) (now (goals .entry)) (now (given .entry)) (now (ideals .entry)))
         (buffers (now (tableau .entry)) (now (values .entry)) (now (strides .entry))) (now (report .entry)) ⌝ }
 {
     if report.len() != REPORT {
@@ -76,6 +78,8 @@ pub extern "C" fn koralimbu_assign(
         lower,
         upper,
         goals,
+        given,
+        ideals,
         tableau,
         values,
         strides,
@@ -95,6 +99,8 @@ pub extern "C" fn koralimbu_continue(
     lower: &[i64],
     upper: &[i64],
     goals: &[i64],
+    given: &[i64],
+    ideals: &[i64],
     tableau: &mut [i64],
     values: &mut [i64],
     strides: &mut [u64],
@@ -103,7 +109,7 @@ pub extern "C" fn koralimbu_continue(
     ensures { λ r. ⌜ returned r (buffers (now (tableau .exit)) (now (values .exit)) (now (strides .exit))) (now (report .exit))
         ≡ called continue
         (posedBy (problemOf n m limit) (now (coefficients .entry)) (now (rights .entry))
-        (now (lower .entry)) (now (upper .entry)) (now (goals .entry)))
+        (now (lower .entry)) (now (upper .entry)) (now (goals .entry)) (now (given .entry)) (now (ideals .entry)))
         (buffers (now (tableau .entry)) (now (values .entry)) (now (strides .entry))) (now (report .entry)) ⌝ }
 {
     if report.len() != REPORT {
@@ -121,6 +127,8 @@ pub extern "C" fn koralimbu_continue(
         lower,
         upper,
         goals,
+        given,
+        ideals,
         tableau,
         values,
         strides,

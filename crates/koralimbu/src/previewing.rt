@@ -108,6 +108,8 @@ pub extern "C" fn koralimbu_preview(
     lower: &[i64],
     upper: &[i64],
     goals: &[i64],
+    given: &[i64],
+    ideals: &[i64],
     standing: &[i64],
     tableau: &mut [i64],
     after: &mut [i64],
@@ -117,7 +119,7 @@ pub extern "C" fn koralimbu_preview(
     ensures { λ r. ⌜ returned r (buffers (now (tableau .exit)) (now (after .exit)) (now (strides .exit))) (now (report .exit))
         ≡ previewCalled
         (posedBy (problemOf n m 1) (now (coefficients .entry)) (now (rights .entry))
-        (now (lower .entry)) (now (upper .entry)) (now (goals .entry)))
+        (now (lower .entry)) (now (upper .entry)) (now (goals .entry)) (now (given .entry)) (now (ideals .entry)))
         (now (standing .entry)) (buffers (now (tableau .entry)) (now (after .entry)) (now (strides .entry))) (now (report .entry)) ⌝ }
 {
     if report.len() != STEP {
@@ -135,6 +137,8 @@ pub extern "C" fn koralimbu_preview(
         lower,
         upper,
         goals,
+        given,
+        ideals,
         standing,
         tableau,
         after,

@@ -45,19 +45,32 @@ pub extern "C" fn koralimbu_read(
     lower: &mut [i64],
     upper: &mut [i64],
     goals: &mut [i64],
+    given: &mut [i64],
+    ideals: &mut [i64],
     sizes: &mut [usize],
 ) -> u32
     ensures { λ r. ⌜ readReturned r
-        (deckBuffers (now (coefficients .exit)) (now (rights .exit)) (now (lower .exit)) (now (upper .exit)) (now (goals .exit)))
+        (deckBuffers (now (coefficients .exit)) (now (rights .exit)) (now (lower .exit)) (now (upper .exit)) (now (goals .exit))
+        (now (given .exit)) (now (ideals .exit)))
         (now (sizes .exit))
         ≡ readCalled (now (text .entry))
-        (deckBuffers (now (coefficients .entry)) (now (rights .entry)) (now (lower .entry)) (now (upper .entry)) (now (goals .entry)))
+        (deckBuffers (now (coefficients .entry)) (now (rights .entry)) (now (lower .entry)) (now (upper .entry)) (now (goals .entry))
+        (now (given .entry)) (now (ideals .entry)))
         (now (sizes .entry)) ⌝ }
 {
     if sizes.len() != SIZES {
         return Refusal::Length.number();
     }
-    let reading = deck::read_deck(text, coefficients, rights, lower, upper, goals);
+    let reading = deck::read_deck(
+        text,
+        coefficients,
+        rights,
+        lower,
+        upper,
+        goals,
+        given,
+        ideals,
+    );
     tell_sizes(reading, sizes);
     reading_number(reading)
 }

@@ -1,12 +1,15 @@
 -- A problem as it is handed to a call, and the causes 1 to 6 that turn it back.
 --   emptyProblem     no columns, no rows, no steps
---   Posed            a problem with its lists: the coefficients, n to a row, and the right sides; the bounds and goals of the columns
+--   Posed            a problem with its lists: the coefficients, n to a row, and the right sides; the bounds and goals of the columns; and the
+--                    ideals handed in, document 02, (ii): whether there is one, 0 where there is none, and the number
 --   sizesFit columns rows p   cause 1 does not hold, with that many columns and rows allowed
---   rowLengthsFit, columnLengthsFit, lentFit   nor cause 2, of the rows' lists, the columns' lists and the buffers that the call fills
+--   rowLengthsFit, columnLengthsFit, idealLengthsFit, lentFit   nor cause 2, of the rows' lists, the columns' lists, the ideals' lists and the
+--                    buffers that the call fills
 --   allSpan k l      every number of l lies in −k to k
 --   rowsFit, boundFits, boundsFit, goalFits, goalsFit, limitFits   nor the causes 3 to 6; at one column, and at all
 --   orNext t why c   the refusal where the test t fails, else the next check c
 --   firstCause P L   the first cause of 1 to 6 that holds of the problem P and the lengths L of the buffers lent with it
+-- "Any number may be handed in as an ideal": no cause looks at what the marks and the ideals hold.
 -- The checks are pieces, put together by `orNext`, so that other calls can take the first three or the first five.
 -- Assumes nothing.
 use mathlib.Core.Bool.{Bool, true, false, _&&_, _||_}
@@ -36,6 +39,8 @@ pub record Posed : Type 0 where
   pub lower : List ℤ
   pub upper : List ℤ
   pub goals : List ℤ
+  pub given : List ℤ
+  pub ideals : List ℤ
 
 -- 1: "n or m outside"
 abbrev pub sizesFit : ℕ → ℕ → Problem → Bool
@@ -48,6 +53,9 @@ rowLengthsFit p coefficients rights = eqb (length coefficients) (p .rows * p .co
 abbrev pub columnLengthsFit : Problem → List ℤ → List ℤ → List ℤ → Bool
 columnLengthsFit p lower upper goals =
     eqb (length lower) (p .columns) && (eqb (length upper) (p .columns) && eqb (length goals) (p .columns))
+
+abbrev pub idealLengthsFit : Problem → List ℤ → List ℤ → Bool
+idealLengthsFit p given ideals = eqb (length given) (p .columns) && eqb (length ideals) (p .columns)
 
 -- the tableau "has n rows of m + n"
 abbrev pub lentFit : Problem → Lent → Bool
@@ -91,8 +99,9 @@ firstCause P L =
     orNext (sizesFit maxColumns maxRows p) Size
     (orNext (rowLengthsFit p (P .coefficients) (P .rights)) Length
     (orNext (columnLengthsFit p (P .lower) (P .upper) (P .goals)) Length
+    (orNext (idealLengthsFit p (P .given) (P .ideals)) Length
     (orNext (lentFit p L) Length
     (orNext (rowsFit (P .coefficients) (P .rights)) Coefficient
     (orNext (boundsFit (P .lower) (P .upper)) Bound
     (orNext (goalsFit (P .lower) (P .goals)) Goal
-    (orNext (limitFits p) Limit Passed)))))))
+    (orNext (limitFits p) Limit Passed))))))))

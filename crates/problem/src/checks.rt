@@ -3,7 +3,7 @@ ghost use mathlib.Core.Bool.{true};
 ghost use lib.ListN.{length};
 ghost use Rattle.whole.specs.Tests as Tests;
 ghost use Rattle.problem.specs.Limits.{maxColumns, maxRows};
-ghost use Rattle.problem.specs.Checks.{allSpan, sizesFit, rowLengthsFit, columnLengthsFit, lentFit, rowsFit};
+ghost use Rattle.problem.specs.Checks.{allSpan, sizesFit, rowLengthsFit, columnLengthsFit, idealLengthsFit, lentFit, rowsFit};
 ghost use Rattle.problem.specs.Checks.{boundFits, boundsFit, goalFits, goalsFit, firstCause};
 use crate::Check;
 use crate::Lent;
@@ -47,6 +47,16 @@ pub(crate) fn column_lengths_fit(p: Problem, lower: &[i64], upper: &[i64], goals
         return false;
     }
     goals.len() == p.columns
+}
+
+// Cause 2 of the ideals' lists: whether there is one, and the number.
+pub(crate) fn ideal_lengths_fit(p: Problem, given: &[i64], ideals: &[i64]) -> bool
+    ensures { λ r. ⌜ r ≡ idealLengthsFit p (now (given .entry)) (now (ideals .entry)) ⌝ }
+{
+    if given.len() != p.columns {
+        return false;
+    }
+    ideals.len() == p.columns
 }
 
 // Cause 2 of the buffers that the call fills.
@@ -162,6 +172,8 @@ pub fn first_cause(
     lower: &[i64],
     upper: &[i64],
     goals: &[i64],
+    given: &[i64],
+    ideals: &[i64],
     lent: Lent,
 ) -> Check
     ensures { λ r. ⌜ r ≡ firstCause (record {
@@ -171,6 +183,8 @@ pub fn first_cause(
       lower = now (lower .entry);
       upper = now (upper .entry);
       goals = now (goals .entry);
+      given = now (given .entry);
+      ideals = now (ideals .entry);
     }) lent ⌝ }
 {
     if !sizes_fit(p, Problem::MAX_COLUMNS, Problem::MAX_ROWS) {
@@ -180,6 +194,9 @@ pub fn first_cause(
         return Check::Failed(Refusal::Length);
     }
     if !column_lengths_fit(p, lower, upper, goals) {
+        return Check::Failed(Refusal::Length);
+    }
+    if !ideal_lengths_fit(p, given, ideals) {
         return Check::Failed(Refusal::Length);
     }
     if !lent_fit(p, lent) {

@@ -4,26 +4,22 @@
 --   Columns            their count n, and each of them; a list of values has n numbers
 --   Cell               a column's bounds and goals, and its value (declared in src/)
 --   valued c x         a column with the value x; cell C v j, column j with its value in the list v
---   withGoal lo hi g   the column with the bounds lo and hi and the one goal g, which also gives its wish
---   listed n lo hi gs  the n columns of a list of lower bounds, one of upper bounds and one of goals
+--   columnOf lo hi g w the column with the bounds lo and hi and the one goal g, where the wish w is handed in
+--   listed n lo ..     the n columns of a list of lower bounds, one of upper bounds, one of goals, and of ideals one of marks and one of numbers
 --   width              how many numbers the record of a column has in a table: lower bound, upper bound, low goal, high goal, whether a wish is set,
 --                      wish
 --   columnAt t j       the column whose record is the j-th of the table t
---   wishOf, wishNumbers   the wish that two numbers stand for, and the two numbers of a wish
 --   columnsIn n t      the n columns of a table
 --   recordOf c         the record of a column
 --   packed C           the table of the columns C, record after record; packedFrom f k j, of k columns from column j on
 -- Assumes nothing.
-use mathlib.Core.Bool.{cond}
 use mathlib.Core.List.{List, [], _∷_, _++_}
 use Prim.Native.Nat.{ℕ, zero, suc, _+_, _*_}
-use lib.IntN.{ℤ, pos}
+use lib.IntN.{ℤ}
 use Rattle.whole.specs.Lists.{entry}
-use Rattle.whole.specs.Tests.{isZero}
 use Rattle.settling.specs.declared.Cell.{Cell}
 use Rattle.settling.specs.declared.Wish.{Wish}
-use Rattle.settling.specs.declared.Wish.the-variants.{Unset, Set}
-use Rattle.settling.specs.Ideals.{goalWish}
+use Rattle.settling.specs.Ideals.{wishOf, markOf, numberOf, columnWish}
 
 pub record Column : Type 0 where
   pub lower : ℤ
@@ -42,20 +38,17 @@ valued c x = record { lower = c .lower; upper = c .upper; low = c .low; high = c
 abbrev pub cell : Columns → List ℤ → ℕ → Cell
 cell C v j = valued (C .column j) (entry j v)
 
--- ---- of document 01's lists
-abbrev pub withGoal : ℤ → ℤ → ℤ → Column
-withGoal lo hi g = record { lower = lo; upper = hi; low = g; high = g; wish = goalWish g }
+-- ---- of a problem's lists
+abbrev pub columnOf : ℤ → ℤ → ℤ → Wish → Column
+columnOf lo hi g w = record { lower = lo; upper = hi; low = g; high = g; wish = columnWish g w }
 
-abbrev pub listed : ℕ → List ℤ → List ℤ → List ℤ → Columns
-listed n lo hi gs = record { count = n; column = λ j. withGoal (entry j lo) (entry j hi) (entry j gs) }
+abbrev pub listed : ℕ → List ℤ → List ℤ → List ℤ → List ℤ → List ℤ → Columns
+listed n lo hi gs as xs =
+    record { count = n; column = λ j. columnOf (entry j lo) (entry j hi) (entry j gs) (wishOf (entry j as) (entry j xs)) }
 
 -- ---- in a table
 abbrev pub width : ℕ
 width = 6
-
--- whether a wish is set, and which
-abbrev pub wishOf : ℤ → ℤ → Wish
-wishOf given x = cond (isZero given) Unset (Set x)
 
 abbrev pub columnAt : List ℤ → ℕ → Column
 columnAt t j =
@@ -70,13 +63,8 @@ columnAt t j =
 abbrev pub columnsIn : ℕ → List ℤ → Columns
 columnsIn n t = record { count = n; column = columnAt t }
 
--- "unset" is the mark 0, and 0 stands for its number
-abbrev pub wishNumbers : Wish → List ℤ
-wishNumbers Unset = pos 0 ∷ pos 0 ∷ []
-wishNumbers (Set x) = pos 1 ∷ x ∷ []
-
 abbrev pub recordOf : Column → List ℤ
-recordOf c = c .lower ∷ c .upper ∷ c .low ∷ c .high ∷ wishNumbers (c .wish)
+recordOf c = c .lower ∷ c .upper ∷ c .low ∷ c .high ∷ markOf (c .wish) ∷ numberOf (c .wish) ∷ []
 
 unfoldable pub packedFrom : (ℕ → Column) → ℕ → ℕ → List ℤ
 packedFrom f zero j = []

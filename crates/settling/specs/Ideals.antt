@@ -3,15 +3,19 @@
 --   into lo hi x        x brought into the bounds lo to hi
 --   Wish                what a column is to come to: a number, or nothing set (declared in src/)
 --   goalWish g          the wish of a goal; nothing for 0, no goal; wishFrom of its magnitude
+--   wishOf given x      the wish that two numbers stand for, a mark and a number: "unset" is the mark 0, and not a number
+--   markOf, numberOf w  the two numbers of a wish
+--   columnWish g w      the wish of a column with the goal g, where w is handed in
 --   wished w x          the wish, or the present value x where none is set
 --   ideal lo hi w x     the wish brought into the bounds; "Without a goal it is the present value brought into the bounds"
--- Seating takes wishes and not goals, so that a wish may come from elsewhere too.
+-- Seating takes wishes and not goals: document 02, (ii), hands them in for columns without a goal.
 -- Assumes nothing.
 use mathlib.Core.Bool.{cond}
 use Prim.Native.Nat.{ℕ, zero, suc, _+_, _*_, _/_}
 use lib.Dec.{ltb}
 use lib.IntN.{ℤ, pos, natAbs}
 use lib.Signed.{ltZ}
+use Rattle.whole.specs.Tests.{isZero}
 use Rattle.settling.specs.declared.Wish.{Wish}
 use Rattle.settling.specs.declared.Wish.the-variants.{Unset, Set}
 
@@ -32,6 +36,24 @@ wishFrom (suc g) = Set (pos (goalIdeal (suc g)))
 abbrev pub goalWish : ℤ → Wish
 goalWish g = wishFrom (natAbs g)
 
+-- ---- document 02, (ii): "Any number may be handed in as an ideal"
+abbrev pub wishOf : ℤ → ℤ → Wish
+wishOf given x = cond (isZero given) Unset (Set x)
+
+-- "unset" has the mark 0, and 0 for its number
+abbrev pub markOf : Wish → ℤ
+markOf Unset = pos 0
+markOf (Set x) = pos 1
+
+abbrev pub numberOf : Wish → ℤ
+numberOf Unset = pos 0
+numberOf (Set x) = x
+
+-- "it is used only without a goal"
+abbrev pub columnWish : ℤ → Wish → Wish
+columnWish g w = cond (isZero g) w (goalWish g)
+
+-- ---- the ideal: "and brought into the bounds"; "unset, document 01's rule holds"
 abbrev pub wished : Wish → ℤ → ℤ
 wished Unset x = x
 wished (Set y) x = y

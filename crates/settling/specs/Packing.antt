@@ -5,23 +5,24 @@
 use mathlib.Core.Path.{_≡_}
 use mathlib.Core.List.{List}
 use Prim.Native.Nat.{ℕ, _+_, _*_, _≤_}
-use lib.IntN.{ℤ, pos, natAbs}
+use lib.IntN.{ℤ, natAbs}
 use lib.ListN.{length, set}
 use Rattle.whole.specs.Lists.{entry}
 use Rattle.problem.specs.Limits.{maxGoal}
 use Rattle.settling.specs.declared.Wish.{Wish}
-use Rattle.settling.specs.declared.Wish.the-variants.{Unset, Set}
+use Rattle.settling.specs.Ideals.{markOf, numberOf}
 use Rattle.settling.specs.Columns.{Column, width}
 
 abbrev pub putWish : ℕ → Wish → List ℤ → List ℤ
-putWish at Unset t = set (set t (at + 4) (pos 0)) (at + 5) (pos 0)
-putWish at (Set x) t = set (set t (at + 4) (pos 1)) (at + 5) x
+putWish at w t = set (set t (at + 4) (markOf w)) (at + 5) (numberOf w)
 
 abbrev pub put : ℕ → Column → List ℤ → List ℤ
 put at c t = putWish at (c .wish) (set (set (set (set t (at + 0) (c .lower)) (at + 1) (c .upper)) (at + 2) (c .low)) (at + 3) (c .high))
 
-pub record Packable (t lo hi gs : List ℤ) : Type 0 where
+pub record Packable (t lo hi gs as xs : List ℤ) : Type 0 where
   pub room : length t ≡ width * length lo
   pub upper-long : length hi ≡ length lo
   pub goals-long : length gs ≡ length lo
+  pub given-long : length as ≡ length lo
+  pub ideals-long : length xs ≡ length lo
   pub goals-small : (j : ℕ) → natAbs (entry j gs) ≤ maxGoal

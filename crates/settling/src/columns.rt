@@ -5,12 +5,14 @@ ghost use lib.IntN.{natAbs};
 ghost use lib.ListN.{length};
 ghost use Rattle.whole.specs.Lists.{entry};
 ghost use Rattle.problem.specs.Limits.{maxGoal};
-ghost use Rattle.settling.specs.Columns.{width, valued, columnAt, withGoal, listed, packed};
+ghost use Rattle.settling.specs.Columns.{width, valued, columnAt, columnOf, listed, packed};
 ghost use Rattle.settling.specs.Packing.{putWish, put, Packable};
 use crate::Cell;
 use crate::Wish;
-use crate::goal_wish;
-use crate::measures::is_zero;
+use crate::column_wish;
+use crate::mark_of;
+use crate::number_of;
+use crate::wish_of;
 
 // How many numbers a record has.
 pub const WIDTH: usize = 6;
@@ -50,10 +52,7 @@ pub(crate) fn wish_at(columns: &[i64], j: usize) -> Wish
     ensures { λ r. ⌜ r ≡ columnAt (now (columns .entry)) j .wish ⌝ }
 {
     let at = WIDTH * j;
-    if is_zero(columns[at + GIVEN]) {
-        return Wish::Unset;
-    }
-    Wish::Set(columns[at + WISH])
+    wish_of(columns[at + GIVEN], columns[at + WISH])
 }
 
 // Writes a wish into the record at a place.
@@ -61,39 +60,40 @@ fn put_wish(columns: &mut [i64], at: usize, wish: Wish)
     requires { ⌜ at + width ≤ length (now columns) ⌝ }
     ensures { λ _. ⌜ now (columns .exit) ≡ putWish at wish (now (columns .entry)) ⌝ }
 {
-    match wish {
-        Wish::Unset => {
-            columns[at + GIVEN] = 0;
-            columns[at + WISH] = 0;
-        }
-        Wish::Set(x) => {
-            columns[at + GIVEN] = 1;
-            columns[at + WISH] = x;
-        }
-    }
+    columns[at + GIVEN] = mark_of(wish);
+    columns[at + WISH] = number_of(wish);
 }
 
-// Writes the record of a column with one goal at a place.
-fn put_column(columns: &mut [i64], at: usize, lower: i64, upper: i64, goal: i64)
+// Writes the record of a column at a place, with one goal and the wish that is handed in.
+fn put_column(columns: &mut [i64], at: usize, lower: i64, upper: i64, goal: i64, handed: Wish)
     requires { ⌜ (at + width ≤ length (now columns)) × (natAbs goal ≤ maxGoal) ⌝ }
-    ensures { λ _. ⌜ now (columns .exit) ≡ put at (withGoal lower upper goal) (now (columns .entry)) ⌝ }
+    ensures { λ _. ⌜ now (columns .exit) ≡ put at (columnOf lower upper goal handed) (now (columns .entry)) ⌝ }
 {
     columns[at + LOWER] = lower;
     columns[at + UPPER] = upper;
     columns[at + LOW] = goal;
     columns[at + HIGH] = goal;
-    put_wish(columns, at, goal_wish(goal));
+    put_wish(columns, at, column_wish(goal, handed));
 }
 
-// Packs the columns of three lists into a table.
-pub fn pack(columns: &mut [i64], lower: &[i64], upper: &[i64], goals: &[i64])
-    requires { ⌜ Packable (now columns) (now lower) (now upper) (now goals) ⌝ }
+// Packs the columns of a problem's lists into a table.
+pub fn pack(
+    columns: &mut [i64],
+    lower: &[i64],
+    upper: &[i64],
+    goals: &[i64],
+    given: &[i64],
+    ideals: &[i64],
+)
+    requires { ⌜ Packable (now columns) (now lower) (now upper) (now goals) (now given) (now ideals) ⌝ }
     ensures { λ _. ⌜ now (columns .exit)
-        ≡ packed (listed (length (now (lower .entry))) (now (lower .entry)) (now (upper .entry)) (now (goals .entry))) ⌝ }
+        ≡ packed (listed (length (now (lower .entry))) (now (lower .entry)) (now (upper .entry)) (now (goals .entry))
+        (now (given .entry)) (now (ideals .entry))) ⌝ }
 {
     let mut j = 0;
     while j < lower.len() {
-        put_column(columns, WIDTH * j, lower[j], upper[j], goals[j]);
+        let handed = wish_of(given[j], ideals[j]);
+        put_column(columns, WIDTH * j, lower[j], upper[j], goals[j], handed);
         j += 1;
     }
 }

@@ -2,8 +2,9 @@ ghost use mathlib.Core.Path.{_≡_};
 ghost use Prim.Native.Nat.{_≤_};
 ghost use lib.IntN.{natAbs};
 ghost use Rattle.problem.specs.Limits.{maxGoal};
-ghost use Rattle.settling.specs.Ideals.{goalIdeal, goalWish, into};
+ghost use Rattle.settling.specs.Ideals.{goalIdeal, goalWish, wishOf, markOf, numberOf, columnWish, into};
 ghost use Rattle.settling.specs.Ideals as Ideals;
+use measures::is_zero;
 use whole::magnitude;
 
 pub mod columns;
@@ -93,6 +94,47 @@ pub fn goal_wish(g: i64) -> Wish
     } else {
         Wish::Set(goal_ideal(size) as i64)
     }
+}
+
+// The wish that a mark and a number stand for: nothing for the mark 0.
+pub fn wish_of(given: i64, x: i64) -> Wish
+    ensures { λ r. ⌜ r ≡ wishOf given x ⌝ }
+{
+    if is_zero(given) {
+        return Wish::Unset;
+    }
+    Wish::Set(x)
+}
+
+// The mark of a wish: 0 for nothing, and else 1.
+pub fn mark_of(wish: Wish) -> i64
+    ensures { λ r. ⌜ r ≡ markOf wish ⌝ }
+{
+    match wish {
+        Wish::Unset => 0,
+        Wish::Set(_) => 1,
+    }
+}
+
+// The number of a wish: 0 for nothing.
+pub fn number_of(wish: Wish) -> i64
+    ensures { λ r. ⌜ r ≡ numberOf wish ⌝ }
+{
+    match wish {
+        Wish::Unset => 0,
+        Wish::Set(x) => x,
+    }
+}
+
+// The wish of a column: its goal's, and without a goal the one that is handed in.
+pub(crate) fn column_wish(g: i64, handed: Wish) -> Wish
+    requires { ⌜ natAbs g ≤ maxGoal ⌝ }
+    ensures { λ r. ⌜ r ≡ columnWish g handed ⌝ }
+{
+    if is_zero(g) {
+        return handed;
+    }
+    goal_wish(g)
 }
 
 // x brought into the bounds.

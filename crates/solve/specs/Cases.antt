@@ -1,5 +1,6 @@
 -- The deck cases that document 01 marks with *, as one table of the definitions.
---   problem ..    a problem in lists: n, m, the rows' coefficients, the right sides, lower bounds, upper bounds, goals and the step limit
+--   problem ..    a problem in lists: n, m, the rows' coefficients, the right sides, lower bounds, upper bounds, goals and the step limit; no ideal
+--                 is handed in
 --   Shown         an answer, with the values and the strides; `gives` makes one, and `shown` those of a call
 --   assigned P    what the whole assignment of P shows, in buffers that held 7s before, `used P`
 --   seatedOf P    what seating makes of the starting list and the basis that are found for P, by seatFound
@@ -12,6 +13,7 @@ use mathlib.Core.List.{List, [], _∷_, _++_, map}
 use Prim.Native.Nat.{ℕ, _+_, _*_}
 use lib.IntN.{ℤ, pos, negsuc}
 use lib.ListN.{replicate}
+use Rattle.whole.specs.Lists.{zeros}
 use Rattle.problem.specs.Checks.{Posed}
 use Rattle.problem.specs.declared.Refusal.the-variants.{NoWholeNumbers}
 use Rattle.problem.specs.declared.Answer.{Answer}
@@ -25,7 +27,7 @@ use Rattle.solve.specs.Program.{printed}
 
 abbrev pub problem : ℕ → ℕ → List ℤ → List ℤ → List ℤ → List ℤ → List ℤ → ℕ → Posed
 problem n m coefficients rights lower upper goals limit =
-    posedBy (record { columns = n; rows = m; limit = limit }) coefficients rights lower upper goals
+    posedBy (record { columns = n; rows = m; limit = limit }) coefficients rights lower upper goals (zeros n) (zeros n)
 
 pub record Shown : Type 0 where
   pub answer : Answer
@@ -54,7 +56,7 @@ seatedOf P = seatFound P (solved P .found)
 
 -- goals 400, 1414, 1415, 2449, 2450, with the widest bounds that a column with a goal may have
 abbrev pub fiveGoals : Columns
-fiveGoals = listed 5 (replicate 5 (pos 1)) (replicate 5 (pos 1000000)) (pos 400 ∷ pos 1414 ∷ pos 1415 ∷ pos 2449 ∷ pos 2450 ∷ [])
+fiveGoals = listed 5 (replicate 5 (pos 1)) (replicate 5 (pos 1000000)) (pos 400 ∷ pos 1414 ∷ pos 1415 ∷ pos 2449 ∷ pos 2450 ∷ []) (zeros 5) (zeros 5)
 
 abbrev pub fiveIdeals : List ℤ → List ℤ
 fiveIdeals v = map (idealAt fiveGoals v) (0 ∷ 1 ∷ 2 ∷ 3 ∷ 4 ∷ [])

@@ -31,11 +31,14 @@ fn list_assigned(
     lower: &[i64],
     upper: &[i64],
     goals: &[i64],
+    given: &[i64],
+    ideals: &[i64],
     out: &mut [u8],
 ) -> Written
     requires { ⌜ (p .columns ≤ deckColumns) × (p .rows ≤ deckRows) ⌝ }
     ensures { λ r. ⌜ listingDone r (now (out .exit)) ≡ listInto (now (out .entry))
-        (posedBy p (now (coefficients .entry)) (now (rights .entry)) (now (lower .entry)) (now (upper .entry)) (now (goals .entry))) ⌝ }
+        (posedBy p (now (coefficients .entry)) (now (rights .entry)) (now (lower .entry)) (now (upper .entry)) (now (goals .entry))
+        (now (given .entry)) (now (ideals .entry))) ⌝ }
 {
     let mut tableau = [0i64; TABLEAU];
     let mut values = [0i64; Sizes::COLUMNS];
@@ -49,6 +52,8 @@ fn list_assigned(
         lower,
         upper,
         goals,
+        given,
+        ideals,
         &mut tableau[..room],
         &mut values[..n],
         &mut strides[..n],
@@ -74,6 +79,8 @@ pub fn list_text(text: &[u8], out: &mut [u8]) -> Written
     let mut lower = [0i64; Sizes::COLUMNS];
     let mut upper = [0i64; Sizes::COLUMNS];
     let mut goals = [0i64; Sizes::COLUMNS];
+    let mut given = [0i64; Sizes::COLUMNS];
+    let mut ideals = [0i64; Sizes::COLUMNS];
     let reading = read_deck(
         text,
         &mut coefficients,
@@ -81,6 +88,8 @@ pub fn list_text(text: &[u8], out: &mut [u8]) -> Written
         &mut lower,
         &mut upper,
         &mut goals,
+        &mut given,
+        &mut ideals,
     );
     match reading {
         Reading::Refused(why) => list_refused(why, out),
@@ -98,6 +107,8 @@ pub fn list_text(text: &[u8], out: &mut [u8]) -> Written
                 &lower[..n],
                 &upper[..n],
                 &goals[..n],
+                &given[..n],
+                &ideals[..n],
                 out,
             )
         }

@@ -1,0 +1,155 @@
+// Document 02, (ii): the ideals that the reader hands in for plain intervals, made from those of their neighbours.
+ghost use mathlib.Core.Path.{_≡_};
+ghost use mathlib.Core.Bool.{not, _&&_};
+ghost use Prim.Native.Nat.{_*_, _<_, _≤_};
+ghost use lib.IntN.{pos, natAbs};
+ghost use lib.ListN.{length};
+ghost use Rattle.whole.specs.Lists.{entry};
+ghost use Rattle.whole.specs.Tests.{isZero};
+ghost use Rattle.problem.specs.Limits.{maxColumns, maxRows, maxGoal};
+ghost use Rattle.settling.specs.Ideals.{goalIdeal, into};
+ghost use Rattle.neighbours.specs.Beside.{Sized, SmallColumns, rowsBy};
+ghost use Rattle.neighbours.specs.Neighbours.{statedBy, shares, neighbourIdeals, meanBy, mean, neighbourWish, givenOf, idealsOf};
+use settling::Wish;
+use settling::goal_ideal;
+use settling::into_bounds;
+use settling::mark_of;
+use settling::measures::is_zero;
+use settling::number_of;
+use whole::floor_quotient;
+use whole::magnitude;
+
+// How many columns and rows a problem has, and how many of its columns are intervals.
+pub struct Shape {
+    pub columns: usize,
+    pub rows: usize,
+    pub intervals: usize,
+}
+
+// Whether two coefficients are both other than 0.
+fn both_nonzero(x: i64, y: i64) -> bool
+    ensures { λ r. ⌜ r ≡ (not (isZero x) && not (isZero y)) ⌝ }
+{
+    if is_zero(x) {
+        return false;
+    }
+    !is_zero(y)
+}
+
+// Whether columns j and h have a nonzero coefficient in the same row.
+fn share_row(shape: Shape, coefficients: &[i64], j: usize, h: usize) -> bool
+    requires { ⌜ (shape .columns ≤ maxColumns) × (shape .rows ≤ maxRows) × (shape .rows * shape .columns ≤ length (now coefficients))
+        × (j < shape .columns) × (h < shape .columns) ⌝ }
+    ensures { λ r. ⌜ r ≡ shares (rowsBy (shape .columns) (shape .rows) (now (coefficients .entry))) j h ⌝ }
+{
+    let n = shape.columns;
+    let m = shape.rows;
+    let mut i = 0;
+    while i < m {
+        let at = i * n;
+        if both_nonzero(coefficients[at + j], coefficients[at + h]) {
+            return true;
+        }
+        i += 1;
+    }
+    false
+}
+
+// The ideal of a column with a goal.
+fn ideal_of(lower: i64, upper: i64, goal: i64) -> i64
+    requires { ⌜ natAbs goal ≤ maxGoal ⌝ }
+    ensures { λ r. ⌜ r ≡ into lower upper (pos (goalIdeal (natAbs goal))) ⌝ }
+{
+    let wanted = goal_ideal(magnitude(goal)) as i64;
+    into_bounds(lower, upper, wanted)
+}
+
+// A sum over a count, rounded down; nothing where there is nothing to count.
+fn mean_by(sum: i64, count: usize) -> Wish
+    requires { ⌜ count ≤ maxColumns ⌝ }
+    ensures { λ r. ⌜ r ≡ meanBy sum count ⌝ }
+{
+    if count == 0 {
+        return Wish::Unset;
+    }
+    Wish::Set(floor_quotient(sum, count as i64))
+}
+
+// The mean of the ideals of the neighbours of column j, from the last one. Each column is looked at once, and so counted once.
+fn mean_beside(
+    shape: Shape,
+    coefficients: &[i64],
+    lower: &[i64],
+    upper: &[i64],
+    goals: &[i64],
+    j: usize,
+) -> Wish
+    requires { ⌜ Sized (shape .columns) (shape .rows) (shape .intervals) (now coefficients) (now lower) (now upper) (now goals)
+        × SmallColumns (shape .intervals) (now lower) (now upper) (now goals) × (j < shape .columns) ⌝ }
+    ensures { λ r. ⌜ r ≡ mean (neighbourIdeals (statedBy (shape .columns) (shape .rows) (shape .intervals) (now (coefficients .entry))
+        (now (lower .entry)) (now (upper .entry)) (now (goals .entry))) j) ⌝ }
+{
+    let mut sum = 0;
+    let mut count = 0;
+    let mut h = shape.intervals;
+    while 0 < h {
+        h -= 1;
+        let goal = goals[h];
+        if !is_zero(goal) {
+            if share_row(shape, coefficients, j, h) {
+                sum += ideal_of(lower[h], upper[h], goal);
+                count += 1;
+            }
+        }
+    }
+    mean_by(sum, count)
+}
+
+// What is handed in for column j: nothing for a slack, nor where there is a goal.
+fn neighbour_wish(
+    shape: Shape,
+    coefficients: &[i64],
+    lower: &[i64],
+    upper: &[i64],
+    goals: &[i64],
+    j: usize,
+) -> Wish
+    requires { ⌜ Sized (shape .columns) (shape .rows) (shape .intervals) (now coefficients) (now lower) (now upper) (now goals)
+        × SmallColumns (shape .intervals) (now lower) (now upper) (now goals) ⌝ }
+    ensures { λ r. ⌜ r ≡ neighbourWish (statedBy (shape .columns) (shape .rows) (shape .intervals) (now (coefficients .entry))
+        (now (lower .entry)) (now (upper .entry)) (now (goals .entry))) j ⌝ }
+{
+    if shape.intervals <= j {
+        return Wish::Unset;
+    }
+    if !is_zero(goals[j]) {
+        return Wish::Unset;
+    }
+    mean_beside(shape, coefficients, lower, upper, goals, j)
+}
+
+// Fills the two lists of ideals, whether one is set and the number, for as many columns as they have room for.
+pub fn hand_in(
+    shape: Shape,
+    coefficients: &[i64],
+    lower: &[i64],
+    upper: &[i64],
+    goals: &[i64],
+    given: &mut [i64],
+    ideals: &mut [i64],
+)
+    requires { ⌜ Sized (shape .columns) (shape .rows) (shape .intervals) (now coefficients) (now lower) (now upper) (now goals)
+        × SmallColumns (shape .intervals) (now lower) (now upper) (now goals) × (length (now ideals) ≡ length (now given)) ⌝ }
+    ensures { λ _. ⌜ (now (given .exit) ≡ givenOf (statedBy (shape .columns) (shape .rows) (shape .intervals) (now (coefficients .entry))
+        (now (lower .entry)) (now (upper .entry)) (now (goals .entry))) (length (now (given .entry))))
+        × (now (ideals .exit) ≡ idealsOf (statedBy (shape .columns) (shape .rows) (shape .intervals) (now (coefficients .entry))
+        (now (lower .entry)) (now (upper .entry)) (now (goals .entry))) (length (now (given .entry)))) ⌝ }
+{
+    let mut j = 0;
+    while j < given.len() {
+        let wish = neighbour_wish(shape, coefficients, lower, upper, goals, j);
+        given[j] = mark_of(wish);
+        ideals[j] = number_of(wish);
+        j += 1;
+    }
+}
