@@ -28,7 +28,7 @@ use Rattle.whole.proofs.Tests.{both-true, all-true, range-small}
 use Rattle.whole.proofs.Signed.{back}
 use Rattle.whole.proofs.Counted.{every-at}
 use Rattle.problem.specs.Limits.{maxColumns, maxRows, maxCoefficient, maxRight, maxBound, maxGoal}
-use Rattle.problem.specs.Checks.{Posed, sizesFit, rowLengthsFit, columnLengthsFit, lentFit, allSpan, rowsFit}
+use Rattle.problem.specs.Checks.{Posed, sizesFit, rowLengthsFit, columnLengthsFit, idealLengthsFit, lentFit, allSpan, rowsFit}
 use Rattle.problem.specs.Checks.{boundFits, boundsFit, goalFits, goalsFit, limitFits, orNext, firstCause}
 use Rattle.problem.specs.declared.Problem.{Problem}
 use Rattle.problem.specs.declared.Lent.{Lent}
@@ -74,6 +74,7 @@ pub record Passes (P : Posed) (L : Lent) : Type 0 where
   pub sizes : sizesFit maxColumns maxRows (P .problem) ≡ true
   pub row-lengths : rowLengthsFit (P .problem) (P .coefficients) (P .rights) ≡ true
   pub column-lengths : columnLengthsFit (P .problem) (P .lower) (P .upper) (P .goals) ≡ true
+  pub ideal-lengths : idealLengthsFit (P .problem) (P .given) (P .ideals) ≡ true
   pub lent : lentFit (P .problem) L ≡ true
   pub rows : rowsFit (P .coefficients) (P .rights) ≡ true
   pub bounds : boundsFit (P .lower) (P .upper) ≡ true
@@ -88,6 +89,8 @@ pub record Fits (P : Posed) (L : Lent) : Type 0 where
   pub lower-long : length (P .lower) ≡ P .problem .columns
   pub upper-long : length (P .upper) ≡ P .problem .columns
   pub goals-long : length (P .goals) ≡ P .problem .columns
+  pub given-long : length (P .given) ≡ P .problem .columns
+  pub ideals-long : length (P .ideals) ≡ P .problem .columns
   pub tableau-long : L .tableau ≡ P .problem .columns * (P .problem .rows + P .problem .columns)
   pub values-long : L .values ≡ P .problem .columns
   pub strides-long : L .strides ≡ P .problem .columns
@@ -108,7 +111,8 @@ passes P L e =
     let a = both (sizesFit maxColumns maxRows (P .problem)) Size _ e in
     let b = both (rowLengthsFit (P .problem) (P .coefficients) (P .rights)) Length _ (a .1) in
     let c = both (columnLengthsFit (P .problem) (P .lower) (P .upper) (P .goals)) Length _ (b .1) in
-    let d = both (lentFit (P .problem) L) Length _ (c .1) in
+    let x = both (idealLengthsFit (P .problem) (P .given) (P .ideals)) Length _ (c .1) in
+    let d = both (lentFit (P .problem) L) Length _ (x .1) in
     let f = both (rowsFit (P .coefficients) (P .rights)) Coefficient _ (d .1) in
     let g = both (boundsFit (P .lower) (P .upper)) Bound _ (f .1) in
     let h = both (goalsFit (P .lower) (P .goals)) Goal _ (g .1) in
@@ -117,6 +121,7 @@ passes P L e =
       sizes = a .0;
       row-lengths = b .0;
       column-lengths = c .0;
+      ideal-lengths = x .0;
       lent = d .0;
       rows = f .0;
       bounds = g .0;
@@ -157,6 +162,10 @@ module _ (P : Posed) (L : Lent) (f : Passes P L) where
   columns-long : (eqb (length (P .lower)) n ≡ true) × (eqb (length (P .upper)) n ≡ true) × (eqb (length (P .goals)) n ≡ true)
   unfolding n
   columns-long = all-true (eqb (length (P .lower)) n) (eqb (length (P .upper)) n) (eqb (length (P .goals)) n) (f .column-lengths)
+
+  ideals-long : (eqb (length (P .given)) n ≡ true) × (eqb (length (P .ideals)) n ≡ true)
+  unfolding n
+  ideals-long = both-true (eqb (length (P .given)) n) (eqb (length (P .ideals)) n) (f .ideal-lengths)
 
   lent-long : (eqb (L .tableau) (n * (m + n)) ≡ true) × (eqb (L .values) n ≡ true) × (eqb (L .strides) n ≡ true)
   unfolding n m
@@ -203,6 +212,8 @@ module _ (P : Posed) (L : Lent) (f : Passes P L) where
         lower-long = lower;
         upper-long = upper;
         goals-long = goals;
+        given-long = eqb-true _ _ (ideals-long .0);
+        ideals-long = eqb-true _ _ (ideals-long .1);
         tableau-long = eqb-true _ _ (lent-long .0);
         values-long = eqb-true _ _ (lent-long .1);
         strides-long = eqb-true _ _ (lent-long .2);

@@ -43,8 +43,8 @@ abbrev pub columnOf : ℤ → ℤ → ℤ → Wish → Column
 columnOf lo hi g w = record { lower = lo; upper = hi; low = g; high = g; wish = columnWish g w }
 
 abbrev pub listed : ℕ → List ℤ → List ℤ → List ℤ → List ℤ → List ℤ → Columns
-listed n lo hi gs as xs =
-    record { count = n; column = λ j. columnOf (entry j lo) (entry j hi) (entry j gs) (wishOf (entry j as) (entry j xs)) }
+listed n lo hi gs ms xs =
+    record { count = n; column = λ j. columnOf (entry j lo) (entry j hi) (entry j gs) (wishOf (entry j ms) (entry j xs)) }
 
 -- ---- in a table
 abbrev pub width : ℕ

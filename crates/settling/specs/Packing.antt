@@ -19,10 +19,10 @@ putWish at w t = set (set t (at + 4) (markOf w)) (at + 5) (numberOf w)
 abbrev pub put : ℕ → Column → List ℤ → List ℤ
 put at c t = putWish at (c .wish) (set (set (set (set t (at + 0) (c .lower)) (at + 1) (c .upper)) (at + 2) (c .low)) (at + 3) (c .high))
 
-pub record Packable (t lo hi gs as xs : List ℤ) : Type 0 where
+pub record Packable (t lo hi gs ms xs : List ℤ) : Type 0 where
   pub room : length t ≡ width * length lo
   pub upper-long : length hi ≡ length lo
   pub goals-long : length gs ≡ length lo
-  pub given-long : length as ≡ length lo
+  pub given-long : length ms ≡ length lo
   pub ideals-long : length xs ≡ length lo
   pub goals-small : (j : ℕ) → natAbs (entry j gs) ≤ maxGoal

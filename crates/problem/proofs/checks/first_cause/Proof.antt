@@ -5,8 +5,8 @@ use borrow.Author.Needs.{needs}
 use borrow.Author.Tests.{le-leb, lt-leb}
 use lib.ListN.{length}
 use Rattle.problem.specs.Limits.{maxColumns, maxRows}
-use Rattle.problem.specs.Checks.{sizesFit, rowLengthsFit, columnLengthsFit, lentFit, rowsFit, boundsFit, goalsFit}
-use Rattle.problem.specs.Checks.{limitFits, orNext, firstCause}
+use Rattle.problem.specs.Checks.{sizesFit, rowLengthsFit, columnLengthsFit, idealLengthsFit, lentFit, rowsFit}
+use Rattle.problem.specs.Checks.{boundsFit, goalsFit, limitFits, orNext, firstCause}
 use Rattle.problem.specs.declared.Refusal.the-variants.{Length, Coefficient, Bound, Goal, Limit}
 use Rattle.problem.specs.declared.Check.{Check}
 use Rattle.problem.specs.declared.Check.the-variants.{Passed}
@@ -29,8 +29,11 @@ module _ (s : tie.Start) where
   abbrev after-lent : Check
   after-lent = orNext (rowsFit (s .args .coefficients .now) (s .args .rights .now)) Coefficient after-numbers
 
+  abbrev after-ideals : Check
+  after-ideals = orNext (lentFit (s .args .p) (s .args .lent)) Length after-lent
+
   abbrev after-columns : Check
-  after-columns = orNext (lentFit (s .args .p) (s .args .lent)) Length after-lent
+  after-columns = orNext (idealLengthsFit (s .args .p) (s .args .given .now) (s .args .ideals .now)) Length after-ideals
 
   abbrev after-rows : Check
   after-rows = orNext (columnLengthsFit (s .args .p) (s .args .lower .now) (s .args .upper .now) (s .args .goals .now)) Length after-columns
@@ -48,6 +51,8 @@ Leaves s rest =
       lower = s .args .lower .now;
       upper = s .args .upper .now;
       goals = s .args .goals .now;
+      given = s .args .given .now;
+      ideals = s .args .ideals .now;
     }
     (s .args .lent)
     ≡ rest s
@@ -62,16 +67,19 @@ from-rows c = from-sizes (c .before .before)
 abbrev from-columns : tie.Else3 → tie.Start
 from-columns c = from-rows (c .before .before)
 
-abbrev from-lent : tie.Else4 → tie.Start
-from-lent c = from-columns (c .before .before)
+abbrev from-ideals : tie.Else4 → tie.Start
+from-ideals c = from-columns (c .before .before)
 
-abbrev from-numbers : tie.Else5 → tie.Start
+abbrev from-lent : tie.Else5 → tie.Start
+from-lent c = from-ideals (c .before .before)
+
+abbrev from-numbers : tie.Else6 → tie.Start
 from-numbers c = from-lent (c .before .before)
 
-abbrev from-bounds : tie.Else6 → tie.Start
+abbrev from-bounds : tie.Else7 → tie.Start
 from-bounds c = from-numbers (c .before .before)
 
-abbrev from-goals : tie.Else7 → tie.Start
+abbrev from-goals : tie.Else8 → tie.Start
 from-goals c = from-bounds (c .before .before)
 
 sizes-hold : (c : tie.Else1) → sizesFit maxColumns maxRows (from-sizes c .args .p) ≡ true
@@ -99,17 +107,20 @@ rows c = sizes (c .before .before) ∙ rw (passed (c .before .row-lengths-fit .e
 columns : (c : tie.Else3) → Leaves (from-columns c) after-columns
 columns c = rows (c .before .before) ∙ rw (lengths-hold c)
 
-lent : (c : tie.Else4) → Leaves (from-lent c) after-lent
-lent c = columns (c .before .before) ∙ rw (passed (c .before .lent-fit .ensures) (c .if4 .left))
+ideals : (c : tie.Else4) → Leaves (from-ideals c) after-ideals
+ideals c = columns (c .before .before) ∙ rw (passed (c .before .ideal-lengths-fit .ensures) (c .if4 .left))
 
-numbers : (c : tie.Else5) → Leaves (from-numbers c) after-numbers
-numbers c = lent (c .before .before) ∙ rw (passed (c .before .rows-fit .ensures) (c .if5 .left))
+lent : (c : tie.Else5) → Leaves (from-lent c) after-lent
+lent c = ideals (c .before .before) ∙ rw (passed (c .before .lent-fit .ensures) (c .if5 .left))
 
-bounds : (c : tie.Else6) → Leaves (from-bounds c) after-bounds
-bounds c = numbers (c .before .before) ∙ rw (passed (c .before .bounds-fit .ensures) (c .if6 .left))
+numbers : (c : tie.Else6) → Leaves (from-numbers c) after-numbers
+numbers c = lent (c .before .before) ∙ rw (passed (c .before .rows-fit .ensures) (c .if6 .left))
 
-goals : (c : tie.Else7) → Leaves (from-goals c) after-goals
-goals c = bounds (c .before .before) ∙ rw (passed (c .before .goals-fit .ensures) (c .if7 .left))
+bounds : (c : tie.Else7) → Leaves (from-bounds c) after-bounds
+bounds c = numbers (c .before .before) ∙ rw (passed (c .before .bounds-fit .ensures) (c .if7 .left))
+
+goals : (c : tie.Else8) → Leaves (from-goals c) after-goals
+goals c = bounds (c .before .before) ∙ rw (passed (c .before .goals-fit .ensures) (c .if8 .left))
 
 sizes-fit-requires : tie.Need-sizes-fit-requires
 sizes-fit-requires c κs = search needs
@@ -130,35 +141,43 @@ column-lengths-fit-requires c κs = search needs
 returns-3 : tie.Need-returns-3
 returns-3 c = sym (rows (c .before .before) ∙ rw (failed (c .before .column-lengths-fit .ensures) (c .if3 .taken)))
 
-lent-fit-requires : tie.Need-lent-fit-requires
-lent-fit-requires c κs = sizes-hold (c .before .before .before .before)
+ideal-lengths-fit-requires : tie.Need-ideal-lengths-fit-requires
+ideal-lengths-fit-requires c κs = search needs
 
 returns-4 : tie.Need-returns-4
-returns-4 c = sym (columns (c .before .before) ∙ rw (failed (c .before .lent-fit .ensures) (c .if4 .taken)))
+returns-4 c = sym (columns (c .before .before) ∙ rw (failed (c .before .ideal-lengths-fit .ensures) (c .if4 .taken)))
+
+lent-fit-requires : tie.Need-lent-fit-requires
+lent-fit-requires c κs = let columns-fit = c .before .before in sizes-hold (columns-fit .before .before .before .before)
+
+returns-5 : tie.Need-returns-5
+returns-5 c = sym (ideals (c .before .before) ∙ rw (failed (c .before .lent-fit .ensures) (c .if5 .taken)))
 
 rows-fit-requires : tie.Need-rows-fit-requires
 rows-fit-requires c κs = search needs
 
-returns-5 : tie.Need-returns-5
-returns-5 c = sym (lent (c .before .before) ∙ rw (failed (c .before .rows-fit .ensures) (c .if5 .taken)))
+returns-6 : tie.Need-returns-6
+returns-6 c = sym (lent (c .before .before) ∙ rw (failed (c .before .rows-fit .ensures) (c .if6 .taken)))
 
 bounds-fit-requires : tie.Need-bounds-fit-requires
-bounds-fit-requires c κs = alike (c .before .before .before .before) .0
-
-returns-6 : tie.Need-returns-6
-returns-6 c = sym (numbers (c .before .before) ∙ rw (failed (c .before .bounds-fit .ensures) (c .if6 .taken)))
-
-goals-fit-requires : tie.Need-goals-fit-requires
-goals-fit-requires c κs = let numbers-fit = c .before .before in alike (numbers-fit .before .before .before .before) .1
+bounds-fit-requires c κs = let lent-fit = c .before .before in alike (lent-fit .before .before .before .before) .0
 
 returns-7 : tie.Need-returns-7
-returns-7 c = sym (bounds (c .before .before) ∙ rw (failed (c .before .goals-fit .ensures) (c .if7 .taken)))
+returns-7 c = sym (numbers (c .before .before) ∙ rw (failed (c .before .bounds-fit .ensures) (c .if7 .taken)))
+
+goals-fit-requires : tie.Need-goals-fit-requires
+goals-fit-requires c κs =
+    let lent-fit = c .before .before .before .before in
+    alike (lent-fit .before .before .before .before) .1
 
 returns-8 : tie.Need-returns-8
-returns-8 c = sym (goals (c .before .before) ∙ rw (lt-leb _ _ (c .if8 .taken)))
+returns-8 c = sym (bounds (c .before .before) ∙ rw (failed (c .before .goals-fit .ensures) (c .if8 .taken)))
 
 returns-9 : tie.Need-returns-9
-returns-9 c = sym (goals (c .before .before) ∙ rw (le-leb _ _ (c .if8 .left)))
+returns-9 c = sym (goals (c .before .before) ∙ rw (lt-leb _ _ (c .if9 .taken)))
+
+returns-10 : tie.Need-returns-10
+returns-10 c = sym (goals (c .before .before) ∙ rw (le-leb _ _ (c .if9 .left)))
 
 pub first-cause-spec : {M : Type 1} → statement M
 first-cause-spec =
@@ -170,13 +189,15 @@ first-cause-spec =
     returns-2
     column-lengths-fit-requires
     returns-3
-    lent-fit-requires
+    ideal-lengths-fit-requires
     returns-4
-    rows-fit-requires
+    lent-fit-requires
     returns-5
-    bounds-fit-requires
+    rows-fit-requires
     returns-6
-    goals-fit-requires
+    bounds-fit-requires
     returns-7
+    goals-fit-requires
     returns-8
-    returns-9)
+    returns-9
+    returns-10)

@@ -1,90 +1,62 @@
--- `settling::columns::put_wish` meets its contract: the two numbers are those of the wish. Assumes nothing.
-use mathlib.Core.Path.{_≡_}
-use native.Mathlib.Omega.{arith}
-use lib.ListN.{length-set}
-use mir.Syntax.{w64}
-use mir.Val.{toZ, ofZ}
 use borrow.Author.Needs.{needs}
 use Rattle.settling.proofs.columns.put_wish.Statement.{statement}
 use Rattle.settling.proofs.columns.put_wish.Tie as tie
+use Rattle.settling.proofs.columns.put_wish.Reads as reads
+use Rattle.settling.proofs.columns.put_wish.Lts as lts
+use Rattle.settling.proofs.mark_of.Reads as mark-of-reads
+use Rattle.settling.proofs.number_of.Reads as number-of-reads
 
-enum-told : tie.Need-enum-told
-enum-told c = search needs
+-- src/columns.rt:63:27
+mark-of-requires : tie.Need-mark-of-requires
+mark-of-requires c κs = search needs
 
+-- src/columns.rt:63:13
 add-columns : tie.Need-add-columns
 add-columns c = search needs
 
+-- src/columns.rt:63:5
 mul-columns : tie.Need-mul-columns
 mul-columns c = search needs
 
-slice-set-of-columns : tie.Need-slice-set-of-columns
-slice-set-of-columns c = search needs
+-- src/columns.rt:63:5
+slice-set-from-columns : tie.Need-slice-set-from-columns
+slice-set-from-columns c = search needs
 
-add-columns-2 : tie.Need-add-columns-2
-add-columns-2 c = search needs
+-- src/columns.rt:64:26
+number-of-requires : tie.Need-number-of-requires
+number-of-requires c κs = search needs
 
-mul-columns-2 : tie.Need-mul-columns-2
-mul-columns-2 c = search needs
+-- src/columns.rt:64:13
+add-t6 : tie.Need-add-t6
+add-t6 c = search needs
 
-slice-set-of-columns-2 : tie.Need-slice-set-of-columns-2
-slice-set-of-columns-2 c = rw length-set (omega (arith, c .before .before .pre))
+-- src/columns.rt:64:5
+mul-t5 : tie.Need-mul-t5
+mul-t5 c = search needs
 
-enum-known-wish : tie.Need-enum-known-wish
-enum-known-wish c = search needs
+-- src/columns.rt:64:5
+slice-set-from-columns-2 : tie.Need-slice-set-from-columns-2
+slice-set-from-columns-2 c = ?
 
-add-columns-3 : tie.Need-add-columns-3
-add-columns-3 c = search needs
-
-mul-columns-3 : tie.Need-mul-columns-3
-mul-columns-3 c = search needs
-
-slice-set-of-columns-3 : tie.Need-slice-set-of-columns-3
-slice-set-of-columns-3 c = search needs
-
-add-x : tie.Need-add-x
-add-x c = search needs
-
-mul-x : tie.Need-mul-x
-mul-x c = search needs
-
-slice-set-from-x : tie.Need-slice-set-from-x
-slice-set-from-x c = rw length-set (omega (arith, c .before .before .before .pre))
-
+-- src/columns.rt:59:1
 same-length : tie.Need-same-length
 same-length c = search needs
 
+-- src/columns.rt:59:1
 returns : tie.Need-returns
-returns c = cc (c .enum-told .given .1)
-
-same-length-2 : tie.Need-same-length-2
-same-length-2 c = search needs
-
-returns-2 : tie.Need-returns-2
-returns-2 c =
-    let x = c .before .wish .given .0 .0 in
-    let told = c .known-told .given in
-    let e : toZ w64 (ofZ w64 x) ≡ x = search needs in
-    cc (c .before .wish .given .1)
+returns c = ?
 
 pub put-wish-spec : {M : Type 1} → statement M
 put-wish-spec =
     tie.close
     (tie.spec
-    enum-told
+    mark-of-requires
     add-columns
     mul-columns
-    slice-set-of-columns
-    add-columns-2
-    mul-columns-2
-    slice-set-of-columns-2
-    enum-known-wish
-    add-columns-3
-    mul-columns-3
-    slice-set-of-columns-3
-    add-x
-    mul-x
-    slice-set-from-x
+    slice-set-from-columns
+    number-of-requires
+    add-t6
+    mul-t5
+    slice-set-from-columns-2
     same-length
-    returns
-    same-length-2
-    returns-2)
+    returns)
