@@ -15,7 +15,8 @@ use Rattle.whole.specs.Lists.{entry}
 use Rattle.whole.proofs.Lists.{set-behind}
 use Rattle.settling.specs.declared.Wish.{Wish}
 use Rattle.settling.specs.declared.Wish.the-variants.{Unset, Set}
-use Rattle.settling.specs.Columns.{Column, width, columnAt, columnsIn, wishOf, withGoal, listed, recordOf, packedFrom, packed}
+use Rattle.settling.specs.Columns.{Column, width, columnAt, columnsIn, columnOf, listed, recordOf, packedFrom, packed}
+use Rattle.settling.specs.Ideals.{wishOf, markOf, numberOf}
 use Rattle.settling.specs.Packing.{put}
 use Rattle.settling.proofs.Fronts.{lt-or-ge}
 
@@ -25,11 +26,7 @@ abbrev of : ℤ → ℤ → ℤ → ℤ → Wish → Column
 of lo hi a b w = record { lower = lo; upper = hi; low = a; high = b; wish = w }
 
 record-length : (c : Column) → length (recordOf c) ≡ width
-record-length c = go (c .wish)
-  where
-    go : (w : Wish) → length (recordOf (of (c .lower) (c .upper) (c .low) (c .high) w)) ≡ width
-    go Unset = refl
-    go (Set x) = refl
+record-length c = refl
 
 pub packed-length : (f : ℕ → Column) (k j : ℕ) → length (packedFrom f k j) ≡ width * k
 unfolding packedFrom
@@ -59,13 +56,8 @@ module _ (A : List ℤ) (at : ℕ) (e : at ≡ length A) where
   put-behind c (a ∷ b ∷ d ∷ []) h = absurd (omega (arith, h))
   put-behind c (a ∷ b ∷ d ∷ g ∷ []) h = absurd (omega (arith, h))
   put-behind c (a ∷ b ∷ d ∷ g ∷ p ∷ []) h = absurd (omega (arith, h))
-  put-behind c (a ∷ b ∷ d ∷ g ∷ p ∷ q ∷ B) h = go (c .wish)
-    where
-      go : (w : Wish) →
-          let c′ = of (c .lower) (c .upper) (c .low) (c .high) w in
-          put at c′ (A ++ (a ∷ b ∷ d ∷ g ∷ p ∷ q ∷ B)) ≡ A ++ (recordOf c′ ++ B)
-      go Unset = six (c .lower) (c .upper) (c .low) (c .high) (pos 0) (pos 0) a b d g p q B
-      go (Set x) = six (c .lower) (c .upper) (c .low) (c .high) (pos 1) x a b d g p q B
+  put-behind c (a ∷ b ∷ d ∷ g ∷ p ∷ q ∷ B) h =
+      six (c .lower) (c .upper) (c .low) (c .high) (markOf (c .wish)) (numberOf (c .wish)) a b d g p q B
 
 -- one column more
 packed-more : (f : ℕ → Column) (k j i : ℕ) → i ≡ j + k → packedFrom f (suc k) j ≡ packedFrom f k j ++ recordOf (f i)
@@ -135,18 +127,18 @@ packed-at f (suc k) s zero i h e = column-first (f s) (packedFrom f k (suc s)) �
 packed-at f (suc k) s (suc j) i h e = column-behind (f s) (packedFrom f k (suc s)) j ∙ packed-at f k (suc s) j i (omega (arith, h)) (omega (arith, e))
 
 -- past the table all numbers are 0
-past : (t : List ℤ) (j : ℕ) → length t ≤ width * j → columnAt t j ≡ withGoal (pos 0) (pos 0) (pos 0)
+past : (t : List ℤ) (j : ℕ) → length t ≤ width * j → columnAt t j ≡ columnOf (pos 0) (pos 0) (pos 0) Unset
 past t j h = (λ i. of (none 0 i) (none 1 i) (none 2 i) (none 3 i) (wishOf (none 4 i) (none 5 i)))
   where
     none : (k : ℕ) → entry (width * j + k) t ≡ pos 0
     none k = List·getD-eq-default t (pos 0) {n = width * j + k} (omega (arith, h))
 
-pub packed-columns : (n : ℕ) (lo hi gs : List ℤ) → length lo ≡ n → length hi ≡ n → length gs ≡ n
-    → columnsIn n (packed (listed n lo hi gs)) ≡ listed n lo hi gs
-packed-columns n lo hi gs a b d = (λ i. record { count = n; column = λ j. at j i })
+pub packed-columns : (n : ℕ) (lo hi gs ms xs : List ℤ) → length lo ≡ n → length hi ≡ n → length gs ≡ n → length ms ≡ n → length xs ≡ n
+    → columnsIn n (packed (listed n lo hi gs ms xs)) ≡ listed n lo hi gs ms xs
+packed-columns n lo hi gs ms xs a b d p q = (λ i. record { count = n; column = λ j. at j i })
   where
     f : ℕ → Column
-    f j = withGoal (entry j lo) (entry j hi) (entry j gs)
+    f j = columnOf (entry j lo) (entry j hi) (entry j gs) (wishOf (entry j ms) (entry j xs))
 
     none : (l : List ℤ) (j : ℕ) → length l ≡ n → n ≤ j → entry j l ≡ pos 0
     none l j e h = List·getD-eq-default l (pos 0) {n = j} (omega (arith, e, h))
@@ -155,5 +147,5 @@ packed-columns n lo hi gs a b d = (λ i. record { count = n; column = λ j. at j
     at j =
         ⊎-elim (λ h. packed-at f n 0 j j h (omega arith))
         (λ h. past (packedFrom f n 0) j (omega (arith, packed-length f n 0, h))
-        ∙ sym (λ i. withGoal (none lo j a h i) (none hi j b h i) (none gs j d h i)))
+        ∙ sym (λ i. columnOf (none lo j a h i) (none hi j b h i) (none gs j d h i) (wishOf (none ms j p h i) (none xs j q h i))))
         (lt-or-ge j n)

@@ -1,24 +1,21 @@
+-- `settling::mark_of` meets its contract. Assumes nothing.
 use borrow.Author.Needs.{needs}
 use Rattle.settling.proofs.mark_of.Statement.{statement}
 use Rattle.settling.proofs.mark_of.Tie as tie
 use Rattle.settling.proofs.mark_of.Reads as reads
 use Rattle.settling.proofs.mark_of.Lts as lts
 
--- src/lib.rt:114:24
 enum-told : tie.Need-enum-told
 enum-told c = search needs
 
--- src/lib.rt:115:25
 enum-told-2 : tie.Need-enum-told-2
 enum-told-2 c = search needs
 
--- src/lib.rt:110:1
 returns : tie.Need-returns
-returns c = ?
+returns c = cc (c .enum-told .given .1)
 
--- src/lib.rt:110:1
 returns-2 : tie.Need-returns-2
-returns-2 c = ?
+returns-2 c = cc (c .enum-told2 .given .1)
 
 pub mark-of-spec : {M : Type 1} → statement M
 mark-of-spec = tie.close (tie.spec enum-told enum-told-2 returns returns-2)

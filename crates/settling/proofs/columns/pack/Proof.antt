@@ -8,14 +8,12 @@ use lib.IntN.{ℤ}
 use lib.ListN.{length, drop, length-append, length-drop, drop-of-length-le}
 use Rattle.whole.specs.Lists.{entry}
 use Rattle.whole.proofs.Signed.{back}
-use Rattle.settling.specs.Columns.{Column, width, withGoal, listed, packedFrom}
+use Rattle.settling.specs.Columns.{Column, width, columnOf, listed, packedFrom}
+use Rattle.settling.specs.Ideals.{wishOf}
 use Rattle.settling.specs.Packing.{put}
 use Rattle.settling.proofs.Packing.{packed-length, packed-put}
 use Rattle.settling.proofs.columns.pack.Statement.{statement}
 use Rattle.settling.proofs.columns.pack.Tie as tie
-
-abbrev f : List ℤ → List ℤ → List ℤ → ℕ → Column
-f lo hi gs = listed (length lo) lo hi gs .column
 
 -- the table's length stays
 long : (g : ℕ → Column) (j : ℕ) (t : List ℤ) → width * j ≤ length t → length (packedFrom g j 0 ++ drop (width * j) t) ≡ length t
@@ -28,17 +26,58 @@ all g j n t h e =
     ∙ ap (λ (l : List ℤ). packedFrom g n 0 ++ l) (drop-of-length-le t {i = width * n} (omega (arith, h))) ∙ append-nil (packedFrom g n 0)
 
 abbrev Inv-loop : tie.InvT-loop
-Inv-loop columns₀ lower upper goals j₀ columns j = (columns ≡ packedFrom (f lower upper goals) j 0 ++ drop (width * j) columns₀) × (j ≤ length lower)
+Inv-loop columns₀ lower upper goals given ideals j₀ columns j =
+    (columns ≡ packedFrom (listed (length lower) lower upper goals given ideals .column) j 0 ++ drop (width * j) columns₀) × (j ≤ length lower)
 
 abbrev μ-loop : tie.MeasureT-loop
-μ-loop columns₀ lower upper goals j₀ columns j = length lower - j
+μ-loop columns₀ lower upper goals given ideals j₀ columns j = length lower - j
+
+-- what the loop starts from, and the columns of the lists that are lent
+abbrev from : tie.In-loop Inv-loop μ-loop → tie.Start Inv-loop μ-loop
+from c = c .before .before
+
+abbrev f : tie.Start Inv-loop μ-loop → ℕ → Column
+f s = listed (length (s .args .lower .now)) (s .args .lower .now) (s .args .upper .now) (s .args .goals .now) (s .args .given .now)
+    (s .args .ideals .now) .column
+
+-- the turn that a call of put_column stands in
+abbrev turn : tie.After-put-column-arg Inv-loop μ-loop → tie.In-loop Inv-loop μ-loop
+turn c = c .before .before .before .before
+
+-- the wish that is handed in
+handed :
+    (c : tie.After-put-column-arg Inv-loop μ-loop) →
+    let s = from (turn c) in
+    let j = turn c .before .loop .j in
+    c .before .wish-of .result ≡ wishOf (entry j (s .args .given .now)) (entry j (s .args .ideals .now))
+handed c =
+    let w = c .before in
+    let s = from (turn c) in
+    let j = turn c .before .loop .j in
+    w .wish-of .ensures ∙ (λ i. wishOf (back (entry j (s .args .given .now)) (w .before .before .wish-of-arg .given) i)
+    (back (entry j (s .args .ideals .now)) (w .before .wish-of-arg2 .given) i))
 
 loop-holds : tie.Need-loop-holds Inv-loop μ-loop
 unfolding packedFrom
 loop-holds c = (refl, omega arith)
 
+mul-wish-of : tie.Need-mul-wish-of Inv-loop μ-loop
+mul-wish-of c = search needs
+
+shared-slice-copy-out-wish-of : tie.Need-shared-slice-copy-out-wish-of Inv-loop μ-loop
+shared-slice-copy-out-wish-of c = omega (arith, c .before .before .pre .given-long, c .loop-test .taken)
+
+mul-wish-of-2 : tie.Need-mul-wish-of-2 Inv-loop μ-loop
+mul-wish-of-2 c = search needs
+
+shared-slice-copy-out-wish-of-2 : tie.Need-shared-slice-copy-out-wish-of-2 Inv-loop μ-loop
+shared-slice-copy-out-wish-of-2 c = omega (arith, c .before .before .before .pre .ideals-long, c .before .loop-test .taken)
+
+wish-of-requires : tie.Need-wish-of-requires Inv-loop μ-loop
+wish-of-requires c κs = search needs
+
 mul-put-column : tie.Need-mul-put-column Inv-loop μ-loop
-mul-put-column c = omega (arith, c .before .before .before .pre .room, c .before .before .before .good, c .before .loop-test .taken)
+mul-put-column c = search needs
 
 mul-put-column-2 : tie.Need-mul-put-column-2 Inv-loop μ-loop
 mul-put-column-2 c = search needs
@@ -60,15 +99,14 @@ shared-slice-copy-out-put-column-3 c = search needs
 
 put-column-requires : tie.Need-put-column-requires Inv-loop μ-loop
 put-column-requires c κs =
-    let at-loop = c .before .before .before .before .before in
-    let s = at-loop .before in
-    let l = at-loop .loop in
-    let g = c .before .before .before .before .loop-test .taken in (
+    let w = turn (c .before .before .before) in
+    let s = from w in
+    let l = w .before .loop in
+    let g = w .loop-test .taken in (
       omega (
         arith,
         ap length (l .inv .0),
-        long (f (s .args .lower .now) (s .args .upper .now) (s .args .goals .now)) (l .j) (s .args .columns .now)
-            (omega (arith, s .pre .room, g)),
+        long (f s) (l .j) (s .args .columns .now) (omega (arith, s .pre .room, g)),
         s .pre .room,
         g,
       ),
@@ -84,17 +122,17 @@ loop-less c = omega arith
 loop-again : tie.Need-loop-again Inv-loop μ-loop
 loop-again c =
     let after-put-column = c .before in
-    let in-loop = after-put-column .before .before .before .before .before in
-    let s = in-loop .before .before in
-    let l = in-loop .before .loop in
-    let g = in-loop .loop-test .taken in (
-      c .before .put-column .ensures
-          ∙ (λ i. put (width * l .j) (withGoal (back (entry (l .j) (s .args .lower .now))
-          (c .before .before .before .before .put-column-arg2 .given) i)
-          (back (entry (l .j) (s .args .upper .now)) (c .before .before .before .put-column-arg3 .given) i)
-          (back (entry (l .j) (s .args .goals .now)) (c .before .before .put-column-arg4 .given) i)) (l .inv .0 i))
-          ∙ packed-put (f (s .args .lower .now) (s .args .upper .now) (s .args .goals .now)) (l .j) (s .args .columns .now)
-          (omega (arith, s .pre .room, g)),
+    let k = after-put-column .before in
+    let a = k .before .before .before in
+    let w = turn a in
+    let s = from w in
+    let l = w .before .loop in
+    let g = w .loop-test .taken in (
+      after-put-column .put-column .ensures
+          ∙ (λ i. put (width * l .j) (columnOf (back (entry (l .j) (s .args .lower .now)) (k .before .before .put-column-arg2 .given) i)
+          (back (entry (l .j) (s .args .upper .now)) (k .before .put-column-arg3 .given) i)
+          (back (entry (l .j) (s .args .goals .now)) (k .put-column-arg4 .given) i) (handed a i)) (l .inv .0 i))
+          ∙ packed-put (f s) (l .j) (s .args .columns .now) (omega (arith, s .pre .room, g)),
       omega (arith, g),
     )
 
@@ -102,14 +140,14 @@ same-length : tie.Need-same-length Inv-loop μ-loop
 same-length c =
     let s = c .before .before in
     let l = c .before .loop in
-    ap length (l .inv .0) ∙ long (f (s .args .lower .now) (s .args .upper .now) (s .args .goals .now)) (l .j) (s .args .columns .now)
+    ap length (l .inv .0) ∙ long (f s) (l .j) (s .args .columns .now)
     (omega (arith, s .pre .room, l .inv .1))
 
 returns : tie.Need-returns Inv-loop μ-loop
 returns c =
     let s = c .before .before in
     let l = c .before .loop in
-    l .inv .0 ∙ all (f (s .args .lower .now) (s .args .upper .now) (s .args .goals .now)) (l .j) (length (s .args .lower .now))
+    l .inv .0 ∙ all (f s) (l .j) (length (s .args .lower .now))
     (s .args .columns .now) (s .pre .room) (omega (arith, l .inv .1, c .loop-test .left))
 
 pub pack-spec : {M : Type 1} → statement M
@@ -119,6 +157,11 @@ pack-spec =
     Inv-loop
     μ-loop
     loop-holds
+    mul-wish-of
+    shared-slice-copy-out-wish-of
+    mul-wish-of-2
+    shared-slice-copy-out-wish-of-2
+    wish-of-requires
     mul-put-column
     mul-put-column-2
     shared-slice-copy-out-put-column

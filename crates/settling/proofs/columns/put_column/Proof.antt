@@ -8,7 +8,7 @@ use lib.ListN.{length, set, length-set}
 use mir.Syntax.{w64}
 use mir.Val.{toZ, ofZ}
 use mir.Facts.{toZ-ofZ}
-use Rattle.settling.specs.Ideals.{goalWish}
+use Rattle.settling.specs.Ideals.{columnWish}
 use Rattle.settling.specs.Packing.{putWish}
 use borrow.Author.Needs.{needs}
 use Rattle.settling.proofs.columns.put_column.Statement.{statement}
@@ -55,8 +55,8 @@ mul-goal-2 c = search needs
 slice-set-from-goal-2 : tie.Need-slice-set-from-goal-2
 slice-set-from-goal-2 c = rw (length-set, length-set, length-set) (omega (arith, c .pre .0))
 
-goal-wish-requires : tie.Need-goal-wish-requires
-goal-wish-requires c κs = search needs
+column-wish-requires : tie.Need-column-wish-requires
+column-wish-requires c κs = let s = c .before in rw (toZ-ofZ (s .fits .goal)) (s .pre .1)
 
 put-wish-requires : tie.Need-put-wish-requires
 put-wish-requires c κs = rw (length-set, length-set, length-set, length-set) (c .before .before .pre .0)
@@ -73,7 +73,7 @@ returns : tie.Need-returns
 returns c =
     let s = c .before .before .before .before in
     c .before .put-wish .ensures
-    ∙ (λ i. putWish (s .args .at) ((c .before .before .goal-wish .ensures ∙ ap goalWish (toZ-ofZ (s .fits .goal))) i)
+    ∙ (λ i. putWish (s .args .at) ((c .before .before .column-wish .ensures ∙ ap (λ (g : ℤ). columnWish g (s .args .handed)) (toZ-ofZ (s .fits .goal))) i)
     (set (set (set (set (s .args .columns .now) (s .args .at + 0) (toZ-ofZ (s .fits .lower) i)) (s .args .at + 1) (toZ-ofZ (s .fits .upper) i))
     (s .args .at + 2) (toZ-ofZ (s .fits .goal) i)) (s .args .at + 3) (toZ-ofZ (s .fits .goal) i)))
 
@@ -93,7 +93,7 @@ put-column-spec =
     add-goal-2
     mul-goal-2
     slice-set-from-goal-2
-    goal-wish-requires
+    column-wish-requires
     put-wish-requires
     same-length
     returns)

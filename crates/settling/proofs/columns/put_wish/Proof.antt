@@ -1,3 +1,9 @@
+-- `settling::columns::put_wish` meets its contract: the two numbers are those of the wish. Assumes nothing.
+use mathlib.Core.Path.{_≡_, _∙_}
+use Prim.Native.Nat.{_+_}
+use native.Mathlib.Omega.{arith}
+use lib.ListN.{set, length-set}
+use Rattle.whole.proofs.Signed.{back}
 use borrow.Author.Needs.{needs}
 use Rattle.settling.proofs.columns.put_wish.Statement.{statement}
 use Rattle.settling.proofs.columns.put_wish.Tie as tie
@@ -6,45 +12,38 @@ use Rattle.settling.proofs.columns.put_wish.Lts as lts
 use Rattle.settling.proofs.mark_of.Reads as mark-of-reads
 use Rattle.settling.proofs.number_of.Reads as number-of-reads
 
--- src/columns.rt:63:27
 mark-of-requires : tie.Need-mark-of-requires
 mark-of-requires c κs = search needs
 
--- src/columns.rt:63:13
 add-columns : tie.Need-add-columns
 add-columns c = search needs
 
--- src/columns.rt:63:5
 mul-columns : tie.Need-mul-columns
 mul-columns c = search needs
 
--- src/columns.rt:63:5
 slice-set-from-columns : tie.Need-slice-set-from-columns
 slice-set-from-columns c = search needs
 
--- src/columns.rt:64:26
 number-of-requires : tie.Need-number-of-requires
 number-of-requires c κs = search needs
 
--- src/columns.rt:64:13
 add-t6 : tie.Need-add-t6
 add-t6 c = search needs
 
--- src/columns.rt:64:5
 mul-t5 : tie.Need-mul-t5
 mul-t5 c = search needs
 
--- src/columns.rt:64:5
 slice-set-from-columns-2 : tie.Need-slice-set-from-columns-2
-slice-set-from-columns-2 c = ?
+slice-set-from-columns-2 c = rw length-set (omega (arith, c .before .before .pre))
 
--- src/columns.rt:59:1
 same-length : tie.Need-same-length
 same-length c = search needs
 
--- src/columns.rt:59:1
 returns : tie.Need-returns
-returns c = ?
+returns c =
+    let s = c .before .before in
+    (λ i. set (set (s .args .columns .now) (s .args .at + 4) ((back _ (c .before .mark-of .ok) ∙ c .before .mark-of .ensures) i)) (s .args .at + 5)
+    ((back _ (c .number-of .ok) ∙ c .number-of .ensures) i))
 
 pub put-wish-spec : {M : Type 1} → statement M
 put-wish-spec =

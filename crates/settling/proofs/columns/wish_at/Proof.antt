@@ -1,3 +1,10 @@
+-- `settling::columns::wish_at` meets its contract: the wish is that of the record's mark and number. Assumes nothing.
+use mathlib.Core.Path.{_≡_, _∙_}
+use Prim.Native.Nat.{_+_, _*_}
+use Rattle.whole.specs.Lists.{entry}
+use Rattle.whole.proofs.Signed.{back}
+use Rattle.settling.specs.Columns.{width}
+use Rattle.settling.specs.Ideals.{wishOf}
 use borrow.Author.Needs.{needs}
 use Rattle.settling.proofs.columns.wish_at.Statement.{statement}
 use Rattle.settling.proofs.columns.wish_at.Tie as tie
@@ -5,41 +12,36 @@ use Rattle.settling.proofs.columns.wish_at.Reads as reads
 use Rattle.settling.proofs.columns.wish_at.Lts as lts
 use Rattle.settling.proofs.wish_of.Reads as wish-of-reads
 
--- src/columns.rt:54:14
 mul-at : tie.Need-mul-at
 mul-at c = search needs
 
--- src/columns.rt:55:21
 add-wish-of : tie.Need-add-wish-of
 add-wish-of c = search needs
 
--- src/columns.rt:55:13
 mul-wish-of : tie.Need-mul-wish-of
 mul-wish-of c = search needs
 
--- src/columns.rt:55:13
 shared-slice-copy-out-wish-of : tie.Need-shared-slice-copy-out-wish-of
 shared-slice-copy-out-wish-of c = search needs
 
--- src/columns.rt:55:42
 add-wish-of-2 : tie.Need-add-wish-of-2
 add-wish-of-2 c = search needs
 
--- src/columns.rt:55:34
 mul-wish-of-2 : tie.Need-mul-wish-of-2
 mul-wish-of-2 c = search needs
 
--- src/columns.rt:55:34
 shared-slice-copy-out-wish-of-2 : tie.Need-shared-slice-copy-out-wish-of-2
 shared-slice-copy-out-wish-of-2 c = search needs
 
--- src/columns.rt:55:5
 wish-of-requires : tie.Need-wish-of-requires
 wish-of-requires c κs = search needs
 
--- src/columns.rt:50:1
 returns : tie.Need-returns
-returns c = ?
+returns c =
+    let s = c .before .before .before in
+    c .wish-of .ensures
+    ∙ (λ i. wishOf (back (entry (width * s .args .j + 4) (s .args .columns .now)) (c .before .before .wish-of-arg .given) i)
+    (back (entry (width * s .args .j + 5) (s .args .columns .now)) (c .before .wish-of-arg2 .given) i))
 
 pub wish-at-spec : {M : Type 1} → statement M
 wish-at-spec =
