@@ -1,20 +1,23 @@
 -- Demand 3: "Nobody who restates a requirement can move the intervals".
 --   found-start   the same is found for two problems exactly when their starting lists and bases are equal, or both are "none"
---   found-same    what follows on the same is the same outcome
+--   found-same    what follows on the same is the same outcome, where the columns are the same too
+--   found-strides where both have a verdict, their strides are those of the basis that is found for both
 --   demand-3      the demand
 -- Assumes nothing.
 use mathlib.Core.Path.{_≡_, refl, sym, _∙_, subst}
 use mathlib.Core.Logic.{_↔_, inl, inr, ⊎-elim, Iff·symm, Iff·trans}
-use mathlib.Core.Bool.{true≢false}
+use mathlib.Core.Bool.{true, true≢false}
 use mathlib.Core.List.{List}
 use Prim.Native.Nat.{ℕ}
 use lib.IntN.{ℤ}
+use Rattle.whole.specs.Lists.{entry}
 use Rattle.lattice.specs.Sums.{Satisfies}
+use Rattle.problem.specs.Answers.{isVerdict}
 use Rattle.problem.specs.Checks.{Posed}
 use Rattle.tableau.specs.RightSide.{Found, none, some, solve}
 use Rattle.tableau.specs.Generators.{Sized}
 use Rattle.tableau.proofs.Theorems.{solve-same}
-use Rattle.settling.specs.Columns.{listed}
+use Rattle.settling.specs.Columns.{columnOf}
 use Rattle.settling.specs.Seating.{Seated, seated, far, seat}
 use Rattle.settling.specs.Settle.{settle}
 use Rattle.settling.specs.Strides.{strides}
@@ -45,23 +48,40 @@ module _ (P Q : Posed) (B C : Buffers) (wp : WithinLimits P B) (wq : WithinLimit
 -- ---- equal starts and columns have equal outcomes
 module _ (P Q : Posed) (T U : List (List ℤ)) (B C : Buffers) (e : n P ≡ n Q) (s : SameColumns P Q) where
   columns-same : columns P ≡ columns Q
-  columns-same = λ i. listed (e i) (s .lower i) (s .upper i) (s .goals i)
+  columns-same = (λ i. record {
+    count = e i;
+    column = λ j. columnOf (entry j (s .lower i)) (entry j (s .upper i)) (entry j (s .goals i)) (s .ideals j i);
+  })
 
   seated-same : (N : List (List ℤ)) (z : Seated) → SameOutcome (onSeated P T N B z) (onSeated Q U N C z)
   unfolding settleOn
-  seated-same N far = record { answer = refl; intervals = λ h. absurd (true≢false (sym h)); strides = λ h. absurd (true≢false (sym h)) }
+  seated-same N far = record { answer = refl; intervals = λ h. absurd (true≢false (sym h)) }
   seated-same N (seated v) = record {
     answer = λ i. settle (s .limit i) (columns-same i) N v .answer;
     intervals = λ h i. settle (s .limit i) (columns-same i) N v .values;
-    strides = λ h i. strides (e i) N;
   }
 
   found-same : (f : Found) → SameOutcome (onFound P T B f) (onFound Q U C f)
-  found-same none = record { answer = refl; intervals = λ h. absurd (true≢false (sym h)); strides = λ h. absurd (true≢false (sym h)) }
+  found-same none = record { answer = refl; intervals = λ h. absurd (true≢false (sym h)) }
   found-same (some v N) =
       let z : seat (columns P) N v ≡ seat (columns Q) N v = λ i. seat (columns-same i) N v in
       subst (λ (x : Seated). SameOutcome (onSeated P T N B (seat (columns P) N v)) (onSeated Q U N C x)) z
       (seated-same N (seat (columns P) N v))
+
+-- ---- strides are those of the basis
+module _ (P : Posed) (T : List (List ℤ)) (B : Buffers) where
+  seated-strides : (N : List (List ℤ)) (z : Seated) → isVerdict (onSeated P T N B z .answer) ≡ true
+      → onSeated P T N B z .strides ≡ strides (n P) N
+  unfolding settleOn
+  seated-strides N far h = absurd (true≢false (sym h))
+  seated-strides N (seated v) h = refl
+
+module _ (P Q : Posed) (T U : List (List ℤ)) (B C : Buffers) (e : n P ≡ n Q) where
+  found-strides : (f : Found) → isVerdict (onFound P T B f .answer) ≡ true → isVerdict (onFound Q U C f .answer) ≡ true
+      → onFound P T B f .strides ≡ onFound Q U C f .strides
+  found-strides none h k = absurd (true≢false (sym h))
+  found-strides (some v N) h k =
+      seated-strides P T B N (seat (columns P) N v) h ∙ (λ i. strides (e i) N) ∙ sym (seated-strides Q U C N (seat (columns Q) N v) k)
 
 -- ---- the demand
 pub demand-3 : (P Q : Posed) (B C : Buffers) → Demand3 P Q B C
@@ -73,4 +93,7 @@ demand-3 P Q B C e wp wq fp fq =
       outcomes = λ r s.
           rw (assign-passed P B (wp .passed), assign-passed Q C (wq .passed), not-over P B wp fp, not-over Q C wq fq, found .0 r)
           (found-same P Q (solved P .form) (solved Q .form) B C e s (solved Q .found));
+      strides = λ r.
+          rw (assign-passed P B (wp .passed), assign-passed Q C (wq .passed), not-over P B wp fp, not-over Q C wq fq, found .0 r)
+          (found-strides P Q (solved P .form) (solved Q .form) B C e (solved Q .found));
     }

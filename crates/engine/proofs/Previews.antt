@@ -19,7 +19,7 @@ use Rattle.whole.specs.Lists.{zeros}
 use Rattle.whole.proofs.Never.{never, untrue}
 use Rattle.problem.specs.Limits.{maxColumns, maxRows}
 use Rattle.problem.specs.Answers.{noSteps, answerCounts, isVerdict}
-use Rattle.problem.specs.Checks.{Posed, sizesFit, rowLengthsFit, columnLengthsFit, lentFit}
+use Rattle.problem.specs.Checks.{Posed, sizesFit, rowLengthsFit, columnLengthsFit, idealLengthsFit, lentFit}
 use Rattle.problem.specs.Checks.{rowsFit, boundsFit, goalsFit, limitFits, orNext, firstCause}
 use Rattle.problem.specs.declared.Counts.{Counts}
 use Rattle.problem.proofs.CheckLaws.{Fits}
@@ -208,11 +208,13 @@ short-lent true b c e = rw e refl
 short-lent false b c e = refl
 
 first-short :
-    (a b c : Bool) (r : Check) → orNext a Size (orNext b Length (orNext c Length (orNext false Length r))) ≡ Failed (cond a Length Size)
-first-short false b c r = refl
-first-short true false c r = refl
-first-short true true false r = refl
-first-short true true true r = refl
+    (a b c d : Bool) (r : Check)
+    → orNext a Size (orNext b Length (orNext c Length (orNext d Length (orNext false Length r)))) ≡ Failed (cond a Length Size)
+first-short false b c d r = refl
+first-short true false c d r = refl
+first-short true true false d r = refl
+first-short true true true false r = refl
+first-short true true true true r = refl
 
 short-cause :
     (P : Posed) (L : Lent) → lentFit (P .problem) L ≡ false
@@ -220,7 +222,7 @@ short-cause :
 unfolding firstCause
 short-cause P L e =
     rw e (first-short (sizesFit maxColumns maxRows (P .problem)) (rowLengthsFit (P .problem) (P .coefficients) (P .rights))
-    (columnLengthsFit (P .problem) (P .lower) (P .upper) (P .goals))
+    (columnLengthsFit (P .problem) (P .lower) (P .upper) (P .goals)) (idealLengthsFit (P .problem) (P .given) (P .ideals))
     (orNext (rowsFit (P .coefficients) (P .rights)) Coefficient (orNext (boundsFit (P .lower) (P .upper)) Bound
     (orNext (goalsFit (P .lower) (P .goals)) Goal (orNext (limitFits (P .problem)) Limit Passed)))))
 
@@ -362,10 +364,11 @@ first-not P L =
     or-not (sizesFit maxColumns maxRows (withLimit 1 P .problem)) Size _ (λ (e : Size ≡ Limit). never (cc))
     (or-not (rowLengthsFit (withLimit 1 P .problem) (P .coefficients) (P .rights)) Length _ length-not
     (or-not (columnLengthsFit (withLimit 1 P .problem) (P .lower) (P .upper) (P .goals)) Length _ length-not
+    (or-not (idealLengthsFit (withLimit 1 P .problem) (P .given) (P .ideals)) Length _ length-not
     (or-not (lentFit (withLimit 1 P .problem) L) Length _ length-not
     (or-not (rowsFit (P .coefficients) (P .rights)) Coefficient _ (λ (e : Coefficient ≡ Limit). never (cc))
     (or-not (boundsFit (P .lower) (P .upper)) Bound _ (λ (e : Bound ≡ Limit). never (cc))
-    (or-not (goalsFit (P .lower) (P .goals)) Goal _ (λ (e : Goal ≡ Limit). never (cc)) passes-not))))))
+    (or-not (goalsFit (P .lower) (P .goals)) Goal _ (λ (e : Goal ≡ Limit). never (cc)) passes-not)))))))
   where
     length-not : Length ≡ Limit → ⊥
     length-not e = never (cc)

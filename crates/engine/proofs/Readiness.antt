@@ -63,20 +63,24 @@ pub record PackedIn (P : Posed) (l : List ℤ) : Type 0 where
   pub long : length l ≡ cells P
 
 pub table-columns : (P : Posed) (L : Lent) → Fits P L → columnsIn (n P) (table P) ≡ columns P
-table-columns P L f = packed-columns (n P) (P .lower) (P .upper) (P .goals) (f .lower-long) (f .upper-long) (f .goals-long)
+table-columns P L f =
+    packed-columns (n P) (P .lower) (P .upper) (P .goals) (P .given) (P .ideals) (f .lower-long) (f .upper-long) (f .goals-long)
+    (f .given-long) (f .ideals-long)
 
 module _ (P : Posed) (L : Lent) (f : Fits P L) where
-  pub packable : (t : List ℤ) → cells P ≡ length t → Packable t (P .lower) (P .upper) (P .goals)
+  pub packable : (t : List ℤ) → cells P ≡ length t → Packable t (P .lower) (P .upper) (P .goals) (P .given) (P .ideals)
   packable t e = record {
     room = sym e ∙ ap (λ (k : ℕ). Columns.width * k) (sym (f .lower-long));
     upper-long = f .upper-long ∙ sym (f .lower-long);
     goals-long = f .goals-long ∙ sym (f .lower-long);
+    given-long = f .given-long ∙ sym (f .lower-long);
+    ideals-long = f .ideals-long ∙ sym (f .lower-long);
     goals-small = f .goals-small;
   }
 
-  pub packed-in : (l : List ℤ) → l ≡ packed (listed (length (P .lower)) (P .lower) (P .upper) (P .goals)) → PackedIn P l
+  pub packed-in : (l : List ℤ) → l ≡ packed (listed (length (P .lower)) (P .lower) (P .upper) (P .goals) (P .given) (P .ideals)) → PackedIn P l
   packed-in l e =
-      let is : l ≡ table P = e ∙ ap (λ (k : ℕ). packed (listed k (P .lower) (P .upper) (P .goals))) (f .lower-long) in
+      let is : l ≡ table P = e ∙ ap (λ (k : ℕ). packed (listed k (P .lower) (P .upper) (P .goals) (P .given) (P .ideals))) (f .lower-long) in
       record { is = is; long = ap length is ∙ packed-length (columns P .column) (n P) 0 }
 
 module _ {P : Posed} {l : List ℤ} (a : PackedIn P l) (t : List ℤ) where
