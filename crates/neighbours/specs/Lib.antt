@@ -1,3 +1,4 @@
 -- The root of the definitions.
 pub mod Neighbours
 pub mod Beside
+pub mod Rule

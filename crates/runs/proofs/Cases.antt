@@ -24,6 +24,7 @@ use Prim.Native.Nat.{ℕ, zero, suc, _+_, _≤_}
 use native.Mathlib.Omega.{arith}
 use lib.IntN.{ℤ, pos}
 use lib.ListN.{getD}
+use Rattle.whole.specs.Lists.{zeros}
 use Rattle.whole.specs.Tests.{every}
 use Rattle.lattice.specs.Rows.{plus}
 use Rattle.settling.specs.declared.Measure.{Measure}
@@ -44,29 +45,33 @@ two x y = x ∷ y ∷ []
 abbrev three : {A : Type 0} → A → A → A → List A
 three x y z = x ∷ y ∷ z ∷ []
 
+-- columns with no ideal handed in
+abbrev plain : ℕ → List ℤ → List ℤ → List ℤ → Columns
+plain n lo hi gs = listed n lo hi gs (zeros n) (zeros n)
+
 abbrev pulled : Columns
-pulled = listed 2 (two (pos 1) (pos 5)) (two (pos 10) (pos 10)) (two (pos 0) (pos 0))
+pulled = plain 2 (two (pos 1) (pos 5)) (two (pos 10) (pos 10)) (two (pos 0) (pos 0))
 
 abbrev wished : Columns
-wished = listed 2 (two (pos 1) (pos 1)) (two (pos 100) (pos 100)) (two (pos 2500) (pos 4000))
+wished = plain 2 (two (pos 1) (pos 1)) (two (pos 100) (pos 100)) (two (pos 2500) (pos 4000))
 
 abbrev dragged : Columns
-dragged = listed 3 (three (pos 3) (pos 0) (pos 0)) (three (pos 9) (pos 0) (pos 0)) (three (pos 0) (pos 0) (pos 0))
+dragged = plain 3 (three (pos 3) (pos 0) (pos 0)) (three (pos 9) (pos 0) (pos 0)) (three (pos 0) (pos 0) (pos 0))
 
 abbrev crossed : Columns
-crossed = listed 2 (two (pos 0) (pos 3)) (two (pos 0) (pos 9)) (two (pos 0) (pos 0))
+crossed = plain 2 (two (pos 0) (pos 3)) (two (pos 0) (pos 9)) (two (pos 0) (pos 0))
 
 abbrev held : Columns
-held = listed 2 (two (pos 9) (pos 5)) (two (pos 9) (pos 9)) (two (pos 0) (pos 0))
+held = plain 2 (two (pos 9) (pos 5)) (two (pos 9) (pos 9)) (two (pos 0) (pos 0))
 
 abbrev spoilt : Columns
-spoilt = listed 2 (two (pos 1) (pos 5)) (two (pos 100) (pos 10)) (two (pos 1000) (pos 0))
+spoilt = plain 2 (two (pos 1) (pos 5)) (two (pos 100) (pos 10)) (two (pos 1000) (pos 0))
 
 abbrev nudged : Columns
-nudged = listed 2 (two (pos 1) (pos 1)) (two (pos 100) (pos 100)) (two (pos 3000) (pos 4000))
+nudged = plain 2 (two (pos 1) (pos 1)) (two (pos 100) (pos 100)) (two (pos 3000) (pos 4000))
 
 abbrev free : Columns
-free = listed 2 (two (pos 1) (pos 0)) (two (pos 100) (pos 9)) (two (pos 3000) (pos 0))
+free = plain 2 (two (pos 1) (pos 0)) (two (pos 100) (pos 9)) (two (pos 3000) (pos 0))
 
 -- ---- runs and what falls
 pub pulled-run : standing 10 pulled (two (pos 1) (pos 1) ∷ []) (two (pos 1) (pos 1))

@@ -33,12 +33,14 @@ use Rattle.problem.specs.declared.Answer.{Answer}
 use Rattle.problem.specs.declared.Answer.the-variants.{Refused}
 use Rattle.sections.specs.Rules.{Outcome, ok, no}
 use Rattle.sections.specs.Sections.{deckColumns, deckRows, coefficientCount}
-use Rattle.sections.specs.StatedColumns.{coefficientRows, lowerOf, upperOf, goalOf, rightOf, padded, blank}
-use Rattle.deck.specs.Posing.{Deck, readDeck, columnsOf, posed}
+use Rattle.sections.specs.StatedColumns.{lowerOf, upperOf, goalOf, rightOf, padded, blank}
+use Rattle.neighbours.specs.Neighbours.{givenOf, idealsOf}
+use Rattle.deck.specs.Posing.{Deck, readDeck, columnsOf, countOf, rowsOf, lowers, uppers, goals, stated, posed}
 use Rattle.deck.specs.Reader.{DeckBuffers, ReadDone, deckBuffers, readDone, lengthsFit, onDeck, read}
 use Rattle.deck.specs.declared.Reading.{Reading}
 use Rattle.deck.specs.declared.Reading.the-variants.{Read, Refused as TurnedBack}
 use Rattle.sections.proofs.Storage.{length-rows}
+use Rattle.neighbours.proofs.Laws.{length-numbered}
 use Rattle.engine.specs.Assign.{Buffers, Done, buffers, done, n, m, assign, posedBy}
 use Rattle.report.specs.Listing.{listing, linesOf, placedIn, writeListing}
 use Rattle.solve.specs.Program.{programLimit, zeroBuffers, listed, printed, printInto, listInto}
@@ -104,7 +106,9 @@ refused-headline o why v d l = write-even o (Refused why) v d l
 -- ---- a text, by what the reader returns
 -- the buffers that it is lent
 abbrev pub largest : DeckBuffers
-largest = deckBuffers (blank coefficientCount) (blank deckRows) (blank deckColumns) (blank deckColumns) (blank deckColumns)
+largest =
+    deckBuffers (blank coefficientCount) (blank deckRows) (blank deckColumns) (blank deckColumns) (blank deckColumns) (blank deckColumns)
+    (blank deckColumns)
 
 pub largest-fit : lengthsFit largest ≡ true
 unfolding blank
@@ -141,27 +145,29 @@ refused-into o s B D why f e = by (readDeck s) refl
         let q : why ≡ w = ap (λ (x : ReadDone). reason (x .reading)) (e ∙ read-fit s B f ∙ ap (λ (x : Outcome Deck). onDeck x B) h) in
         rw (h, ← q) refl
 
-pub record Taken (s : List ℕ) (n m : ℕ) (c b l u g : List ℤ) : Type 0 where
+pub record Taken (s : List ℕ) (n m : ℕ) (c b l u g a x : List ℤ) : Type 0 where
   pub deck : Deck
   pub rest : ℕ
   pub is : readDeck s ≡ ok deck rest
-  pub columns : n ≡ length (columnsOf deck)
+  pub columns : n ≡ countOf deck
   pub rows : m ≡ length (deck .lines)
-  pub coefficients : c ≡ padded (deckRows * deckColumns) (coefficientRows (length (columnsOf deck)) (length (deck .intervals)) (deck .lines))
+  pub coefficients : c ≡ padded (deckRows * deckColumns) (rowsOf deck)
   pub rights : b ≡ padded deckRows (map rightOf (deck .lines))
-  pub lower : l ≡ padded deckColumns (map lowerOf (columnsOf deck))
-  pub upper : u ≡ padded deckColumns (map upperOf (columnsOf deck))
-  pub goals : g ≡ padded deckColumns (map goalOf (columnsOf deck))
+  pub lower : l ≡ padded deckColumns (lowers deck)
+  pub upper : u ≡ padded deckColumns (uppers deck)
+  pub goals : g ≡ padded deckColumns (goals deck)
+  pub given : a ≡ padded deckColumns (givenOf (stated deck) (countOf deck))
+  pub ideals : x ≡ padded deckColumns (idealsOf (stated deck) (countOf deck))
 
-pub taken : (s : List ℕ) (B : DeckBuffers) (n m i : ℕ) (c b l u g : List ℤ) → lengthsFit B ≡ true
-    → readDone (Read n m i) (deckBuffers c b l u g) ≡ read s B
-    → Taken s n m c b l u g
+pub taken : (s : List ℕ) (B : DeckBuffers) (n m i : ℕ) (c b l u g a x : List ℤ) → lengthsFit B ≡ true
+    → readDone (Read n m i) (deckBuffers c b l u g a x) ≡ read s B
+    → Taken s n m c b l u g a x
 unfolding posed
-taken s B n m i c b l u g f e = by (readDeck s) refl
+taken s B n m i c b l u g a x f e = by (readDeck s) refl
   where
-    by : (x : Outcome Deck) → readDeck s ≡ x → Taken s n m c b l u g
+    by : (o : Outcome Deck) → readDeck s ≡ o → Taken s n m c b l u g a x
     by (ok d ts) h =
-        let D : readDone (Read n m i) (deckBuffers c b l u g) ≡ onDeck (ok d ts) B =
+        let D : readDone (Read n m i) (deckBuffers c b l u g a x) ≡ onDeck (ok d ts) B =
         e ∙ read-fit s B f ∙ ap (λ (x : Outcome Deck). onDeck x B) h in
         record {
           deck = d;
@@ -174,14 +180,17 @@ taken s B n m i c b l u g f e = by (readDeck s) refl
           lower = ap (λ (x : ReadDone). x .buffers .lower) D;
           upper = ap (λ (x : ReadDone). x .buffers .upper) D;
           goals = ap (λ (x : ReadDone). x .buffers .goals) D;
+          given = ap (λ (x : ReadDone). x .buffers .given) D;
+          ideals = ap (λ (x : ReadDone). x .buffers .ideals) D;
         }
     by (no w) h = never (sym (ap (λ (x : ReadDone). isRead (x .reading)) (e ∙ read-fit s B f ∙ ap (λ (x : Outcome Deck). onDeck x B) h)))
 
-abbrev pub problemPart : ℕ → ℕ → List ℤ → List ℤ → List ℤ → List ℤ → List ℤ → Posed
-problemPart n m c b l u g =
-    posedBy (record { columns = n; rows = m; limit = programLimit }) (take (m * n) c) (take m b) (take n l) (take n u) (take n g)
+abbrev pub problemPart : ℕ → ℕ → List ℤ → List ℤ → List ℤ → List ℤ → List ℤ → List ℤ → List ℤ → Posed
+problemPart n m c b l u g a x =
+    posedBy (record { columns = n; rows = m; limit = programLimit }) (take (m * n) c) (take m b) (take n l) (take n u) (take n g) (take n a)
+    (take n x)
 
-module _ {s : List ℕ} {n m : ℕ} {c b l u g : List ℤ} (T : Taken s n m c b l u g) where
+module _ {s : List ℕ} {n m : ℕ} {c b l u g a x : List ℤ} (T : Taken s n m c b l u g a x) where
   pub few-columns : length l ≡ deckColumns → n ≤ deckColumns
   few-columns q = within deckColumns n (map lowerOf (columnsOf (T .deck))) l (T .lower) (T .columns ∙ sym (length-map (columnsOf (T .deck)) lowerOf))
       q
@@ -189,10 +198,10 @@ module _ {s : List ℕ} {n m : ℕ} {c b l u g : List ℤ} (T : Taken s n m c b 
   pub few-rows : length b ≡ deckRows → m ≤ deckRows
   few-rows q = within deckRows m (map rightOf (T .deck .lines)) b (T .rights) (T .rows ∙ sym (length-map (T .deck .lines) rightOf)) q
 
-  cells : m * n ≡ length (coefficientRows (length (columnsOf (T .deck))) (length (T .deck .intervals)) (T .deck .lines))
-  cells = (λ i. T .rows i * T .columns i) ∙ sym (length-rows (length (columnsOf (T .deck))) (length (T .deck .intervals)) (T .deck .lines))
+  cells : m * n ≡ length (rowsOf (T .deck))
+  cells = (λ i. T .rows i * T .columns i) ∙ sym (length-rows (countOf (T .deck)) (length (T .deck .intervals)) (T .deck .lines))
 
-  posed-is : problemPart n m c b l u g ≡ posed programLimit (T .deck)
+  posed-is : problemPart n m c b l u g a x ≡ posed programLimit (T .deck)
   unfolding posed
   posed-is =
       let pc = part-is (deckRows * deckColumns) (m * n) _ c (T .coefficients) cells in
@@ -200,9 +209,11 @@ module _ {s : List ℕ} {n m : ℕ} {c b l u g : List ℤ} (T : Taken s n m c b 
       let pl = part-is deckColumns n _ l (T .lower) (T .columns ∙ sym (length-map (columnsOf (T .deck)) lowerOf)) in
       let pu = part-is deckColumns n _ u (T .upper) (T .columns ∙ sym (length-map (columnsOf (T .deck)) upperOf)) in
       let pg = part-is deckColumns n _ g (T .goals) (T .columns ∙ sym (length-map (columnsOf (T .deck)) goalOf)) in
-      λ i. posedBy (record { columns = T .columns i; rows = T .rows i; limit = programLimit }) (pc i) (pb i) (pl i) (pu i) (pg i)
+      let pa = part-is deckColumns n _ a (T .given) (T .columns ∙ sym (length-numbered _ (countOf (T .deck)) 0)) in
+      let px = part-is deckColumns n _ x (T .ideals) (T .columns ∙ sym (length-numbered _ (countOf (T .deck)) 0)) in
+      λ i. posedBy (record { columns = T .columns i; rows = T .rows i; limit = programLimit }) (pc i) (pb i) (pl i) (pu i) (pg i) (pa i) (px i)
 
-  pub accepted-into : (o : List ℕ) → listInto o (problemPart n m c b l u g) ≡ printInto o s
+  pub accepted-into : (o : List ℕ) → listInto o (problemPart n m c b l u g a x) ≡ printInto o s
   unfolding listInto printInto printed
   accepted-into o =
       let p = posed-is in

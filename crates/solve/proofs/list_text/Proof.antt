@@ -21,7 +21,7 @@ module _ (w : tie.After-read-deck) where
 
   abbrev left : DeckBuffers
   left = deckBuffers (w .read-deck .last .1 .0) (w .read-deck .last .1 .1 .0) (w .read-deck .last .1 .1 .1 .0) (w .read-deck .last .1 .1 .1 .1 .0)
-      (w .read-deck .last .1 .1 .1 .1 .1 .0)
+      (w .read-deck .last .1 .1 .1 .1 .1 .0) (w .read-deck .last .1 .1 .1 .1 .1 .1 .0) (w .read-deck .last .1 .1 .1 .1 .1 .1 .1 .0)
 
   done-reading : readDone (w .read-deck .result) left ≡ read (start .args .text .now) largest
   unfolding blank
@@ -44,8 +44,9 @@ module _ (k : tie.After-known-told2) where
   abbrev D : DeckBuffers
   D = left at
 
-  text-taken : Taken (start at .args .text .now) n m (D .coefficients) (D .rights) (D .lower) (D .upper) (D .goals)
-  text-taken = taken (start at .args .text .now) largest n m _ _ _ _ _ _ largest-fit (found at (k .before .reading2 .given .1))
+  text-taken : Taken (start at .args .text .now) n m (D .coefficients) (D .rights) (D .lower) (D .upper) (D .goals) (D .given)
+      (D .ideals)
+  text-taken = taken (start at .args .text .now) largest n m _ _ _ _ _ _ _ _ largest-fit (found at (k .before .reading2 .given .1))
 
   rights-long : length (D .rights) ≡ deckRows
   rights-long = at .read-deck .kept .1 .1 .0
@@ -76,6 +77,12 @@ module _ (k : tie.After-known-told2) where
   goals-fit : n ≤ length (D .goals)
   goals-fit = let e : length (D .goals) ≡ deckColumns = at .read-deck .kept .1 .1 .1 .1 .1 .0 in omega (arith, columns-few)
 
+  given-fit : n ≤ length (D .given)
+  given-fit = let e : length (D .given) ≡ deckColumns = at .read-deck .kept .1 .1 .1 .1 .1 .1 .0 in omega (arith, columns-few)
+
+  ideals-fit : n ≤ length (D .ideals)
+  ideals-fit = let e : length (D .ideals) ≡ deckColumns = at .read-deck .kept .1 .1 .1 .1 .1 .1 .1 .0 in omega (arith, columns-few)
+
 slice-aggregate-read-deck : tie.Need-slice-aggregate-read-deck
 slice-aggregate-read-deck c = search needs
 
@@ -90,6 +97,12 @@ slice-aggregate-read-deck-4 c = search needs
 
 slice-aggregate-read-deck-5 : tie.Need-slice-aggregate-read-deck-5
 slice-aggregate-read-deck-5 c = search needs
+
+slice-aggregate-read-deck-6 : tie.Need-slice-aggregate-read-deck-6
+slice-aggregate-read-deck-6 c = search needs
+
+slice-aggregate-read-deck-7 : tie.Need-slice-aggregate-read-deck-7
+slice-aggregate-read-deck-7 c = search needs
 
 read-deck-requires : tie.Need-read-deck-requires
 read-deck-requires c κs = search needs
@@ -138,6 +151,18 @@ array-share-prefix-goals c = goals-fit (c .before .before .before .before)
 slice-aggregate-list-assigned-5 : tie.Need-slice-aggregate-list-assigned-5
 slice-aggregate-list-assigned-5 c = sym (length-take-le _ _ (goals-fit (c .before .before .before .before .before)))
 
+array-share-prefix-given : tie.Need-array-share-prefix-given
+array-share-prefix-given c = given-fit (filled c)
+
+slice-aggregate-list-assigned-6 : tie.Need-slice-aggregate-list-assigned-6
+slice-aggregate-list-assigned-6 c = sym (length-take-le _ _ (given-fit (filled (c .before))))
+
+array-share-prefix-ideals : tie.Need-array-share-prefix-ideals
+array-share-prefix-ideals c = ideals-fit (filled (c .before))
+
+slice-aggregate-list-assigned-7 : tie.Need-slice-aggregate-list-assigned-7
+slice-aggregate-list-assigned-7 c = sym (length-take-le _ _ (ideals-fit (filled (c .before .before))))
+
 list-assigned-requires : tie.Need-list-assigned-requires
 list-assigned-requires c κs =
     let after-coefficients3 = c .before .before .before .before .before in
@@ -177,6 +202,8 @@ list-text-spec =
     slice-aggregate-read-deck-3
     slice-aggregate-read-deck-4
     slice-aggregate-read-deck-5
+    slice-aggregate-read-deck-6
+    slice-aggregate-read-deck-7
     read-deck-requires
     enum-known-reading
     list-refused-requires
@@ -192,6 +219,10 @@ list-text-spec =
     slice-aggregate-list-assigned-4
     array-share-prefix-goals
     slice-aggregate-list-assigned-5
+    array-share-prefix-given
+    slice-aggregate-list-assigned-6
+    array-share-prefix-ideals
+    slice-aggregate-list-assigned-7
     list-assigned-requires
     same-length
     returns

@@ -8,6 +8,7 @@ use Rattle.koralimbu.proofs.reading.koralimbu_read.Tie as tie
 module _ (a : tie.Start) where
   abbrev B : DeckBuffers
   B = deckBuffers (a .args .coefficients .now) (a .args .rights .now) (a .args .lower .now) (a .args .upper .now) (a .args .goals .now)
+      (a .args .given .now) (a .args .ideals .now)
 
 number-requires : tie.Need-number-requires
 number-requires c κs = search needs
