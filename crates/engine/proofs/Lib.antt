@@ -15,5 +15,6 @@ pub mod Refusals
 pub mod Verdicts
 pub mod Satisfied
 pub mod Demand
+pub mod Handed
 pub mod Stride
 pub mod Leaving

@@ -5,6 +5,7 @@ pub mod Placed
 pub mod Finish
 pub mod Standing
 pub mod Demand
+pub mod Handed
 pub mod Outcomes
 pub mod Stride
 pub mod Preview
