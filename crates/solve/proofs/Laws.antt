@@ -40,7 +40,7 @@ use Rattle.deck.specs.Reader.{DeckBuffers, ReadDone, deckBuffers, readDone, len
 use Rattle.deck.specs.declared.Reading.{Reading}
 use Rattle.deck.specs.declared.Reading.the-variants.{Read, Refused as TurnedBack}
 use Rattle.sections.proofs.Storage.{length-rows}
-use Rattle.neighbours.proofs.Laws.{length-numbered}
+use Rattle.neighbours.proofs.Laws.{numbered-length}
 use Rattle.engine.specs.Assign.{Buffers, Done, buffers, done, n, m, assign, posedBy}
 use Rattle.report.specs.Listing.{listing, linesOf, placedIn, writeListing}
 use Rattle.solve.specs.Program.{programLimit, zeroBuffers, listed, printed, printInto, listInto}
@@ -209,8 +209,8 @@ module _ {s : List ℕ} {n m : ℕ} {c b l u g a x : List ℤ} (T : Taken s n m 
       let pl = part-is deckColumns n _ l (T .lower) (T .columns ∙ sym (length-map (columnsOf (T .deck)) lowerOf)) in
       let pu = part-is deckColumns n _ u (T .upper) (T .columns ∙ sym (length-map (columnsOf (T .deck)) upperOf)) in
       let pg = part-is deckColumns n _ g (T .goals) (T .columns ∙ sym (length-map (columnsOf (T .deck)) goalOf)) in
-      let pa = part-is deckColumns n _ a (T .given) (T .columns ∙ sym (length-numbered _ (countOf (T .deck)) 0)) in
-      let px = part-is deckColumns n _ x (T .ideals) (T .columns ∙ sym (length-numbered _ (countOf (T .deck)) 0)) in
+      let pa = part-is deckColumns n _ a (T .given) (T .columns ∙ sym (numbered-length _ (countOf (T .deck)) 0)) in
+      let px = part-is deckColumns n _ x (T .ideals) (T .columns ∙ sym (numbered-length _ (countOf (T .deck)) 0)) in
       λ i. posedBy (record { columns = T .columns i; rows = T .rows i; limit = programLimit }) (pc i) (pb i) (pl i) (pu i) (pg i) (pa i) (px i)
 
   pub accepted-into : (o : List ℕ) → listInto o (problemPart n m c b l u g a x) ≡ printInto o s

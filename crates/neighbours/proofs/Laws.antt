@@ -1,0 +1,137 @@
+-- Laws of the reader's ideals.
+--   Summed t x k h s c   s is the sum of the numbers x of the columns from h to k that the test t admits, and c is how many they are; what is
+--                        admitted lies within the limit of bounds, so the sum is small
+--   summed-none          past the last column both are 0
+--   summed-skip, -more   one column further up: it is not admitted, or it is
+--   summed-all           from the first column on it is the whole mean
+--   ideal-within         an ideal lies within the limit of bounds where the column's bounds do
+--   numbered-length, -at how many numbers there are, and which stands at a place
+--   wish-past, -goal     nothing is handed in for a column past the intervals, nor for one with a goal
+--   wish-plain           for a plain interval it is the mean
+-- Assumes nothing.
+use mathlib.Core.Path.{_≡_, refl, sym, _∙_, ap, subst}
+use mathlib.Core.Bool.{Bool, true, false, cond, _&&_, and-false}
+use mathlib.Core.List.{List, [], _∷_}
+use Prim.Native.Nat.{ℕ, zero, suc, _+_, _*_, _-_, _<_, _≤_}
+use native.Mathlib.Omega.{arith}
+use borrow.Author.Tests.{lt-ltb, le-ltb}
+use lib.Dec.{ltb}
+use lib.IntN.{ℤ, pos, natAbs, _+ℤ_}
+use lib.ListN.{length}
+use Rattle.whole.specs.Lists.{entry}
+use Rattle.whole.specs.Tests.{isZero}
+use Rattle.whole.proofs.Integers.{rep, diff-rel}
+use Rattle.whole.proofs.Signed.{abs-add}
+use Rattle.problem.specs.Limits.{maxBound}
+use Rattle.settling.specs.declared.Wish.the-variants.{Unset, Set}
+use Rattle.settling.specs.Ideals.{goalIdeal, ideal}
+use Rattle.settling.proofs.Seats.{ideal-small}
+use Rattle.neighbours.specs.Neighbours.{Stated, idealOf, chosen, total, mean, meanBy}
+use Rattle.neighbours.specs.Neighbours.{neighbourIdeals, isPlain, neighbourWish, numbered}
+
+-- ---- the sum over the neighbours, from the last column up
+pub record Summed (t : ℕ → Bool) (x : ℕ → ℤ) (k h : ℕ) (s : ℤ) (c : ℕ) : Type 0 where
+  pub within : h ≤ k
+  pub sum : s ≡ total (chosen t x (k - h) h)
+  pub count : c ≡ length (chosen t x (k - h) h)
+  pub few : c ≤ k - h
+  pub small : natAbs s ≤ c * maxBound
+
+module _ (t : ℕ → Bool) (x : ℕ → ℤ) where
+  none : (k : ℕ) → chosen t x (k - k) k ≡ []
+  unfolding chosen
+  none k = ap (λ (r : ℕ). chosen t x r k) {x = k - k} {y = 0} (omega arith)
+
+  admitted : (k h : ℕ) → t h ≡ true → chosen t x (suc k) h ≡ x h ∷ chosen t x k (suc h)
+  unfolding chosen
+  admitted k h e = ap (λ (b : Bool). cond b (x h ∷ chosen t x k (suc h)) (chosen t x k (suc h))) e
+
+  skipped : (k h : ℕ) → t h ≡ false → chosen t x (suc k) h ≡ chosen t x k (suc h)
+  unfolding chosen
+  skipped k h e = ap (λ (b : Bool). cond b (x h ∷ chosen t x k (suc h)) (chosen t x k (suc h))) e
+
+  pub summed-none : (k : ℕ) → Summed t x k k (pos 0) 0
+  unfolding total
+  summed-none k = record {
+    within = omega arith;
+    sum = sym (ap total (none k));
+    count = sym (ap length (none k));
+    few = omega arith;
+    small = omega arith;
+  }
+
+  -- one column more in front
+  further : (k h : ℕ) → suc h ≤ k → k - h ≡ suc (k - suc h)
+  further k h l = omega (arith, l)
+
+  pub summed-skip : (k h : ℕ) (s : ℤ) (c : ℕ) → 0 < h → t (h - 1) ≡ false → Summed t x k h s c → Summed t x k (h - 1) s c
+  summed-skip k zero s c p e z = absurd (omega arith)
+  summed-skip k (suc h) s c p e z =
+      let a : suc h - 1 ≡ h = omega arith in
+      let l : chosen t x (k - h) h ≡ chosen t x (k - suc h) (suc h) =
+      ap (λ (r : ℕ). chosen t x r h) (further k h (z .within)) ∙ skipped (k - suc h) h (subst (λ (i : ℕ). t i ≡ false) a e) in
+      rw a (record {
+        within = omega (arith, z .within);
+        sum = z .sum ∙ sym (ap total l);
+        count = z .count ∙ sym (ap length l);
+        few = omega (arith, z .few);
+        small = z .small;
+      })
+
+  add-first : (l : List ℤ) (y s : ℤ) → s ≡ total l → s +ℤ y ≡ total (y ∷ l)
+  unfolding total
+  add-first l y s e = ap (λ (u : ℤ). u +ℤ y) e ∙ rw (rep y, rep (total l)) (simp diff-rel (omega arith))
+
+  pub summed-more : (k h : ℕ) (s : ℤ) (c : ℕ) → 0 < h → t (h - 1) ≡ true → natAbs (x (h - 1)) ≤ maxBound
+      → Summed t x k h s c → Summed t x k (h - 1) (s +ℤ x (h - 1)) (c + 1)
+  summed-more k zero s c p e b z = absurd (omega arith)
+  summed-more k (suc h) s c p e b z =
+      let a : suc h - 1 ≡ h = omega arith in
+      let l : chosen t x (k - h) h ≡ x h ∷ chosen t x (k - suc h) (suc h) =
+      ap (λ (r : ℕ). chosen t x r h) (further k h (z .within)) ∙ admitted (k - suc h) h (subst (λ (i : ℕ). t i ≡ true) a e) in
+      let b' : natAbs (x h) ≤ maxBound = subst (λ (i : ℕ). natAbs (x i) ≤ maxBound) a b in
+      rw a (record {
+        within = omega (arith, z .within);
+        sum = add-first (chosen t x (k - suc h) (suc h)) (x h) s (z .sum) ∙ sym (ap total l);
+        count = omega (arith, z .count, ap length l);
+        few = omega (arith, z .few, z .within);
+        small = omega (arith, z .small, b', abs-add s (x h));
+      })
+
+  pub summed-all : (k h : ℕ) (s : ℤ) (c : ℕ) → h ≡ 0 → Summed t x k h s c → meanBy s c ≡ mean (chosen t x k 0)
+  summed-all k h s c e z =
+      let l : chosen t x (k - h) h ≡ chosen t x k 0 = (λ i. chosen t x (k - e i) (e i)) ∙ ap (λ (r : ℕ). chosen t x r 0) (omega arith) in
+      (λ i. meanBy ((z .sum ∙ ap total l) i) ((z .count ∙ ap length l) i))
+
+-- ---- an ideal
+pub ideal-within : (S : Stated) (h : ℕ) → natAbs (S .lower h) ≤ maxBound → natAbs (S .upper h) ≤ maxBound → natAbs (idealOf S h) ≤ maxBound
+unfolding ideal
+ideal-within S h a b = ideal-small (S .lower h) (S .upper h) (Set (pos (goalIdeal (natAbs (S .goal h))))) (pos 0) a b
+
+-- ---- what is handed in
+module _ (S : Stated) (j : ℕ) where
+  nothing : isPlain S j ≡ false → neighbourWish S j ≡ Unset
+  unfolding neighbourWish
+  nothing e = ap (λ (b : Bool). cond b (mean (neighbourIdeals S j)) Unset) e
+
+  pub wish-past : S .intervals ≤ j → neighbourWish S j ≡ Unset
+  wish-past h = nothing (ap (λ (b : Bool). b && isZero (S .goal j)) (le-ltb j (S .intervals) h))
+
+  pub wish-goal : isZero (S .goal j) ≡ false → neighbourWish S j ≡ Unset
+  wish-goal e = nothing (ap (λ (b : Bool). ltb j (S .intervals) && b) e ∙ and-false (ltb j (S .intervals)))
+
+  pub wish-plain : j < S .intervals → isZero (S .goal j) ≡ true → neighbourWish S j ≡ mean (neighbourIdeals S j)
+  unfolding neighbourWish
+  wish-plain h e = (λ i. cond (lt-ltb j (S .intervals) h i && e i) (mean (neighbourIdeals S j)) Unset)
+
+-- ---- numbers by column
+pub numbered-length : (f : ℕ → ℤ) (k j : ℕ) → length (numbered f k j) ≡ k
+unfolding numbered
+numbered-length f zero j = refl
+numbered-length f (suc k) j = ap suc (numbered-length f k (suc j))
+
+pub numbered-at : (f : ℕ → ℤ) (k j i s : ℕ) → i < k → s ≡ j + i → entry i (numbered f k j) ≡ f s
+unfolding numbered
+numbered-at f zero j i s h e = absurd (omega (arith, h))
+numbered-at f (suc k) j zero s h e = ap f (omega (arith, e))
+numbered-at f (suc k) j (suc i) s h e = numbered-at f k (suc j) i s (omega (arith, h)) (omega (arith, e))

@@ -1,0 +1,154 @@
+-- `neighbours::hand_in` meets its contract: the marks and numbers of the first columns are written, and the rest is as it was. Assumes nothing.
+use mathlib.Core.Path.{_≡_, sym, _∙_, ap}
+use Prim.Native.Nat.{ℕ, _-_, _<_}
+use native.Mathlib.Omega.{arith}
+use borrow.Author.Needs.{needs}
+use lib.ListN.{length}
+use mir.Syntax.{w64}
+use mir.Val.{toZ, ofZ}
+use Rattle.whole.specs.Lists.{entry}
+use Rattle.whole.proofs.Signed.{back}
+use Rattle.whole.proofs.Writing.{WrittenTo, starts, goes-on, ends}
+use Rattle.settling.specs.Ideals.{markOf, numberOf}
+use Rattle.neighbours.specs.Neighbours.{Stated, statedBy, neighbourWish, givenOf, idealsOf}
+use Rattle.neighbours.proofs.Laws.{numbered-length, numbered-at}
+use Rattle.neighbours.proofs.hand_in.Statement.{statement}
+use Rattle.neighbours.proofs.hand_in.Tie as tie
+
+abbrev Inv-loop : tie.InvT-loop
+Inv-loop shape coefficients lower upper goals given₀ ideals₀ j₀ given ideals j =
+    let S = statedBy (shape .columns) (shape .rows) (shape .intervals) coefficients lower upper goals in
+    WrittenTo given₀ (givenOf S (length given₀)) given j × WrittenTo ideals₀ (idealsOf S (length given₀)) ideals j
+
+abbrev μ-loop : tie.MeasureT-loop
+μ-loop shape coefficients lower upper goals given₀ ideals₀ j₀ given ideals j = length given₀ - j
+
+-- the lists that are lent
+abbrev stated : tie.Start Inv-loop μ-loop → Stated
+stated s =
+    statedBy (s .args .shape .columns) (s .args .shape .rows) (s .args .shape .intervals) (s .args .coefficients .now) (s .args .lower .now)
+    (s .args .upper .now) (s .args .goals .now)
+
+-- how many columns are to be written
+abbrev room : tie.Start Inv-loop μ-loop → ℕ
+room s = length (s .args .given .now)
+
+-- the turn of column j: it lies in both lists
+module _ (c : tie.In-loop Inv-loop μ-loop) where
+  abbrev from : tie.Start Inv-loop μ-loop
+  from = c .before .before
+
+  abbrev now : tie.At-loop Inv-loop μ-loop
+  now = c .before
+
+  inside : now .loop .j < room from
+  inside = omega (arith, c .loop-test .taken, now .loop .inv .0 .same)
+
+-- what is handed in for it, and what is written
+handed : (c : tie.After-neighbour-wish Inv-loop μ-loop) →
+    let w = c .before in
+    c .neighbour-wish .result ≡ neighbourWish (stated (from w)) (now w .loop .j)
+handed c = c .neighbour-wish .ensures
+
+marked : (c : tie.After-mark-of Inv-loop μ-loop) →
+    let w = c .before .before in
+    let s = from w in
+    toZ w64 (ofZ w64 (c .mark-of .result)) ≡ entry (now w .loop .j) (givenOf (stated s) (room s))
+marked c =
+    let w = c .before .before in
+    let s = from w in
+    back _ (c .mark-of .ok) ∙ c .mark-of .ensures ∙ ap markOf (handed (c .before))
+    ∙ sym (numbered-at (λ j. markOf (neighbourWish (stated s) j)) (room s) 0 (now w .loop .j) (now w .loop .j) (inside w) (omega arith))
+
+numbered : (c : tie.After-number-of Inv-loop μ-loop) →
+    let w = c .before .before .before in
+    let s = from w in
+    toZ w64 (ofZ w64 (c .number-of .result)) ≡ entry (now w .loop .j) (idealsOf (stated s) (room s))
+numbered c =
+    let w = c .before .before .before in
+    let s = from w in
+    back _ (c .number-of .ok) ∙ c .number-of .ensures ∙ ap numberOf (handed (c .before .before))
+    ∙ sym (numbered-at (λ j. numberOf (neighbourWish (stated s) j)) (room s) 0 (now w .loop .j) (now w .loop .j) (inside w) (omega arith))
+
+loop-holds : tie.Need-loop-holds Inv-loop μ-loop
+loop-holds c =
+    let S = stated c in (
+      starts (sym (numbered-length (λ j. markOf (neighbourWish S j)) (room c) 0)),
+      starts (c .pre .2 ∙ sym (numbered-length (λ j. numberOf (neighbourWish S j)) (room c) 0)),
+    )
+
+neighbour-wish-requires : tie.Need-neighbour-wish-requires Inv-loop μ-loop
+neighbour-wish-requires c κs = (c .before .before .pre .0, c .before .before .pre .1)
+
+mark-of-requires : tie.Need-mark-of-requires Inv-loop μ-loop
+mark-of-requires c κs = search needs
+
+mul-ideals : tie.Need-mul-ideals Inv-loop μ-loop
+mul-ideals c = search needs
+
+slice-set-from-ideals : tie.Need-slice-set-from-ideals Inv-loop μ-loop
+slice-set-from-ideals c = c .before .before .loop-test .taken
+
+number-of-requires : tie.Need-number-of-requires Inv-loop μ-loop
+number-of-requires c κs = search needs
+
+mul-t10 : tie.Need-mul-t10 Inv-loop μ-loop
+mul-t10 c = search needs
+
+slice-set-from-ideals-2 : tie.Need-slice-set-from-ideals-2 Inv-loop μ-loop
+slice-set-from-ideals-2 c =
+    let w = c .before .before .before in
+    omega (arith, inside w, now w .loop .inv .1 .same, from w .pre .2)
+
+add-j : tie.Need-add-j Inv-loop μ-loop
+add-j c = search needs
+
+loop-less : tie.Need-loop-less Inv-loop μ-loop
+loop-less c = omega (arith, inside (c .before .before .before))
+
+loop-again : tie.Need-loop-again Inv-loop μ-loop
+loop-again c =
+    let w = c .before .before .before in
+    let s = from w in
+    let f = numbered-length (λ j. markOf (neighbourWish (stated s) j)) (room s) 0 in
+    let g = numbered-length (λ j. numberOf (neighbourWish (stated s) j)) (room s) 0 in (
+      goes-on (now w .loop .inv .0) (omega (arith, inside w, f)) (marked (c .before)),
+      goes-on (now w .loop .inv .1) (omega (arith, inside w, g)) (numbered c),
+    )
+
+same-length : tie.Need-same-length Inv-loop μ-loop
+same-length c = c .before .loop .inv .0 .same
+
+same-length-2 : tie.Need-same-length-2 Inv-loop μ-loop
+same-length-2 c = c .before .loop .inv .1 .same
+
+returns : tie.Need-returns Inv-loop μ-loop
+returns c =
+    let l = c .before in
+    let s = l .before in
+    let f = numbered-length (λ j. markOf (neighbourWish (stated s) j)) (room s) 0 in
+    let g = numbered-length (λ j. numberOf (neighbourWish (stated s) j)) (room s) 0 in (
+      ends (l .loop .inv .0) (omega (arith, c .loop-test .left, l .loop .inv .0 .same, f)),
+      ends (l .loop .inv .1) (omega (arith, c .loop-test .left, l .loop .inv .0 .same, g)),
+    )
+
+pub hand-in-spec : {M : Type 1} → statement M
+hand-in-spec =
+    tie.close
+    (tie.spec
+    Inv-loop
+    μ-loop
+    loop-holds
+    neighbour-wish-requires
+    mark-of-requires
+    mul-ideals
+    slice-set-from-ideals
+    number-of-requires
+    mul-t10
+    slice-set-from-ideals-2
+    add-j
+    loop-less
+    loop-again
+    same-length
+    same-length-2
+    returns)
