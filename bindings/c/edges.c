@@ -641,16 +641,18 @@ static void try_preview_counts(void)
 
 /* ---------------------------------------------------------------- ideals */
 
-/* A whole assignment accepts the problem and leaves these values. It only reads the problem. */
-static void leaves(const char *what, const struct posed *p, const int64_t *values)
+/* A whole assignment seats the columns at these values, where no step improves them. It only reads the problem. */
+static void seats(const char *what, const struct posed *p, const int64_t *values)
 {
+    static const uint32_t at_rest[KORALIMBU_REPORT_COUNT] = {KORALIMBU_FITTED};
     static struct posed copy;
     static struct answer a;
 
     memcpy(&copy, p, sizeof copy);
     settle(koralimbu_assign, p, &a);
     expect(what, a.number, KORALIMBU_ACCEPTED);
-    check(what, memcmp(a.values, values, p->n * sizeof *values) == 0 && behind_is_marked(p, a.tableau, a.strides));
+    check(what, memcmp(a.report, at_rest, sizeof at_rest) == 0 && behind_is_marked(p, a.tableau, a.strides));
+    check(what, memcmp(a.values, values, p->n * sizeof *values) == 0);
     check(what, memcmp(&copy, p, sizeof copy) == 0);
 }
 
@@ -666,7 +668,7 @@ static void try_ideal(int64_t given, int64_t ideal, int64_t wanted)
     p.goals[2] = 5000;
     p.given[1] = p.given[2] = given;
     fill(p.ideals, 3, ideal);
-    leaves("an ideal", &p, values);
+    seats("an ideal", &p, values);
 }
 
 static void try_ideals(void)
@@ -694,12 +696,12 @@ static void try_no_ideal(void)
     p.coefficients[2] = -2;
     p.lower[0] = 1;
     p.goals[0] = 5000;
-    leaves("no ideal", &p, stays);
+    seats("no ideal", &p, stays);
     p.ideals[1] = INT64_MIN;
-    leaves("no ideal, whatever its number", &p, stays);
+    seats("no ideal, whatever its number", &p, stays);
     p.given[1] = 1;
     p.ideals[1] = 0;
-    leaves("the ideal 0", &p, pulled);
+    seats("the ideal 0", &p, pulled);
 }
 
 /* An ideal within its bounds can pull another column beyond M. */
