@@ -22,8 +22,8 @@ ROOT = os.path.dirname(os.path.dirname(os.path.abspath(__file__)))
 ARCHIVE = os.path.join("target", "staticlib", "libkoralimbu.a")
 BUILT = os.path.join("target", "bindings")
 RUST = os.path.join("bindings", "rust")
-# The decks whose run lies beside the example: steps of both kinds of move, towards the bounds and towards the goals.
-RUNS = ["bounds-conflict", "paved-bulkhead"]
+# The decks whose run lies beside the example: steps of both kinds of move, towards the bounds and towards the goals; a list seated by ideals.
+RUNS = ["bounds-conflict", "paved-bulkhead", "plain-curves"]
 STRICT = ["-Wall", "-Wextra", "-Wpedantic", "-Wconversion", "-Wsign-conversion", "-Wshadow", "-Wundef", "-Werror", "-Iinclude"]
 
 passed = failed = 0

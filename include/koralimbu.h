@@ -22,7 +22,7 @@ extern "C" {
 /* The version, which rises with each change of a call or of the text; docs/CHANGES.md has the list. A header and an archive of different
  * versions must not be used together: a program compares KORALIMBU_VERSION with koralimbu_version() once, at its start. */
 #define KORALIMBU_VERSION_MAJOR 0
-#define KORALIMBU_VERSION_MINOR 3
+#define KORALIMBU_VERSION_MINOR 4
 #define KORALIMBU_VERSION_PATCH 0
 #define KORALIMBU_VERSION (KORALIMBU_VERSION_MAJOR * 1000000 + KORALIMBU_VERSION_MINOR * 1000 + KORALIMBU_VERSION_PATCH)
 
@@ -102,12 +102,20 @@ uint32_t koralimbu_version(void);
  *   rights        m             what each row must add up to
  *   lower, upper  n             the bounds of each column
  *   goals         n             the goal of each column, in thousandths; 0 for none
+ *   given         n             for each column 0 where no ideal is handed in for it, any other number where one is
+ *   ideals        n             the ideal that is handed in for each column, which may be any int64_t
  *   tableau       n * (m + n)   afterwards the form, m + n to a row
  *   values        n             afterwards the value of each column; Continue starts from what it holds
  *   strides       n             afterwards the strides
  *   report        REPORT_COUNT  afterwards the verdict, the steps of the bounds part and those of the goals part
  *
- * The first five are only read.
+ * The first seven are only read.
+ *
+ * Ideals. Before its first step a whole assignment seats the columns: it pulls them towards their ideals, as far as the rows let it. A column
+ * with a goal has that of its goal, and what is handed in for it is not used. Without a goal it has the one that is handed in, brought into
+ * its bounds; where none is, the value that it has then, brought into its bounds. No refusal looks at what given and ideals hold. A caller with
+ * no ideals lends n zeros for given; what ideals then holds does not matter, only its count, so that one list of n zeros may be lent for both.
+ * Continue seats nothing: only the counts of the two lists matter to it.
  *
  * What these two return, and what is then left:
  *
@@ -142,6 +150,8 @@ uint32_t koralimbu_assign(size_t n, size_t m, uint32_t limit,
                           const int64_t *lower, size_t lower_count,
                           const int64_t *upper, size_t upper_count,
                           const int64_t *goals, size_t goals_count,
+                          const int64_t *given, size_t given_count,
+                          const int64_t *ideals, size_t ideals_count,
                           int64_t *tableau, size_t tableau_count,
                           int64_t *values, size_t values_count,
                           uint64_t *strides, size_t strides_count,
@@ -154,6 +164,8 @@ uint32_t koralimbu_continue(size_t n, size_t m, uint32_t limit,
                             const int64_t *lower, size_t lower_count,
                             const int64_t *upper, size_t upper_count,
                             const int64_t *goals, size_t goals_count,
+                            const int64_t *given, size_t given_count,
+                            const int64_t *ideals, size_t ideals_count,
                             int64_t *tableau, size_t tableau_count,
                             int64_t *values, size_t values_count,
                             uint64_t *strides, size_t strides_count,
@@ -166,13 +178,15 @@ uint32_t koralimbu_continue(size_t n, size_t m, uint32_t limit,
  *   rights        m              what each row must add up to
  *   lower, upper  n              the bounds of each column
  *   goals         n              the goal of each column, in thousandths; 0 for none
+ *   given         n              as above; the preview seats nothing, so that only the counts of this list and the next matter
+ *   ideals        n              as above
  *   standing      n              the value of each column, as it stands
  *   tableau       n * (m + n)    afterwards the form, m + n to a row
  *   after         n              afterwards the value of each column after the step; the standing one where no move improves
  *   strides       n              afterwards the strides
  *   report        PREVIEW_COUNT  afterwards the step
  *
- * The first six are only read, so after is a list of its own. The columns that the step changes are those where it differs from standing.
+ * The first eight are only read, so after is a list of its own. The columns that the step changes are those where it differs from standing.
  *
  * The report, by the place of each number:
  *
@@ -210,8 +224,8 @@ uint32_t koralimbu_continue(size_t n, size_t m, uint32_t limit,
  *
  * A run step by step, each step shown before it is taken; some take thousands of steps:
  *
- *   while (koralimbu_preview(n, m, coefficients, m * n, rights, m, lower, n, upper, n, goals, n, values, n, tableau, n * (m + n),
- *                            after, n, strides, n, report, KORALIMBU_PREVIEW_COUNT) == KORALIMBU_ACCEPTED
+ *   while (koralimbu_preview(n, m, coefficients, m * n, rights, m, lower, n, upper, n, goals, n, given, n, ideals, n, values, n,
+ *                            tableau, n * (m + n), after, n, strides, n, report, KORALIMBU_PREVIEW_COUNT) == KORALIMBU_ACCEPTED
  *          && report[0] != KORALIMBU_PART_NONE) {
  *     show(report, values, after);
  *     memcpy(values, after, n * sizeof *values);
@@ -223,6 +237,8 @@ uint32_t koralimbu_preview(size_t n, size_t m,
                            const int64_t *lower, size_t lower_count,
                            const int64_t *upper, size_t upper_count,
                            const int64_t *goals, size_t goals_count,
+                           const int64_t *given, size_t given_count,
+                           const int64_t *ideals, size_t ideals_count,
                            const int64_t *standing, size_t standing_count,
                            int64_t *tableau, size_t tableau_count,
                            int64_t *after, size_t after_count,
@@ -237,20 +253,28 @@ uint32_t koralimbu_preview(size_t n, size_t m,
  *   rights        DECK_ROWS          afterwards what each row must add up to
  *   lower, upper  DECK_COLUMNS       afterwards the bounds of each column
  *   goals         DECK_COLUMNS       afterwards the goal of each column, in thousandths; 0 for none
+ *   given         DECK_COLUMNS       afterwards 1 for each column that has an ideal of the reader's, else 0
+ *   ideals        DECK_COLUMNS       afterwards the ideal of each such column, else 0
  *   sizes         SIZES_COUNT        afterwards n, m, and how many of the n columns are curves
  *
  * The curves, which document 01 calls intervals, are the first columns. Those behind them, sizes[0] - sizes[2] in number, were added by rows of
  * kinds 1 to 3, in row order.
  *
+ * The reader hands in ideals, so that a curve without a goal starts near its neighbours: the curves with a goal that have a coefficient other
+ * than 0 in some row where it has one too. Its ideal is the mean of theirs, rounded down, each counted once however many rows it shares; theirs
+ * are those of their goals, brought into their bounds. There is none for a curve without neighbours, for one with a goal, and for the columns
+ * behind the curves. A caller who wants none of them lends n zeros for given instead.
+ *
  * What is returned, and what is then left:
  *
  *                                                                               coefficients, rights,  sizes
- *                                                                               lower, upper, goals
+ *                                                                               lower, upper, goals,
+ *                                                                               given, ideals
  *    0  ACCEPTED             the text is read                                   the problem, then 0s   n, m, curves
  *    1  REFUSED_SIZE         the count of curves is not 1 to DECK_COLUMNS, or   as they were           0, 0, 0
  *                            that of rows is not 0 to DECK_ROWS
- *    2  REFUSED_LENGTH       a count of coefficients, rights, lower, upper or   as they were           0, 0, 0
- *                            goals is not the one above
+ *    2  REFUSED_LENGTH       a count of coefficients, rights, lower, upper,     as they were           0, 0, 0
+ *                            goals, given or ideals is not the one above
  *    3  REFUSED_COEFFICIENT  a coefficient is beyond RANGE_COEFFICIENT, or a    as they were           0, 0, 0
  *                            row's number beyond RANGE_RIGHT, of either sign,
  *                            or a least half is below 0 or beyond RANGE_RIGHT
@@ -272,9 +296,10 @@ uint32_t koralimbu_preview(size_t n, size_t m,
  * A call goes on with the parts that n and m need:
  *
  *   if (koralimbu_read(text, length, coefficients, KORALIMBU_DECK_COEFFICIENTS, rights, KORALIMBU_DECK_ROWS, lower, KORALIMBU_DECK_COLUMNS,
- *                      upper, KORALIMBU_DECK_COLUMNS, goals, KORALIMBU_DECK_COLUMNS, sizes, KORALIMBU_SIZES_COUNT) == KORALIMBU_ACCEPTED) {
+ *                      upper, KORALIMBU_DECK_COLUMNS, goals, KORALIMBU_DECK_COLUMNS, given, KORALIMBU_DECK_COLUMNS,
+ *                      ideals, KORALIMBU_DECK_COLUMNS, sizes, KORALIMBU_SIZES_COUNT) == KORALIMBU_ACCEPTED) {
  *     size_t n = sizes[0], m = sizes[1];
- *     number = koralimbu_assign(n, m, 10000, coefficients, m * n, rights, m, lower, n, upper, n, goals, n,
+ *     number = koralimbu_assign(n, m, 10000, coefficients, m * n, rights, m, lower, n, upper, n, goals, n, given, n, ideals, n,
  *                               tableau, n * (m + n), values, n, strides, n, report, KORALIMBU_REPORT_COUNT);
  *   }
  *
@@ -286,6 +311,8 @@ uint32_t koralimbu_read(const uint8_t *text, size_t text_count,
                         int64_t *lower, size_t lower_count,
                         int64_t *upper, size_t upper_count,
                         int64_t *goals, size_t goals_count,
+                        int64_t *given, size_t given_count,
+                        int64_t *ideals, size_t ideals_count,
                         size_t *sizes, size_t sizes_count);
 
 #ifdef __cplusplus

@@ -1,5 +1,5 @@
 /* What the header says, tried over the archive: the version, null pointers, every refusal and limit by its name, the preview beside
- * Continue, the sizes of a deck, calls in several threads at once, and calls on a small stack.
+ * Continue, ideals, the sizes of a deck, calls in several threads at once, and calls on a small stack.
  *
  * Prints a line for each check that fails, and last 'N passed, M failed'.
  */
@@ -14,7 +14,7 @@
 #include "koralimbu.h"
 
 /* The names are numbers for the preprocessor too. */
-#if KORALIMBU_VERSION < 3000 || KORALIMBU_MOST_COEFFICIENTS != KORALIMBU_MOST_ROWS * KORALIMBU_MOST_COLUMNS \
+#if KORALIMBU_VERSION < 4000 || KORALIMBU_MOST_COEFFICIENTS != KORALIMBU_MOST_ROWS * KORALIMBU_MOST_COLUMNS \
     || KORALIMBU_MOST_TABLEAU != KORALIMBU_MOST_COLUMNS * (KORALIMBU_MOST_ROWS + KORALIMBU_MOST_COLUMNS) \
     || KORALIMBU_DECK_COEFFICIENTS != KORALIMBU_DECK_ROWS * KORALIMBU_DECK_COLUMNS
 #error "names of koralimbu.h that do not agree"
@@ -35,6 +35,7 @@ struct posed {
     size_t n, m;
     uint32_t limit;
     int64_t coefficients[ROWS * COLUMNS], rights[ROWS], lower[COLUMNS], upper[COLUMNS], goals[COLUMNS], start[COLUMNS];
+    int64_t given[COLUMNS], ideals[COLUMNS];
 };
 
 struct answer {
@@ -50,17 +51,19 @@ struct seen {
     uint64_t strides[COLUMNS];
 };
 
-/* A deck's text as it was read. */
+/* A deck's text as it was read, with room for an ideal too many. */
 struct deck {
     uint32_t number;
     size_t sizes[KORALIMBU_SIZES_COUNT];
     int64_t coefficients[KORALIMBU_DECK_COEFFICIENTS], rights[KORALIMBU_DECK_ROWS];
     int64_t lower[KORALIMBU_DECK_COLUMNS], upper[KORALIMBU_DECK_COLUMNS], goals[KORALIMBU_DECK_COLUMNS];
+    int64_t given[KORALIMBU_DECK_COLUMNS + 1], ideals[KORALIMBU_DECK_COLUMNS + 1];
 };
 
 typedef uint32_t engine(size_t n, size_t m, uint32_t limit, const int64_t *coefficients, size_t coefficients_count,
                         const int64_t *rights, size_t rights_count, const int64_t *lower, size_t lower_count,
                         const int64_t *upper, size_t upper_count, const int64_t *goals, size_t goals_count,
+                        const int64_t *given, size_t given_count, const int64_t *ideals, size_t ideals_count,
                         int64_t *tableau, size_t tableau_count, int64_t *values, size_t values_count,
                         uint64_t *strides, size_t strides_count, uint32_t *report, size_t report_count);
 
@@ -87,7 +90,7 @@ static void expect(const char *what, uint32_t returned, uint32_t wanted)
 
 /* ---------------------------------------------------------------- calls */
 
-/* n columns with bounds 0 to 10 and no goals, m rows of zeros. */
+/* n columns with bounds 0 to 10, no goals and no ideals, m rows of zeros. */
 static void pose(struct posed *p, size_t n, size_t m)
 {
     size_t j;
@@ -100,41 +103,75 @@ static void pose(struct posed *p, size_t n, size_t m)
         p->upper[j] = 10;
 }
 
-static void settle(engine *call, const struct posed *p, struct answer *a)
+static void fill(int64_t *list, size_t count, int64_t number)
 {
-    size_t n = p->n, m = p->m;
+    size_t k;
+
+    for (k = 0; k < count; k++)
+        list[k] = number;
+}
+
+/* Lends so many numbers of given and of ideals, which have room for one too many. */
+static void settle_with(engine *call, const struct posed *p, struct answer *a, size_t given, size_t ideals)
+{
+    size_t n = p->n, m = p->m, k;
 
     memset(a, 0, sizeof *a);
     a->report[0] = a->report[1] = a->report[2] = MARK;
     memcpy(a->values, p->start, sizeof p->start);
+    fill(a->tableau, sizeof a->tableau / sizeof *a->tableau, MARK);
+    for (k = 0; k < COLUMNS; k++)
+        a->strides[k] = MARK;
     a->number = call(n, m, p->limit, p->coefficients, m * n, p->rights, m, p->lower, n, p->upper, n, p->goals, n,
+                     p->given, given, p->ideals, ideals,
                      a->tableau, n * (m + n), a->values, n, a->strides, n, a->report, KORALIMBU_REPORT_COUNT);
 }
 
-static void look(const struct posed *p, struct seen *s)
+static void settle(engine *call, const struct posed *p, struct answer *a)
+{
+    settle_with(call, p, a, p->n, p->n);
+}
+
+static void look_with(const struct posed *p, struct seen *s, size_t given, size_t ideals)
 {
     size_t n = p->n, m = p->m, k;
 
     memset(s, 0, sizeof *s);
     for (k = 0; k < KORALIMBU_PREVIEW_COUNT; k++)
         s->report[k] = MARK;
-    for (k = 0; k < n * (m + n); k++)
-        s->tableau[k] = MARK;
-    for (k = 0; k < n; k++) {
-        s->after[k] = MARK;
+    fill(s->tableau, sizeof s->tableau / sizeof *s->tableau, MARK);
+    fill(s->after, COLUMNS, MARK);
+    for (k = 0; k < COLUMNS; k++)
         s->strides[k] = MARK;
-    }
-    s->number = koralimbu_preview(n, m, p->coefficients, m * n, p->rights, m, p->lower, n, p->upper, n, p->goals, n, p->start, n,
+    s->number = koralimbu_preview(n, m, p->coefficients, m * n, p->rights, m, p->lower, n, p->upper, n, p->goals, n,
+                                  p->given, given, p->ideals, ideals, p->start, n,
                                   s->tableau, n * (m + n), s->after, n, s->strides, n, s->report, KORALIMBU_PREVIEW_COUNT);
+}
+
+static void look(const struct posed *p, struct seen *s)
+{
+    look_with(p, s, p->n, p->n);
+}
+
+static void read_with(const uint8_t *text, size_t count, struct deck *d, size_t given, size_t ideals)
+{
+    memset(d, 0, sizeof *d);
+    d->sizes[0] = d->sizes[1] = d->sizes[2] = MARK;
+    fill(d->coefficients, KORALIMBU_DECK_COEFFICIENTS, MARK);
+    fill(d->rights, KORALIMBU_DECK_ROWS, MARK);
+    fill(d->lower, KORALIMBU_DECK_COLUMNS, MARK);
+    fill(d->upper, KORALIMBU_DECK_COLUMNS, MARK);
+    fill(d->goals, KORALIMBU_DECK_COLUMNS, MARK);
+    fill(d->given, KORALIMBU_DECK_COLUMNS + 1, MARK);
+    fill(d->ideals, KORALIMBU_DECK_COLUMNS + 1, MARK);
+    d->number = koralimbu_read(text, count, d->coefficients, KORALIMBU_DECK_COEFFICIENTS, d->rights, KORALIMBU_DECK_ROWS,
+                               d->lower, KORALIMBU_DECK_COLUMNS, d->upper, KORALIMBU_DECK_COLUMNS, d->goals, KORALIMBU_DECK_COLUMNS,
+                               d->given, given, d->ideals, ideals, d->sizes, KORALIMBU_SIZES_COUNT);
 }
 
 static void read_text(const uint8_t *text, size_t count, struct deck *d)
 {
-    memset(d, 0, sizeof *d);
-    d->sizes[0] = d->sizes[1] = d->sizes[2] = MARK;
-    d->number = koralimbu_read(text, count, d->coefficients, KORALIMBU_DECK_COEFFICIENTS, d->rights, KORALIMBU_DECK_ROWS,
-                               d->lower, KORALIMBU_DECK_COLUMNS, d->upper, KORALIMBU_DECK_COLUMNS,
-                               d->goals, KORALIMBU_DECK_COLUMNS, d->sizes, KORALIMBU_SIZES_COUNT);
+    read_with(text, count, d, KORALIMBU_DECK_COLUMNS, KORALIMBU_DECK_COLUMNS);
 }
 
 /* Whether count numbers of a list are all the same one. */
@@ -147,17 +184,41 @@ static int all_are(const int64_t *list, size_t count, int64_t number)
     return k == count;
 }
 
+static int strides_are(const uint64_t *strides, size_t from, uint64_t number)
+{
+    for (; from < COLUMNS && strides[from] == number; from++)
+        ;
+    return from == COLUMNS;
+}
+
+/* What lies behind n * (m + n) numbers of a tableau and n others is as it was. */
+static int behind_is_marked(const struct posed *p, const int64_t *tableau, const uint64_t *strides)
+{
+    size_t used = p->n * (p->m + p->n);
+
+    return all_are(tableau + used, COLUMNS * (ROWS + COLUMNS) - used, MARK) && strides_are(strides, p->n, MARK);
+}
+
 /* What a preview leaves with a refusal: as it was lent, but for the report and the tableau of an elimination beyond M. */
 static int left_alone(const struct posed *p, const struct seen *s)
 {
     static const uint32_t nothing[KORALIMBU_PREVIEW_COUNT];
     int64_t tableau = s->number == KORALIMBU_REFUSED_ELIMINATION ? 0 : MARK;
-    size_t j;
 
-    for (j = 0; j < p->n && s->strides[j] == MARK; j++)
-        ;
-    return j == p->n && all_are(s->after, p->n, MARK) && all_are(s->tableau, p->n * (p->m + p->n), tableau)
+    return strides_are(s->strides, 0, MARK) && all_are(s->after, COLUMNS, MARK)
+           && all_are(s->tableau, p->n * (p->m + p->n), tableau) && behind_is_marked(p, s->tableau, s->strides)
            && memcmp(s->report, nothing, sizeof nothing) == 0;
+}
+
+/* The same of a whole assignment or a Continue whose refusal leaves no form. */
+static int kept(const struct posed *p, const struct answer *a)
+{
+    static const uint32_t nothing[KORALIMBU_REPORT_COUNT];
+    int64_t tableau = a->number == KORALIMBU_REFUSED_ELIMINATION ? 0 : MARK;
+
+    return strides_are(a->strides, 0, MARK) && memcmp(a->values, p->start, sizeof p->start) == 0
+           && all_are(a->tableau, p->n * (p->m + p->n), tableau) && behind_is_marked(p, a->tableau, a->strides)
+           && memcmp(a->report, nothing, sizeof nothing) == 0;
 }
 
 /* What a preview leaves besides is what Continue with the limit 1 left, and its part is the one whose count is 1. */
@@ -166,7 +227,7 @@ static int as_continued(const struct posed *p, const struct seen *s, const struc
     size_t n = p->n, m = p->m;
     uint32_t part = s->report[0];
 
-    return memcmp(s->tableau, a->tableau, n * (m + n) * sizeof *s->tableau) == 0
+    return memcmp(s->tableau, a->tableau, n * (m + n) * sizeof *s->tableau) == 0 && behind_is_marked(p, s->tableau, s->strides)
            && memcmp(s->after, a->values, n * sizeof *s->after) == 0 && memcmp(s->strides, a->strides, n * sizeof *s->strides) == 0
            && a->report[1] == (part == KORALIMBU_PART_BOUNDS) && a->report[2] == (part == KORALIMBU_PART_GOALS);
 }
@@ -188,19 +249,20 @@ static void previewed(const char *what, const struct posed *p, uint32_t wanted)
     check(what, wanted == KORALIMBU_ACCEPTED ? as_continued(p, &s, &a) : left_alone(p, &s));
 }
 
-/* Both calls and the preview return a number; with a refusal the report is all 0. The preview has no limit. */
+/* Both calls and the preview return a number; with a refusal they leave what they were lent. The preview has no limit. */
 static void both(const char *what, const struct posed *p, uint32_t wanted)
 {
-    static const uint32_t nothing[KORALIMBU_REPORT_COUNT];
+    static struct posed copy;
     static struct answer a;
     engine *calls[] = {koralimbu_assign, koralimbu_continue};
     size_t k;
 
+    memcpy(&copy, p, sizeof copy);
     for (k = 0; k < 2; k++) {
         settle(calls[k], p, &a);
         expect(what, a.number, wanted);
-        if (wanted != KORALIMBU_ACCEPTED)
-            check(what, memcmp(a.report, nothing, sizeof nothing) == 0);
+        check(what, wanted == KORALIMBU_ACCEPTED ? behind_is_marked(p, a.tableau, a.strides) : kept(p, &a));
+        check(what, memcmp(&copy, p, sizeof copy) == 0);
     }
     previewed(what, p, wanted == KORALIMBU_REFUSED_LIMIT ? KORALIMBU_ACCEPTED : wanted);
 }
@@ -223,17 +285,27 @@ static void continued(const char *what, const struct posed *p, uint32_t wanted)
     previewed(what, p, wanted);
 }
 
+/* What a reader leaves with a refusal: as it was lent, but for the sizes. */
+static int deck_kept(const struct deck *d)
+{
+    return all_are(d->coefficients, KORALIMBU_DECK_COEFFICIENTS, MARK) && all_are(d->rights, KORALIMBU_DECK_ROWS, MARK)
+           && all_are(d->lower, KORALIMBU_DECK_COLUMNS, MARK) && all_are(d->upper, KORALIMBU_DECK_COLUMNS, MARK)
+           && all_are(d->goals, KORALIMBU_DECK_COLUMNS, MARK) && all_are(d->given, KORALIMBU_DECK_COLUMNS + 1, MARK)
+           && all_are(d->ideals, KORALIMBU_DECK_COLUMNS + 1, MARK) && d->sizes[0] == 0 && d->sizes[1] == 0 && d->sizes[2] == 0;
+}
+
 static void reads(const char *what, const char *text, uint32_t wanted)
 {
     static struct deck d;
 
     read_text((const uint8_t *)text, strlen(text), &d);
     expect(what, d.number, wanted);
+    check(what, wanted == KORALIMBU_ACCEPTED || deck_kept(&d));
 }
 
 /* ---------------------------------------------------------------- null pointers */
 
-enum { LOWER, UPPER, GOALS, TABLEAU, VALUES, STRIDES, REPORT, STANDING, TAKEN, COEFFICIENTS, RIGHTS, SIZES };
+enum { LOWER, UPPER, GOALS, GIVEN, IDEALS, TABLEAU, VALUES, STRIDES, REPORT, STANDING, TAKEN, COEFFICIENTS, RIGHTS, SIZES };
 
 /* Null with a count of 0 at one place, and what is lent otherwise. */
 #define LENT(place, pointer, count) none == (place) ? NULL : (pointer), none == (place) ? 0 : (size_t)(count)
@@ -241,24 +313,25 @@ enum { LOWER, UPPER, GOALS, TABLEAU, VALUES, STRIDES, REPORT, STANDING, TAKEN, C
 /* One column without rows, so that the first two buffers have no numbers. */
 static uint32_t without(engine *call, int none)
 {
-    int64_t lower = 3, upper = 5, goals = 0, tableau = 0, values = 4;
+    int64_t lower = 3, upper = 5, goals = 0, given = 1, ideals = 4, tableau = 0, values = 4;
     uint64_t strides = 0;
     uint32_t report[KORALIMBU_REPORT_COUNT];
 
     return call(1, 0, LIMIT, NULL, 0, NULL, 0, LENT(LOWER, &lower, 1), LENT(UPPER, &upper, 1), LENT(GOALS, &goals, 1),
-                LENT(TABLEAU, &tableau, 1), LENT(VALUES, &values, 1), LENT(STRIDES, &strides, 1),
+                LENT(GIVEN, &given, 1), LENT(IDEALS, &ideals, 1), LENT(TABLEAU, &tableau, 1), LENT(VALUES, &values, 1), LENT(STRIDES, &strides, 1),
                 LENT(REPORT, report, KORALIMBU_REPORT_COUNT));
 }
 
 static uint32_t preview_without(int none)
 {
-    int64_t lower = 3, upper = 5, goals = 0, standing = 4, tableau = 0, after = 0;
+    int64_t lower = 3, upper = 5, goals = 0, given = 1, ideals = 4, standing = 4, tableau = 0, after = 0;
     uint64_t strides = 0;
     uint32_t report[KORALIMBU_PREVIEW_COUNT];
 
     return koralimbu_preview(1, 0, NULL, 0, NULL, 0, LENT(LOWER, &lower, 1), LENT(UPPER, &upper, 1), LENT(GOALS, &goals, 1),
-                             LENT(STANDING, &standing, 1), LENT(TABLEAU, &tableau, 1), LENT(VALUES, &after, 1),
-                             LENT(STRIDES, &strides, 1), LENT(REPORT, report, KORALIMBU_PREVIEW_COUNT));
+                             LENT(GIVEN, &given, 1), LENT(IDEALS, &ideals, 1), LENT(STANDING, &standing, 1),
+                             LENT(TABLEAU, &tableau, 1), LENT(VALUES, &after, 1), LENT(STRIDES, &strides, 1),
+                             LENT(REPORT, report, KORALIMBU_PREVIEW_COUNT));
 }
 
 static uint32_t read_without(int none)
@@ -268,6 +341,7 @@ static uint32_t read_without(int none)
     return koralimbu_read((const uint8_t *)paving, sizeof paving - 1, LENT(COEFFICIENTS, d.coefficients, KORALIMBU_DECK_COEFFICIENTS),
                           LENT(RIGHTS, d.rights, KORALIMBU_DECK_ROWS), LENT(LOWER, d.lower, KORALIMBU_DECK_COLUMNS),
                           LENT(UPPER, d.upper, KORALIMBU_DECK_COLUMNS), LENT(GOALS, d.goals, KORALIMBU_DECK_COLUMNS),
+                          LENT(GIVEN, d.given, KORALIMBU_DECK_COLUMNS), LENT(IDEALS, d.ideals, KORALIMBU_DECK_COLUMNS),
                           LENT(SIZES, d.sizes, KORALIMBU_SIZES_COUNT));
 }
 
@@ -277,13 +351,15 @@ static void all_null(engine *call)
     uint32_t report[KORALIMBU_REPORT_COUNT];
 
     expect("no column and every buffer null",
-           call(0, 0, 0, NULL, 0, NULL, 0, NULL, 0, NULL, 0, NULL, 0, NULL, 0, NULL, 0, NULL, 0, report, KORALIMBU_REPORT_COUNT),
+           call(0, 0, 0, NULL, 0, NULL, 0, NULL, 0, NULL, 0, NULL, 0, NULL, 0, NULL, 0, NULL, 0, NULL, 0, NULL, 0,
+                report, KORALIMBU_REPORT_COUNT),
            KORALIMBU_REFUSED_SIZE);
     expect("a column and every buffer null",
-           call(1, 0, 0, NULL, 0, NULL, 0, NULL, 0, NULL, 0, NULL, 0, NULL, 0, NULL, 0, NULL, 0, report, KORALIMBU_REPORT_COUNT),
+           call(1, 0, 0, NULL, 0, NULL, 0, NULL, 0, NULL, 0, NULL, 0, NULL, 0, NULL, 0, NULL, 0, NULL, 0, NULL, 0,
+                report, KORALIMBU_REPORT_COUNT),
            KORALIMBU_REFUSED_LENGTH);
     expect("every buffer null, the report too",
-           call(1, 0, 0, NULL, 0, NULL, 0, NULL, 0, NULL, 0, NULL, 0, NULL, 0, NULL, 0, NULL, 0, NULL, 0),
+           call(1, 0, 0, NULL, 0, NULL, 0, NULL, 0, NULL, 0, NULL, 0, NULL, 0, NULL, 0, NULL, 0, NULL, 0, NULL, 0, NULL, 0),
            KORALIMBU_REFUSED_LENGTH);
 }
 
@@ -293,18 +369,19 @@ static void preview_all_null(void)
 
     expect("a preview of no column and every buffer null",
            koralimbu_preview(0, 0, NULL, 0, NULL, 0, NULL, 0, NULL, 0, NULL, 0, NULL, 0, NULL, 0, NULL, 0, NULL, 0,
-                             report, KORALIMBU_PREVIEW_COUNT), KORALIMBU_REFUSED_SIZE);
+                             NULL, 0, NULL, 0, report, KORALIMBU_PREVIEW_COUNT), KORALIMBU_REFUSED_SIZE);
     expect("a preview of a column and every buffer null",
            koralimbu_preview(1, 0, NULL, 0, NULL, 0, NULL, 0, NULL, 0, NULL, 0, NULL, 0, NULL, 0, NULL, 0, NULL, 0,
-                             report, KORALIMBU_PREVIEW_COUNT), KORALIMBU_REFUSED_LENGTH);
+                             NULL, 0, NULL, 0, report, KORALIMBU_PREVIEW_COUNT), KORALIMBU_REFUSED_LENGTH);
     expect("a preview with every buffer null, the report too",
-           koralimbu_preview(0, 0, NULL, 0, NULL, 0, NULL, 0, NULL, 0, NULL, 0, NULL, 0, NULL, 0, NULL, 0, NULL, 0, NULL, 0),
+           koralimbu_preview(0, 0, NULL, 0, NULL, 0, NULL, 0, NULL, 0, NULL, 0, NULL, 0, NULL, 0, NULL, 0, NULL, 0,
+                             NULL, 0, NULL, 0, NULL, 0),
            KORALIMBU_REFUSED_LENGTH);
 }
 
 static void try_null_pointers(void)
 {
-    static const int lent[] = {COEFFICIENTS, RIGHTS, LOWER, UPPER, GOALS, SIZES};
+    static const int lent[] = {COEFFICIENTS, RIGHTS, LOWER, UPPER, GOALS, GIVEN, IDEALS, SIZES};
     static struct deck d;
     engine *calls[] = {koralimbu_assign, koralimbu_continue};
     size_t k;
@@ -325,7 +402,7 @@ static void try_null_pointers(void)
         expect("a null buffer of a deck", read_without(lent[k]), KORALIMBU_REFUSED_LENGTH);
     read_text(NULL, 0, &d);
     expect("a null text", d.number, KORALIMBU_REFUSED_LAYOUT);
-    expect("a deck's buffers all null", koralimbu_read(NULL, 0, NULL, 0, NULL, 0, NULL, 0, NULL, 0, NULL, 0, NULL, 0),
+    expect("a deck's buffers all null", koralimbu_read(NULL, 0, NULL, 0, NULL, 0, NULL, 0, NULL, 0, NULL, 0, NULL, 0, NULL, 0, NULL, 0),
            KORALIMBU_REFUSED_LENGTH);
 }
 
@@ -455,14 +532,14 @@ static void try_verdicts(void)
 /* A report of another count is not written. */
 static void try_report(void)
 {
-    int64_t lower = 3, upper = 5, goals = 0, tableau = 0, values = 4;
+    int64_t lower = 3, upper = 5, goals = 0, given = 0, ideals = 0, tableau = 0, values = 4;
     uint64_t strides = 0;
     uint32_t report[KORALIMBU_REPORT_COUNT + 1] = {MARK, MARK, MARK, MARK};
     size_t count;
 
     for (count = KORALIMBU_REPORT_COUNT - 1; count <= KORALIMBU_REPORT_COUNT + 1; count += 2) {
         expect("a report of another count", koralimbu_assign(1, 0, LIMIT, NULL, 0, NULL, 0, &lower, 1, &upper, 1, &goals, 1,
-               &tableau, 1, &values, 1, &strides, 1, report, count), KORALIMBU_REFUSED_LENGTH);
+               &given, 1, &ideals, 1, &tableau, 1, &values, 1, &strides, 1, report, count), KORALIMBU_REFUSED_LENGTH);
         check("what such a report is left as", report[0] == MARK && report[1] == MARK && report[2] == MARK);
     }
 }
@@ -536,7 +613,7 @@ static void try_a_pair(void)
 /* Counts that are not a preview's. A report of another count is not written. */
 static void try_preview_counts(void)
 {
-    int64_t lower = 3, upper = 5, goals = 0, standing[2] = {1, 1}, tableau = MARK, after[2] = {MARK, MARK};
+    int64_t lower = 3, upper = 5, goals = 0, given = 0, ideals = 0, standing[2] = {1, 1}, tableau = MARK, after[2] = {MARK, MARK};
     uint64_t strides = MARK;
     uint32_t report[KORALIMBU_PREVIEW_COUNT + 1];
     size_t counts[][3] = {{2, 1, KORALIMBU_PREVIEW_COUNT}, {0, 1, KORALIMBU_PREVIEW_COUNT}, {1, 2, KORALIMBU_PREVIEW_COUNT},
@@ -549,8 +626,9 @@ static void try_preview_counts(void)
 
         for (j = 0; j <= KORALIMBU_PREVIEW_COUNT; j++)
             report[j] = MARK;
-        expect("a preview's other count", koralimbu_preview(1, 0, NULL, 0, NULL, 0, &lower, 1, &upper, 1, &goals, 1, standing, counts[k][0],
-               &tableau, 1, after, counts[k][1], &strides, 1, report, counts[k][2]), KORALIMBU_REFUSED_LENGTH);
+        expect("a preview's other count", koralimbu_preview(1, 0, NULL, 0, NULL, 0, &lower, 1, &upper, 1, &goals, 1,
+               &given, 1, &ideals, 1, standing, counts[k][0], &tableau, 1, after, counts[k][1], &strides, 1, report, counts[k][2]),
+               KORALIMBU_REFUSED_LENGTH);
         check("the lists at such a count", tableau == MARK && all_are(after, 2, MARK) && strides == MARK && all_are(standing, 2, 1));
         for (j = 0; j < KORALIMBU_PREVIEW_COUNT && report[j] == left; j++)
             ;
@@ -558,7 +636,252 @@ static void try_preview_counts(void)
     }
     /* The report comes first: there is no column either. */
     expect("a report of another count and no column", koralimbu_preview(0, 0, NULL, 0, NULL, 0, NULL, 0, NULL, 0, NULL, 0, NULL, 0, NULL, 0,
-           NULL, 0, NULL, 0, report, 1), KORALIMBU_REFUSED_LENGTH);
+           NULL, 0, NULL, 0, NULL, 0, NULL, 0, report, 1), KORALIMBU_REFUSED_LENGTH);
+}
+
+/* ---------------------------------------------------------------- ideals */
+
+/* A whole assignment seats the columns at these values, where no step improves them. It only reads the problem. */
+static void seats(const char *what, const struct posed *p, const int64_t *values)
+{
+    static const uint32_t at_rest[KORALIMBU_REPORT_COUNT] = {KORALIMBU_FITTED};
+    static struct posed copy;
+    static struct answer a;
+
+    memcpy(&copy, p, sizeof copy);
+    settle(koralimbu_assign, p, &a);
+    expect(what, a.number, KORALIMBU_ACCEPTED);
+    check(what, memcmp(a.report, at_rest, sizeof at_rest) == 0 && behind_is_marked(p, a.tableau, a.strides));
+    check(what, memcmp(a.values, values, p->n * sizeof *values) == 0);
+    check(what, memcmp(&copy, p, sizeof copy) == 0);
+}
+
+/* Three columns with bounds 3 and 7: one without an ideal, whatever its number, one with this mark and number, and one whose goal is 5. */
+static void try_ideal(int64_t given, int64_t ideal, int64_t wanted)
+{
+    static struct posed p;
+    int64_t values[3] = {3, wanted, 5};
+
+    pose(&p, 3, 0);
+    fill(p.lower, 3, 3);
+    fill(p.upper, 3, 7);
+    p.goals[2] = 5000;
+    p.given[1] = p.given[2] = given;
+    fill(p.ideals, 3, ideal);
+    seats("an ideal", &p, values);
+}
+
+static void try_ideals(void)
+{
+    static const int64_t marks[] = {1, -1, 2, MARK, INT64_MIN, INT64_MAX};
+    static const int64_t ideals[][2] = {{INT64_MIN, 3}, {INT64_MIN + 1, 3}, {-1, 3}, {0, 3}, {2, 3}, {3, 3}, {4, 4}, {6, 6}, {7, 7},
+                                        {8, 7}, {KORALIMBU_M, 7}, {INT64_MAX - 1, 7}, {INT64_MAX, 7}};
+    size_t k, j;
+
+    for (k = 0; k < sizeof ideals / sizeof *ideals; k++) {
+        for (j = 0; j < sizeof marks / sizeof *marks; j++)
+            try_ideal(marks[j], ideals[k][0], ideals[k][1]);
+        try_ideal(0, ideals[k][0], 3);
+    }
+}
+
+/* v1 + v2 = 2 v3, where v1 wants 5 and so leaves 5 for v2: without an ideal it stays there, and is not pulled to 0. */
+static void try_no_ideal(void)
+{
+    static struct posed p;
+    static const int64_t stays[] = {5, 5, 5}, pulled[] = {5, 1, 3};
+
+    pose(&p, 3, 1);
+    p.coefficients[0] = p.coefficients[1] = 1;
+    p.coefficients[2] = -2;
+    p.lower[0] = 1;
+    p.goals[0] = 5000;
+    seats("no ideal", &p, stays);
+    p.ideals[1] = INT64_MIN;
+    seats("no ideal, whatever its number", &p, stays);
+    p.given[1] = 1;
+    p.ideals[1] = 0;
+    seats("the ideal 0", &p, pulled);
+}
+
+/* An ideal within its bounds can pull another column beyond M. */
+static void try_far_ideal(void)
+{
+    static struct posed p;
+
+    pose_chain(&p, 3);
+    fill(p.upper, 3, KORALIMBU_RANGE_BOUND);
+    assigned("no ideal", &p, KORALIMBU_ACCEPTED, KORALIMBU_FITTED);
+    p.given[0] = 1;
+    p.ideals[0] = INT64_MAX;
+    assigned("an ideal that pulls beyond M", &p, KORALIMBU_REFUSED_SEATING, 0);
+    continued("Continue with such an ideal", &p, KORALIMBU_ACCEPTED);
+}
+
+/* Continue and the preview leave what they leave without ideals. */
+static void try_unused_ideals(void)
+{
+    static const int64_t numbers[] = {0, 1, MARK, INT64_MIN, INT64_MAX};
+    static struct posed p;
+    static struct answer plain, with;
+    static struct seen plain_seen, with_seen;
+    size_t k;
+
+    pose(&p, 2, 1);
+    p.coefficients[0] = 1;
+    p.coefficients[1] = -1;
+    p.lower[0] = 1;
+    p.goals[0] = 8000;
+    p.lower[1] = 5;
+    p.start[0] = p.start[1] = 2;
+    settle(koralimbu_continue, &p, &plain);
+    look(&p, &plain_seen);
+    check("steps without ideals", plain.report[1] == 3 && plain.report[2] == 3 && plain_seen.report[0] == KORALIMBU_PART_BOUNDS);
+    for (k = 0; k < 25; k++) {
+        fill(p.given, 2, numbers[k / 5]);
+        fill(p.ideals, 2, numbers[k % 5]);
+        settle(koralimbu_continue, &p, &with);
+        check("Continue with ideals", memcmp(&with, &plain, sizeof with) == 0);
+        look(&p, &with_seen);
+        check("a preview with ideals", memcmp(&with_seen, &plain_seen, sizeof with_seen) == 0);
+        previewed("a preview with ideals", &p, KORALIMBU_ACCEPTED);
+    }
+}
+
+/* All three calls refuse so many numbers of given and of ideals, and leave what they were lent. */
+static void counted(const char *what, const struct posed *p, size_t given, size_t ideals, uint32_t wanted)
+{
+    static struct posed copy;
+    static struct answer a;
+    static struct seen s;
+    engine *calls[] = {koralimbu_assign, koralimbu_continue};
+    size_t k;
+
+    memcpy(&copy, p, sizeof copy);
+    for (k = 0; k < 2; k++) {
+        settle_with(calls[k], p, &a, given, ideals);
+        expect(what, a.number, wanted);
+        check(what, kept(p, &a));
+    }
+    look_with(p, &s, given, ideals);
+    expect(what, s.number, wanted);
+    check(what, left_alone(p, &s));
+    check(what, memcmp(&copy, p, sizeof copy) == 0);
+}
+
+/* None, one less, one more and the most, of one list, of the other and of both, where n are needed. */
+static void miscounted(const char *what, const struct posed *p, uint32_t wanted)
+{
+    size_t counts[] = {0, p->n == 0 ? 1 : p->n - 1, p->n < COLUMNS ? p->n + 1 : 1, COLUMNS}, k, j;
+
+    for (k = 0; k < 4; k++) {
+        if (counts[k] == p->n)
+            continue;
+        counted(what, p, counts[k], p->n, wanted);
+        counted(what, p, p->n, counts[k], wanted);
+        for (j = 0; j < 4; j++)
+            counted(what, p, counts[k], counts[j], wanted);
+    }
+}
+
+/* A wrong count of ideals beside what else can be wrong: sizes are told before it, everything else after it. */
+static void try_ideal_counts(void)
+{
+    static struct posed p;
+
+    pose(&p, 2, 1);
+    p.coefficients[0] = 1;
+    p.coefficients[1] = -1;
+    fill(p.given, COLUMNS, INT64_MIN);
+    fill(p.ideals, COLUMNS, INT64_MAX);
+    both("counts of ideals", &p, KORALIMBU_ACCEPTED);
+    miscounted("a wrong count of ideals", &p, KORALIMBU_REFUSED_LENGTH);
+    p.start[1] = 1;
+    miscounted("a wrong count before a list that fails a row", &p, KORALIMBU_REFUSED_LENGTH);
+    p.limit = KORALIMBU_MOST_STEPS + 1;
+    miscounted("a wrong count before a limit", &p, KORALIMBU_REFUSED_LENGTH);
+    p.goals[1] = -1;
+    miscounted("a wrong count before a goal", &p, KORALIMBU_REFUSED_LENGTH);
+    p.lower[0] = 11;
+    miscounted("a wrong count before a bound", &p, KORALIMBU_REFUSED_LENGTH);
+    p.coefficients[0] = KORALIMBU_RANGE_COEFFICIENT + 1;
+    miscounted("a wrong count before a coefficient", &p, KORALIMBU_REFUSED_LENGTH);
+    p.n = 0;
+    miscounted("no column before a wrong count", &p, KORALIMBU_REFUSED_SIZE);
+    p.n = KORALIMBU_MOST_COLUMNS + 1;
+    miscounted("a column too many before a wrong count", &p, KORALIMBU_REFUSED_SIZE);
+    p.n = 2;
+    p.m = KORALIMBU_MOST_ROWS + 1;
+    miscounted("a row too many before a wrong count", &p, KORALIMBU_REFUSED_SIZE);
+    pose_chain(&p, 5);
+    miscounted("a wrong count before an elimination beyond M", &p, KORALIMBU_REFUSED_LENGTH);
+    pose(&p, KORALIMBU_MOST_COLUMNS, 0);
+    miscounted("a wrong count of the most columns", &p, KORALIMBU_REFUSED_LENGTH);
+}
+
+/* ---------------------------------------------------------------- the reader's ideals */
+
+/* The first ideals of a deck, unset where they are 0; behind them there are none, and what lies behind the lists is as it was. */
+static void reads_ideals(const char *what, const char *text, size_t n, const int64_t *ideals)
+{
+    static struct deck d;
+    size_t j, rest = KORALIMBU_DECK_COLUMNS - n;
+
+    read_text((const uint8_t *)text, strlen(text), &d);
+    expect(what, d.number, KORALIMBU_ACCEPTED);
+    check(what, d.sizes[0] == n);
+    for (j = 0; j < n && d.given[j] == (ideals[j] != 0) && d.ideals[j] == ideals[j]; j++)
+        ;
+    check(what, j == n && all_are(d.given + n, rest, 0) && all_are(d.ideals + n, rest, 0));
+    check(what, d.given[KORALIMBU_DECK_COLUMNS] == MARK && d.ideals[KORALIMBU_DECK_COLUMNS] == MARK);
+}
+
+/* Curve 1 is plain. It shares two rows with curve 2 and one with curve 3; with curve 4 it shares none. */
+static void try_deck_ideals(void)
+{
+    static const int64_t beside[] = {6, 0, 0, 0}, added[] = {6, 0, 0, 0, 0, 0}, none[6];
+
+    reads_ideals("the mean of 4 and 9, each counted once", "4 1 99 0 1 99 4000 1 99 9000 1 99 80000 2 0 0 2 1 1 2 -1 0 0 3 1 1 2 1 3 -1",
+                 4, beside);
+    reads_ideals("no ideal of an added column", "4 1 99 0 1 99 4000 1 99 9000 1 99 80000 2 1 0 2 1 5 2 -1 3 0 3 1 1 2 1 3 -1", 6, added);
+    reads_ideals("the bounds of neighbours", "4 -3 -2 0 1 3 4000 9 9 1000 1 99 80000 1 0 0 3 1 1 2 1 3 -1", 4, beside);
+    reads_ideals("no row", "2 1 99 0 1 99 4000 0", 2, none);
+    reads_ideals("a row alone", "2 1 99 0 1 99 4000 1 3 0 1 1 1", 3, none);
+    reads_ideals("no plain curve", "2 1 99 3000 1 99 4000 1 3 0 2 1 1 2 1", 3, none);
+    reads_ideals("none but plain curves", "2 1 99 0 1 99 0 1 3 0 2 1 1 2 1", 3, none);
+}
+
+/* A plain curve beside all others of the largest deck, each of which wants the most. */
+static void try_most_neighbours(void)
+{
+    static char text[TEXT + 1];
+    static int64_t most[KORALIMBU_DECK_COLUMNS] = {KORALIMBU_RANGE_BOUND};
+    size_t k, end;
+
+    end = (size_t)sprintf(text, "%d -5 5 0 ", KORALIMBU_DECK_COLUMNS);
+    for (k = 1; k < KORALIMBU_DECK_COLUMNS; k++)
+        end += (size_t)sprintf(text + end, "1 %d %d ", KORALIMBU_RANGE_BOUND, KORALIMBU_RANGE_GOAL);
+    end += (size_t)sprintf(text + end, "1 0 0 %d", KORALIMBU_DECK_COLUMNS);
+    for (k = 1; k <= KORALIMBU_DECK_COLUMNS; k++)
+        end += (size_t)sprintf(text + end, " %zu -1000", k);
+    reads_ideals("the most neighbours with the largest goals", text, KORALIMBU_DECK_COLUMNS, most);
+}
+
+/* Counts of the reader's two lists that do not fit are told before the text is looked at. */
+static void try_deck_ideal_counts(void)
+{
+    static const size_t counts[] = {KORALIMBU_DECK_COLUMNS, 0, 1, KORALIMBU_DECK_COLUMNS - 1, KORALIMBU_DECK_COLUMNS + 1};
+    static const char *const texts[] = {paving, "", "no deck", "0 0", "1 5 3 0 0"};
+    static struct deck d;
+    size_t k, j, t;
+
+    for (k = 0; k < 5; k++)
+        for (j = k == 0; j < 5; j++)
+            for (t = 0; t < 5; t++) {
+                read_with((const uint8_t *)texts[t], strlen(texts[t]), &d, counts[k], counts[j]);
+                expect("a wrong count of the reader's ideals", d.number, KORALIMBU_REFUSED_LENGTH);
+                check("what such a count leaves", deck_kept(&d));
+            }
 }
 
 /* ---------------------------------------------------------------- a deck's limits */
@@ -580,6 +903,7 @@ static void read_made(const char *what, size_t curves, size_t rows, int kind, si
         memset(text + end, ' ', count - end);
     read_text((const uint8_t *)text, end < count ? count : end, &d);
     expect(what, d.number, wanted);
+    check(what, wanted == KORALIMBU_ACCEPTED || deck_kept(&d));
 }
 
 static void try_deck_limits(void)
@@ -621,7 +945,8 @@ static void try_deck_sizes(void)
     for (count = KORALIMBU_SIZES_COUNT - 1; count <= KORALIMBU_SIZES_COUNT + 1; count += 2) {
         expect("sizes of another count", koralimbu_read((const uint8_t *)paving, sizeof paving - 1, d.coefficients,
                KORALIMBU_DECK_COEFFICIENTS, d.rights, KORALIMBU_DECK_ROWS, d.lower, KORALIMBU_DECK_COLUMNS, d.upper,
-               KORALIMBU_DECK_COLUMNS, d.goals, KORALIMBU_DECK_COLUMNS, sizes, count), KORALIMBU_REFUSED_LENGTH);
+               KORALIMBU_DECK_COLUMNS, d.goals, KORALIMBU_DECK_COLUMNS, d.given, KORALIMBU_DECK_COLUMNS, d.ideals, KORALIMBU_DECK_COLUMNS,
+               sizes, count), KORALIMBU_REFUSED_LENGTH);
         check("what such sizes are left as", are(sizes, MARK, MARK, MARK));
     }
 }
@@ -711,11 +1036,25 @@ static void try_small_stack(const struct posed *p, const struct work *alone)
     check("the answers on a small stack", started && same(&small, alone));
 }
 
-int main(void)
+static void try_many_steps(void)
 {
     static struct posed pairs;
     static struct work alone;
 
+    pose_pairs(&pairs);
+    alone.posed = &pairs;
+    alone.rounds = 1;
+    work(&alone);
+    expect("many steps", alone.assigned.number, KORALIMBU_ACCEPTED);
+    check("many steps towards the bounds", alone.assigned.report[1] > 1000 && alone.continued.report[1] > 1000);
+    check("the first of them", alone.seen.number == KORALIMBU_ACCEPTED && alone.seen.report[0] == KORALIMBU_PART_BOUNDS);
+    previewed("the first of many steps", &pairs, KORALIMBU_ACCEPTED);
+    try_threads(&pairs, &alone);
+    try_small_stack(&pairs, &alone);
+}
+
+int main(void)
+{
     /* Whole lines, so that a call that crashes leaves what was found before it. */
     setvbuf(stdout, NULL, _IOLBF, BUFSIZ);
     expect("the version", koralimbu_version(), KORALIMBU_VERSION);
@@ -728,18 +1067,17 @@ int main(void)
     try_a_run();
     try_a_pair();
     try_preview_counts();
+    try_ideals();
+    try_no_ideal();
+    try_far_ideal();
+    try_unused_ideals();
+    try_ideal_counts();
+    try_deck_ideals();
+    try_most_neighbours();
+    try_deck_ideal_counts();
     try_deck_limits();
     try_deck_sizes();
-    pose_pairs(&pairs);
-    alone.posed = &pairs;
-    alone.rounds = 1;
-    work(&alone);
-    expect("many steps", alone.assigned.number, KORALIMBU_ACCEPTED);
-    check("many steps towards the bounds", alone.assigned.report[1] > 1000 && alone.continued.report[1] > 1000);
-    check("the first of them", alone.seen.number == KORALIMBU_ACCEPTED && alone.seen.report[0] == KORALIMBU_PART_BOUNDS);
-    previewed("the first of many steps", &pairs, KORALIMBU_ACCEPTED);
-    try_threads(&pairs, &alone);
-    try_small_stack(&pairs, &alone);
+    try_many_steps();
     printf("%d passed, %d failed\n", passed, failed);
     return failed != 0;
 }

@@ -25,6 +25,7 @@ static const char paving[] = "3\n"
 static uint8_t text[ROOM];
 static int64_t coefficients[KORALIMBU_DECK_COEFFICIENTS], rights[KORALIMBU_DECK_ROWS];
 static int64_t lower[KORALIMBU_DECK_COLUMNS], upper[KORALIMBU_DECK_COLUMNS], goals[KORALIMBU_DECK_COLUMNS];
+static int64_t given[KORALIMBU_DECK_COLUMNS], ideals[KORALIMBU_DECK_COLUMNS];
 static int64_t tableau[KORALIMBU_MOST_TABLEAU], values[KORALIMBU_MOST_COLUMNS];
 static uint64_t strides[KORALIMBU_MOST_COLUMNS];
 
@@ -49,14 +50,15 @@ static uint32_t solve(size_t text_count, size_t *n, uint32_t report[KORALIMBU_RE
     uint32_t number = koralimbu_read(text, text_count, coefficients, KORALIMBU_DECK_COEFFICIENTS,
                                      rights, KORALIMBU_DECK_ROWS, lower, KORALIMBU_DECK_COLUMNS,
                                      upper, KORALIMBU_DECK_COLUMNS, goals, KORALIMBU_DECK_COLUMNS,
+                                     given, KORALIMBU_DECK_COLUMNS, ideals, KORALIMBU_DECK_COLUMNS,
                                      sizes, KORALIMBU_SIZES_COUNT);
 
     if (number != KORALIMBU_ACCEPTED)
         return number;
     *n = sizes[0];
     m = sizes[1];
-    /* The counts are exactly what n and m need; what lies behind them is not lent. */
-    return koralimbu_assign(*n, m, LIMIT, coefficients, m * *n, rights, m, lower, *n, upper, *n, goals, *n,
+    /* The counts are exactly what n and m need; what lies behind them is not lent. The ideals are the reader's. */
+    return koralimbu_assign(*n, m, LIMIT, coefficients, m * *n, rights, m, lower, *n, upper, *n, goals, *n, given, *n, ideals, *n,
                             tableau, *n * (m + *n), values, *n, strides, *n, report, KORALIMBU_REPORT_COUNT);
 }
 

@@ -1,5 +1,6 @@
 //! The calls of `include/koralimbu.h`, each behind a safe function.
 
+use crate::ideals::Handed;
 use crate::step::{step_of, PREVIEW_COUNT};
 use crate::{Answer, Buffers, DeckBuffers, PreviewBuffers, Problem, Refusal, Sizes, Step, Steps, Verdict};
 
@@ -15,6 +16,8 @@ extern "C" {
         lower: *const i64, lower_count: usize,
         upper: *const i64, upper_count: usize,
         goals: *const i64, goals_count: usize,
+        given: *const i64, given_count: usize,
+        ideals: *const i64, ideals_count: usize,
         tableau: *mut i64, tableau_count: usize,
         values: *mut i64, values_count: usize,
         strides: *mut u64, strides_count: usize,
@@ -28,6 +31,8 @@ extern "C" {
         lower: *const i64, lower_count: usize,
         upper: *const i64, upper_count: usize,
         goals: *const i64, goals_count: usize,
+        given: *const i64, given_count: usize,
+        ideals: *const i64, ideals_count: usize,
         tableau: *mut i64, tableau_count: usize,
         values: *mut i64, values_count: usize,
         strides: *mut u64, strides_count: usize,
@@ -41,6 +46,8 @@ extern "C" {
         lower: *const i64, lower_count: usize,
         upper: *const i64, upper_count: usize,
         goals: *const i64, goals_count: usize,
+        given: *const i64, given_count: usize,
+        ideals: *const i64, ideals_count: usize,
         standing: *const i64, standing_count: usize,
         tableau: *mut i64, tableau_count: usize,
         after: *mut i64, after_count: usize,
@@ -55,6 +62,8 @@ extern "C" {
         lower: *mut i64, lower_count: usize,
         upper: *mut i64, upper_count: usize,
         goals: *mut i64, goals_count: usize,
+        given: *mut i64, given_count: usize,
+        ideals: *mut i64, ideals_count: usize,
         sizes: *mut usize, sizes_count: usize,
     ) -> u32;
 }
@@ -80,9 +89,10 @@ pub fn settle(call: Call, problem: &Problem, buffers: &mut Buffers) -> Result<An
     };
     let Problem { columns, rows, limit } = problem;
     let (n, m) = (columns.lower.len(), rows.rights.len());
+    let handed = Handed::of(columns.ideals);
     let mut report = [0; REPORT_COUNT];
-    // Sound: a slice's pointer is never null, each count is its slice's, and no `&mut` slice overlaps another. The shared slices
-    // may overlap each other, and are only read.
+    // Sound: a slice's pointer is never null, each count is its slice's, or no more than its array has, and no `&mut` slice overlaps
+    // another. The shared slices may overlap each other, and are only read.
     #[rustfmt::skip]
     let number = unsafe {
         function(
@@ -92,6 +102,8 @@ pub fn settle(call: Call, problem: &Problem, buffers: &mut Buffers) -> Result<An
             columns.lower.as_ptr(), columns.lower.len(),
             columns.upper.as_ptr(), columns.upper.len(),
             columns.goals.as_ptr(), columns.goals.len(),
+            handed.given.as_ptr(), handed.count,
+            handed.ideals.as_ptr(), handed.count,
             buffers.tableau.as_mut_ptr(), buffers.tableau.len(),
             buffers.values.as_mut_ptr(), buffers.values.len(),
             buffers.strides.as_mut_ptr(), buffers.strides.len(),
@@ -116,6 +128,7 @@ pub fn verdict_of(number: u32) -> Result<Verdict, Refusal> {
 pub fn preview(problem: &Problem, standing: &[i64], buffers: &mut PreviewBuffers) -> Result<Option<Step>, Refusal> {
     let Problem { columns, rows, limit: _ } = problem;
     let (n, m) = (columns.lower.len(), rows.rights.len());
+    let handed = Handed::of(columns.ideals);
     let mut report = [0; PREVIEW_COUNT];
     // Sound for the reasons above.
     #[rustfmt::skip]
@@ -127,6 +140,8 @@ pub fn preview(problem: &Problem, standing: &[i64], buffers: &mut PreviewBuffers
             columns.lower.as_ptr(), columns.lower.len(),
             columns.upper.as_ptr(), columns.upper.len(),
             columns.goals.as_ptr(), columns.goals.len(),
+            handed.given.as_ptr(), handed.count,
+            handed.ideals.as_ptr(), handed.count,
             standing.as_ptr(), standing.len(),
             buffers.tableau.as_mut_ptr(), buffers.tableau.len(),
             buffers.after.as_mut_ptr(), buffers.after.len(),
@@ -139,6 +154,7 @@ pub fn preview(problem: &Problem, standing: &[i64], buffers: &mut PreviewBuffers
 }
 
 pub fn read(text: &[u8], buffers: &mut DeckBuffers) -> Result<Sizes, Refusal> {
+    let mut handed = Handed::of(buffers.ideals);
     let mut sizes = [0; SIZES_COUNT];
     // Sound for the reasons above.
     #[rustfmt::skip]
@@ -150,10 +166,13 @@ pub fn read(text: &[u8], buffers: &mut DeckBuffers) -> Result<Sizes, Refusal> {
             buffers.lower.as_mut_ptr(), buffers.lower.len(),
             buffers.upper.as_mut_ptr(), buffers.upper.len(),
             buffers.goals.as_mut_ptr(), buffers.goals.len(),
+            handed.given.as_mut_ptr(), handed.count,
+            handed.ideals.as_mut_ptr(), handed.count,
             sizes.as_mut_ptr(), sizes.len(),
         )
     };
     Refusal::check(number)?;
+    handed.leave(buffers.ideals);
     let [columns, rows, curves] = sizes;
     Ok(Sizes { columns, rows, curves })
 }

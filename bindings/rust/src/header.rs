@@ -93,6 +93,49 @@ fn the_version_is_the_headers_and_the_librarys() {
     assert_eq!(crate::version(), crate::VERSION);
 }
 
+/// The calls' declarations in this package.
+const CALLS: &str = include_str!("calls.rs");
+
+/// The parameters that stand behind some words, up to the closing bracket.
+fn parameters(text: &'static str, words: &str) -> Vec<&'static str> {
+    let (_, behind) = text.split_once(words).unwrap_or_else(|| panic!("no {words}"));
+    let (list, _) = behind.split_once(')').unwrap_or_else(|| panic!("no end of {words}"));
+    list.split(',').map(str::trim).filter(|parameter| !["", "void"].contains(parameter)).collect()
+}
+
+/// A parameter of the header as Rust declares it.
+fn in_rust(parameter: &str) -> String {
+    let (kind, name) = parameter.rsplit_once([' ', '*']).unwrap_or_else(|| panic!("{parameter}"));
+    let number = match kind.trim().trim_start_matches("const ") {
+        "uint8_t" => "u8",
+        "uint32_t" => "u32",
+        "int64_t" => "i64",
+        "uint64_t" => "u64",
+        "size_t" => "usize",
+        other => panic!("{other}"),
+    };
+    let pointer = match (parameter.contains('*'), kind.starts_with("const ")) {
+        (true, true) => "*const ",
+        (true, false) => "*mut ",
+        (false, _) => "",
+    };
+    format!("{name}: {pointer}{number}")
+}
+
+/// A call that is declared otherwise than in the header would read and write what it was not lent.
+#[test]
+fn the_calls_are_declared_as_in_the_header() {
+    let calls: Vec<&str> = HEADER.lines().filter_map(|line| line.strip_prefix("uint32_t koralimbu_")).collect();
+    assert_eq!(calls.len(), HEADER.matches("\nuint32_t ").count());
+    assert_eq!(calls.len(), CALLS.matches("    fn koralimbu_").count());
+    for call in calls {
+        let name = call.split('(').next().unwrap_or(call);
+        let wanted: Vec<String> =
+            parameters(HEADER, &format!("\nuint32_t koralimbu_{name}(")).into_iter().map(in_rust).collect();
+        assert_eq!(parameters(CALLS, &format!("\n    fn koralimbu_{name}(")), wanted, "{name}");
+    }
+}
+
 /// A name that the header gains is compared too, or this fails.
 #[test]
 fn every_name_of_the_header_is_compared() {

@@ -27,6 +27,26 @@
 //! # Ok::<(), koralimbu::Refusal>(())
 //! ```
 //!
+//! A curve without a goal starts from the mean of what its neighbours want, the curves with a goal that it shares a row with. That mean is its
+//! ideal, which the reader hands in; any other number can be handed in too, or none:
+//!
+//! ```
+//! use koralimbu::{solve, Columns, Deck, Problem};
+//!
+//! let deck = Deck::read("3\n1 99 0\n1 99 6000\n1 99 9000\n1\n3 2 3 1 1 2 1 3 1\n")?;
+//! let problem = deck.problem(10_000);
+//! assert_eq!(problem.columns.ideals, [Some(7), None, None, None]);
+//! assert_eq!(solve(&problem)?.values, [7, 6, 9, 11]);
+//!
+//! let columns = Columns { ideals: &[Some(11), None, None, None], ..problem.columns };
+//! assert_eq!(solve(&Problem { columns, ..problem })?.values, [11, 6, 9, 13]);
+//!
+//! let Columns { lower, upper, goals, .. } = problem.columns;
+//! let columns = Columns::new(lower, upper, goals);
+//! assert_eq!(solve(&Problem { columns, ..problem })?.values, [1, 6, 9, 8]);
+//! # Ok::<(), koralimbu::Refusal>(())
+//! ```
+//!
 //! [`assign`], [`continue_from`], [`preview`] and [`read_deck`] are the engine's own calls, for callers who keep their buffers. They allocate
 //! nothing. What a call leaves in each buffer stands in `include/koralimbu.h`.
 //!
@@ -37,6 +57,7 @@
 mod calls;
 #[cfg(test)]
 mod header;
+mod ideals;
 mod limits;
 mod refusal;
 mod step;
@@ -48,7 +69,7 @@ pub use refusal::Refusal;
 pub use step::{basis, Change, Move, NextStep, Part, Sign, SignedVector, Step};
 pub use version::{version, VERSION};
 
-/// The bounds and the goal of each column. There are as many columns as lower bounds.
+/// The bounds, the goal and the ideal of each column. There are as many columns as lower bounds.
 #[derive(Clone, Copy, Debug)]
 pub struct Columns<'a> {
     /// The lower bounds.
@@ -57,6 +78,25 @@ pub struct Columns<'a> {
     pub upper: &'a [i64],
     /// In thousandths of an interval; 0 for none.
     pub goals: &'a [i64],
+    /// What is handed in for each column, any number; `None` for nothing.
+    ///
+    /// Before its first step a whole assignment seats the columns: it pulls them towards their ideals, as far as the rows let it. A column with a
+    /// goal has that of its goal, and what is handed in for it is not used. Without a goal it has the number that is handed in, brought into its
+    /// bounds; where none is, the value that it has then, brought into its bounds. So `None` is not `Some(0)`. Continue and the preview seat
+    /// nothing: to them only the length of this list matters.
+    pub ideals: &'a [Option<i64>],
+}
+
+/// What [`Columns::new`] hands in.
+static NO_IDEALS: [Option<i64>; MOST_COLUMNS] = [None; MOST_COLUMNS];
+
+impl<'a> Columns<'a> {
+    /// Columns for which no ideal is handed in.
+    pub fn new(lower: &'a [i64], upper: &'a [i64], goals: &'a [i64]) -> Columns<'a> {
+        // More columns are refused by their count, whatever is handed in.
+        let count = lower.len().min(MOST_COLUMNS);
+        Columns { lower, upper, goals, ideals: &NO_IDEALS[..count] }
+    }
 }
 
 /// The rows: in each, the coefficients times the columns add up to the right side. There are as many rows as right sides.
@@ -148,7 +188,7 @@ pub struct PreviewBuffers<'a> {
 /// use koralimbu::*;
 ///
 /// // v1 + v2 = v3: no single vector lifts the first column to its lower bound and keeps the third at 5.
-/// let columns = Columns { lower: &[1, 0, 5], upper: &[9, 9, 5], goals: &[0; 3] };
+/// let columns = Columns::new(&[1, 0, 5], &[9, 9, 5], &[0; 3]);
 /// let problem = Problem { columns, rows: Rows { coefficients: &[1, 1, -1], rights: &[0] }, limit: 0 };
 /// let (mut tableau, mut after, mut strides) = ([0; 12], [0; 3], [0; 3]);
 /// let mut buffers = PreviewBuffers { tableau: &mut tableau, after: &mut after, strides: &mut strides };
@@ -175,6 +215,12 @@ pub struct DeckBuffers<'a> {
     pub upper: &'a mut [i64],
     /// [`DECK_COLUMNS`] numbers; afterwards the goals.
     pub goals: &'a mut [i64],
+    /// [`DECK_COLUMNS`] places; afterwards the ideals that the reader hands in.
+    ///
+    /// The neighbours of a curve are the curves with a goal that have a coefficient other than 0 in some row where it has one too. A curve without a
+    /// goal gets the mean of their ideals, rounded down, each counted once however many rows it shares; theirs are those of their goals, brought
+    /// into their bounds. There is none for a curve without neighbours, for one with a goal, and for the columns behind the curves.
+    pub ideals: &'a mut [Option<i64>],
 }
 
 /// How large a deck's problem is.
@@ -195,12 +241,12 @@ impl Sizes {
     }
 }
 
-/// Reads a deck's text. The first numbers of each buffer are then the problem's, the others 0.
+/// Reads a deck's text. The first numbers of each buffer are then the problem's, the others 0, and no ideals.
 pub fn read_deck(text: &[u8], buffers: &mut DeckBuffers) -> Result<Sizes, Refusal> {
     calls::read(text, buffers)
 }
 
-/// A deck's problem, without its step limit.
+/// A deck's problem with the reader's ideals, without its step limit.
 #[derive(Clone, Debug, PartialEq, Eq)]
 pub struct Deck {
     curves: usize,
@@ -209,6 +255,7 @@ pub struct Deck {
     lower: Vec<i64>,
     upper: Vec<i64>,
     goals: Vec<i64>,
+    ideals: Vec<Option<i64>>,
 }
 
 impl Deck {
@@ -221,6 +268,7 @@ impl Deck {
             lower: vec![0; DECK_COLUMNS],
             upper: vec![0; DECK_COLUMNS],
             goals: vec![0; DECK_COLUMNS],
+            ideals: vec![None; DECK_COLUMNS],
         };
         let mut buffers = DeckBuffers {
             coefficients: &mut deck.coefficients,
@@ -228,6 +276,7 @@ impl Deck {
             lower: &mut deck.lower,
             upper: &mut deck.upper,
             goals: &mut deck.goals,
+            ideals: &mut deck.ideals,
         };
         let sizes = read_deck(text.as_ref(), &mut buffers)?;
         deck.curves = sizes.curves;
@@ -236,6 +285,7 @@ impl Deck {
         deck.lower.truncate(sizes.columns);
         deck.upper.truncate(sizes.columns);
         deck.goals.truncate(sizes.columns);
+        deck.ideals.truncate(sizes.columns);
         Ok(deck)
     }
 
@@ -252,7 +302,7 @@ impl Deck {
     /// The deck's problem with a step limit.
     pub fn problem(&self, limit: u32) -> Problem<'_> {
         Problem {
-            columns: Columns { lower: &self.lower, upper: &self.upper, goals: &self.goals },
+            columns: Columns { lower: &self.lower, upper: &self.upper, goals: &self.goals, ideals: &self.ideals },
             rows: Rows { coefficients: &self.coefficients, rights: &self.rights },
             limit,
         }

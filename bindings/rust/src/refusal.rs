@@ -84,7 +84,7 @@ impl Refusal {
                 "the rows' coefficients grow beyond 2,147,483,647 in the elimination: scale them down or split the deck"
             }
             NoWholeNumbers => "no whole numbers satisfy the rows",
-            Seating => "a goal pulls some column beyond ±2,147,483,647",
+            Seating => "a goal, an ideal or a bound pulls some column beyond ±2,147,483,647",
             Standing => "the standing list fails a row, or has a value beyond ±2,147,483,647",
             Layout => "a word is no number, a number is missing or one too many, or the text is over 32,768 bytes",
             Term => {

@@ -6,7 +6,7 @@ const LIMIT: u32 = 10_000;
 /// What a lent buffer holds before a call.
 const MARK: i64 = -77;
 
-/// A problem with its lists, all columns with the same bounds and goal until a test changes one.
+/// A problem with its lists, all columns with the same bounds, no goal and no ideal until a test changes one.
 #[derive(Clone)]
 struct Posed {
     coefficients: Vec<i64>,
@@ -14,6 +14,7 @@ struct Posed {
     lower: Vec<i64>,
     upper: Vec<i64>,
     goals: Vec<i64>,
+    ideals: Vec<Option<i64>>,
     limit: u32,
 }
 
@@ -25,13 +26,14 @@ impl Posed {
             lower: vec![lower; n],
             upper: vec![upper; n],
             goals: vec![0; n],
+            ideals: vec![None; n],
             limit: LIMIT,
         }
     }
 
     fn problem(&self) -> Problem<'_> {
         Problem {
-            columns: Columns { lower: &self.lower, upper: &self.upper, goals: &self.goals },
+            columns: Columns { lower: &self.lower, upper: &self.upper, goals: &self.goals, ideals: &self.ideals },
             rows: Rows { coefficients: &self.coefficients, rights: &self.rights },
             limit: self.limit,
         }
@@ -158,7 +160,7 @@ fn no_rows() {
 #[test]
 fn one_list_as_both_bounds() {
     let fixed = [4, 4];
-    let columns = Columns { lower: &fixed, upper: &fixed, goals: &[0, 0] };
+    let columns = Columns::new(&fixed, &fixed, &[0, 0]);
     let problem = Problem { columns, rows: Rows { coefficients: &[1, -1], rights: &[0] }, limit: LIMIT };
     assert_eq!(solve(&problem).unwrap().values, [4, 4]);
 }
@@ -174,6 +176,115 @@ fn the_largest_problem() {
     assert_eq!(lent.tableau.len(), MOST_TABLEAU);
     assert_eq!(assign(&posed.problem(), &mut lent.buffers()), answer(Verdict::Fitted, 0, 0));
     assert_eq!((lent.values, lent.strides), (vec![0; MOST_COLUMNS], vec![1; MOST_COLUMNS]));
+}
+
+// ---------------------------------------------------------------- ideals
+
+/// One column with bounds 3 and 7, no rows, and this goal and ideal: its value in a whole assignment.
+fn seated(goal: i64, ideal: Option<i64>) -> i64 {
+    let posed = Posed { goals: vec![goal], ideals: vec![ideal], ..Posed::new(&[], &[], 1, 3, 7) };
+    let solved = solve(&posed.problem()).unwrap();
+    assert_eq!((solved.verdict, solved.steps), (Verdict::Fitted, Steps { bounds: 0, goals: 0 }));
+    solved.values[0]
+}
+
+#[test]
+fn an_ideal_is_used_without_a_goal() {
+    for number in 3..=7 {
+        assert_eq!(seated(0, Some(number)), number);
+    }
+    // Without one the column is pulled to the bound that is nearest to its 0.
+    assert_eq!(seated(0, None), 3);
+}
+
+#[test]
+fn an_ideal_is_brought_into_the_bounds() {
+    for number in [i64::MIN, i64::MIN + 1, -M, -1, 0, 2] {
+        assert_eq!(seated(0, Some(number)), 3);
+    }
+    for number in [8, M, i64::MAX - 1, i64::MAX] {
+        assert_eq!(seated(0, Some(number)), 7);
+    }
+}
+
+#[test]
+fn an_ideal_is_not_used_with_a_goal() {
+    for ideal in [None, Some(i64::MIN), Some(0), Some(3), Some(7), Some(i64::MAX)] {
+        assert_eq!(seated(5000, ideal), 5);
+        assert_eq!(seated(1, ideal), 3);
+        assert_eq!(seated(RANGE_GOAL, ideal), 7);
+    }
+}
+
+/// v1 + v2 = 2 v3, where v1 wants 5. That leaves 5 for v2, which can only change by 2.
+fn halved(ideal: Option<i64>) -> Vec<i64> {
+    let mut posed = Posed::new(&[&[1, 1, -2]], &[0], 3, -9, 9);
+    posed.lower[0] = 1;
+    posed.goals[0] = 5000;
+    posed.ideals[1] = ideal;
+    solve(&posed.problem()).unwrap().values
+}
+
+#[test]
+fn no_ideal_is_not_the_ideal_0() {
+    assert_eq!(halved(None), [5, 5, 5]);
+    assert_eq!(halved(Some(0)), [5, 1, 3]);
+    assert_eq!(halved(Some(5)), [5, 5, 5]);
+    assert_eq!(halved(Some(-9)), [5, -9, -2]);
+}
+
+/// A column that leads in no vector gets what the rows leave for it.
+#[test]
+fn the_ideal_of_a_column_that_the_others_fix() {
+    let mut posed = Posed::new(&[&[1, -1]], &[0], 2, 1, 10);
+    posed.ideals = vec![Some(4), Some(9)];
+    assert_eq!(solve(&posed.problem()).unwrap().values, [4, 4]);
+    posed.ideals[0] = None;
+    assert_eq!(solve(&posed.problem()).unwrap().values, [1, 1]);
+}
+
+/// Each column has the ideal of its own place.
+#[test]
+fn the_largest_problem_with_ideals() {
+    let mut posed = Posed::new(&[], &[], MOST_COLUMNS, -RANGE_BOUND, RANGE_BOUND);
+    let number = |j: usize| j as i64 * 1000 - 20_000;
+    posed.ideals = (0..MOST_COLUMNS).map(|j| (j % 3 > 0).then_some(number(j))).collect();
+    let wanted: Vec<i64> = (0..MOST_COLUMNS).map(|j| if j % 3 > 0 { number(j) } else { 0 }).collect();
+    assert_eq!(solve(&posed.problem()).unwrap().values, wanted);
+}
+
+#[test]
+fn columns_without_ideals() {
+    let posed = Posed::tied();
+    let columns = Columns::new(&posed.lower, &posed.upper, &posed.goals);
+    assert_eq!(columns.ideals, [None, None]);
+    assert_eq!(solve(&Problem { columns, ..posed.problem() }), solve(&posed.problem()));
+    let list = [1; 1000];
+    let most = &list[..MOST_COLUMNS];
+    assert_eq!(Columns::new(most, most, most).ideals, [None; MOST_COLUMNS]);
+    for n in [0, MOST_COLUMNS + 1, 1000] {
+        let columns = Columns::new(&list[..n], &list[..n], &list[..n]);
+        assert_eq!(solve(&Problem { columns, ..Posed::new(&[], &[], n, 1, 1).problem() }), Err(Refusal::Size));
+    }
+}
+
+/// Continue and the preview seat nothing: their answers and buffers are those of the same problem without ideals.
+#[test]
+fn ideals_leave_continue_and_the_preview_alone() {
+    let posed = Posed { goals: vec![0, 8000], ..Posed::tied() };
+    let wanted = run(&posed, &[1, 1]);
+    assert_eq!((wanted.0.len(), &wanted.1), (7, &vec![8, 8]));
+    let settled = solve_from(&posed.problem(), &[1, 1]);
+    for ideal in [Some(i64::MIN), Some(0), Some(3), Some(9), Some(i64::MAX)] {
+        let with = Posed { ideals: vec![ideal; 2], ..posed.clone() };
+        assert_eq!(run(&with, &[1, 1]), wanted);
+        assert_eq!(solve_from(&with.problem(), &[1, 1]), settled);
+        let (mut here, mut there) = (Lent::marked(&posed), Lent::marked(&posed));
+        let step = preview(&posed.problem(), &[3, 3], &mut there.preview_buffers());
+        assert_eq!(preview(&with.problem(), &[3, 3], &mut here.preview_buffers()), step);
+        assert_eq!(here, there);
+        assert_eq!(previewed(&with, &[1, 2]), Err(Refusal::Standing));
+    }
 }
 
 // ---------------------------------------------------------------- Continue
@@ -352,10 +463,39 @@ fn refusal_2_a_wrong_length() {
     all_refuse(&Posed { coefficients: vec![1], ..posed.clone() }, &lent, Refusal::Length);
     all_refuse(&Posed { upper: vec![10; 3], ..posed.clone() }, &lent, Refusal::Length);
     all_refuse(&Posed { goals: vec![], ..posed.clone() }, &lent, Refusal::Length);
+    for length in [0, 1, 3, MOST_COLUMNS, MOST_COLUMNS + 1, 1000] {
+        all_refuse(&Posed { ideals: vec![None; length], ..posed.clone() }, &lent, Refusal::Length);
+        all_refuse(&Posed { ideals: vec![Some(i64::MAX); length], ..posed.clone() }, &lent, Refusal::Length);
+    }
     assert_eq!(solve_from(&posed.problem(), &[9]), Err(Refusal::Length));
     for standing in [vec![], vec![9], vec![9; 3]] {
         preview_refuses(&posed, &standing, &lent, Refusal::Length, &lent);
         assert_eq!(next_step(&posed.problem(), &standing), Err(Refusal::Length));
+    }
+}
+
+/// A list of ideals whose length does not fit is told after a count of columns that does not, and before all else.
+#[test]
+fn refusal_2_comes_after_1_and_before_the_others() {
+    let posed = Posed { ideals: vec![Some(1); 3], ..Posed::tied() };
+    let lent = Lent::marked(&posed);
+    for worse in [
+        Posed { coefficients: vec![1, RANGE_COEFFICIENT + 1], ..posed.clone() },
+        Posed { lower: vec![1, 11], ..posed.clone() },
+        Posed { goals: vec![0, -1], ..posed.clone() },
+        Posed { limit: MOST_STEPS + 1, ..posed.clone() },
+        Posed { rights: vec![1], ..posed.clone() },
+    ] {
+        all_refuse(&worse, &lent, Refusal::Length);
+    }
+    // Before a list that fails a row, too.
+    preview_refuses(&posed, &[1, 2], &lent, Refusal::Length, &lent);
+    assert_eq!(solve_from(&posed.problem(), &[1, 2]), Err(Refusal::Length));
+    for n in [0, MOST_COLUMNS + 1] {
+        for length in [0, 1, MOST_COLUMNS, MOST_COLUMNS + 1, 1000] {
+            let large = Posed { ideals: vec![None; length], ..Posed::new(&[], &[], n, 1, 10) };
+            all_refuse(&large, &Lent::marked(&large), Refusal::Size);
+        }
     }
 }
 
@@ -409,6 +549,12 @@ fn refusal_9_seating() {
     posed.goals[0] = 1_000_000_000;
     let form = [1, 0, 0, -1, -1000, 0, 1, 0, 0, -1, 0, 0, 1, 1000, 1_000_000];
     assign_refuses(&posed, Refusal::Seating, &form);
+    // An ideal can do the same, though the bounds hold it back.
+    posed.goals[0] = 0;
+    posed.ideals[0] = Some(i64::MAX);
+    assign_refuses(&posed, Refusal::Seating, &form);
+    posed.ideals[0] = Some(2);
+    assert_eq!(solve(&posed.problem()).unwrap().values, [1, 1000, 1_000_000]);
 }
 
 #[test]

@@ -4,6 +4,7 @@ use koralimbu::*;
 
 const LIMIT: u32 = 10_000;
 const PAVING: &str = include_str!("../../../decks/paving.txt");
+const PLAIN: &str = include_str!("../../../decks/plain-curves.txt");
 
 /// The reader's buffers, as they are before a call.
 #[derive(Clone, Debug, PartialEq)]
@@ -13,12 +14,14 @@ struct Lent {
     lower: Vec<i64>,
     upper: Vec<i64>,
     goals: Vec<i64>,
+    ideals: Vec<Option<i64>>,
 }
 
 impl Lent {
     fn marked() -> Lent {
         let [lower, upper, goals] = [-3, -4, -5].map(|mark| vec![mark; DECK_COLUMNS]);
-        Lent { coefficients: vec![-1; DECK_COEFFICIENTS], rights: vec![-2; DECK_ROWS], lower, upper, goals }
+        let ideals = vec![Some(-6); DECK_COLUMNS];
+        Lent { coefficients: vec![-1; DECK_COEFFICIENTS], rights: vec![-2; DECK_ROWS], lower, upper, goals, ideals }
     }
 
     fn read(&mut self, text: &[u8]) -> Result<Sizes, Refusal> {
@@ -28,6 +31,7 @@ impl Lent {
             lower: &mut self.lower,
             upper: &mut self.upper,
             goals: &mut self.goals,
+            ideals: &mut self.ideals,
         };
         read_deck(text, &mut buffers)
     }
@@ -58,6 +62,7 @@ fn paving_is_read() {
         lower: filled(&[1, 1, 1, 2], DECK_COLUMNS),
         upper: filled(&[1_000_000; 4], DECK_COLUMNS),
         goals: filled(&[3000; 3], DECK_COLUMNS),
+        ideals: vec![None; DECK_COLUMNS],
     };
     assert_eq!(lent, wanted);
 }
@@ -93,6 +98,107 @@ fn the_values_of_the_curves_and_of_the_added_columns() {
     assert_eq!(Ok(solved), solve_text(KINDS, LIMIT));
 }
 
+// ---------------------------------------------------------------- the reader's ideals
+
+/// The ideals of a text, those of the added columns too. What lies behind them is none.
+fn ideals(text: &str) -> Vec<Option<i64>> {
+    let mut lent = Lent::marked();
+    let columns = lent.read(text.as_bytes()).unwrap().columns;
+    assert_eq!(lent.ideals[columns..], vec![None; DECK_COLUMNS - columns]);
+    lent.ideals.truncate(columns);
+    assert_eq!(Deck::read(text).unwrap().problem(LIMIT).columns.ideals, lent.ideals);
+    lent.ideals
+}
+
+/// Curve 1 is plain, beside curve 2 in two rows and curve 3 in one: counted once each, 4 and 9 have the mean 6.5; were curve 2 counted twice,
+/// it would be 5.67. Curve 4 shares no row with it.
+#[test]
+fn the_mean_of_the_neighbours() {
+    let curves = "4\n1 99 0\n1 99 4000\n1 99 9000\n1 99 80000\n";
+    assert_eq!(ideals(&format!("{curves}2\n0 0 2 1 1 2 -1\n0 0 3 1 1 2 1 3 -1\n")), [Some(6), None, None, None]);
+    // The same through all of its rows, of which one has a slack, and each with other coefficients.
+    let rows = "3\n1 -7 2 1 -3 2 1\n0 0 2 1 5 3 1000\n0 0 2 2 1 4 -1\n";
+    assert_eq!(ideals(&format!("{curves}{rows}")), [Some(6), None, None, None, None]);
+}
+
+#[test]
+fn a_curve_without_neighbours_has_no_ideal() {
+    // No row; a row alone; beside a plain curve; and curve 2, which has a goal.
+    assert_eq!(ideals("2\n1 99 0\n1 99 4000\n0\n"), [None; 2]);
+    assert_eq!(ideals("2\n1 99 0\n1 99 4000\n1\n0 5 1 1 1\n"), [None; 2]);
+    assert_eq!(ideals("3\n1 99 0\n1 99 4000\n1 99 0\n1\n0 0 2 1 1 3 -1\n"), [None; 3]);
+    assert_eq!(ideals("3\n1 99 4000\n1 99 4000\n1 99 0\n1\n0 0 2 1 1 2 -1\n"), [None; 3]);
+}
+
+/// A neighbour of a neighbour is none: curves 1 and 3 share no row.
+#[test]
+fn a_row_of_its_own_is_needed() {
+    let text = "3\n1 99 0\n1 99 0\n1 99 7000\n2\n0 0 2 1 1 2 -1\n0 0 2 2 1 3 -1\n";
+    assert_eq!(ideals(text), [None, Some(7), None]);
+}
+
+/// Each kind but the first adds a column, whose ideal is never set.
+#[test]
+fn an_added_column_has_no_ideal() {
+    let rows = "4\n0 5 2 1 1 2 1\n1 2 2 1 1 2 1\n2 80 2 1 1 2 1\n3 1 2 1 1 2 1\n";
+    assert_eq!(ideals(&format!("2\n1 99 0\n1 99 3000\n{rows}")), [Some(3), None, None, None, None]);
+    assert_eq!(ideals(&format!("2\n1 99 2000\n1 99 3000\n{rows}")), [None; 5]);
+}
+
+/// A neighbour's ideal lies in the neighbour's bounds. The mean need not lie in those of the curve: only seating brings it there.
+#[test]
+fn the_bounds_of_the_neighbours_and_of_the_curve() {
+    let deck = |plain: &str| format!("3\n{plain}\n5 6 1000\n20 30 90000\n1\n0 0 3 1 1 2 -1 3 -1\n");
+    for plain in ["1 99 0", "-9 -3 0", "50 60 0"] {
+        assert_eq!(ideals(&deck(plain)), [Some(17), None, None]);
+    }
+    // Even over their half, with the ideals 5 and 30: curve 1 is seated first.
+    let even = |plain: &str| deck(plain).replace("0 0 3 1 1 2 -1 3 -1", "3 0 3 1 1 2 1 3 1");
+    for (plain, first) in [("1 99 0", 17), ("-9 -3 0", -3), ("50 60 0", 50)] {
+        assert_eq!(solve_text(even(plain), 0).unwrap().values[0], first);
+    }
+}
+
+/// Document 01's ideals of goals, by one neighbour each.
+#[test]
+fn the_ideals_of_goals() {
+    for (goal, ideal) in [(1, 1), (400, 1), (1414, 1), (1415, 2), (2449, 2), (2450, 3), (3000, 3)] {
+        assert_eq!(ideals(&format!("2\n-9 9 0\n1 99 {goal}\n1\n0 0 2 1 1 2 1\n")), [Some(ideal), None]);
+    }
+}
+
+/// Curve 1 is plain, beside all others of the largest deck.
+#[test]
+fn the_most_neighbours() {
+    let goals: String = (2..=DECK_COLUMNS).map(|k| format!("1 1000000 {}\n", k * 1000)).collect();
+    let terms: String = (1..=DECK_COLUMNS).map(|k| format!(" {k} 1")).collect();
+    let text = format!("{DECK_COLUMNS}\n1 1000000 0\n{goals}1\n0 100 {DECK_COLUMNS}{terms}\n");
+    // 2 to 48 have the sum 1175, 47 times 25.
+    assert_eq!(ideals(&text)[0], Some(25));
+    let most = text.replace("1000000 48000\n", "1000000 1000000000\n");
+    assert_eq!(ideals(&most)[0], Some((1175 - 48 + 1_000_000) / 47));
+}
+
+/// The sample deck with plain curves; without the reader's ideals they start from their bounds, far from their neighbours.
+#[test]
+fn plain_curves_start_from_their_neighbours() {
+    let deck = Deck::read(PLAIN).unwrap();
+    let problem = deck.problem(LIMIT);
+    let mut wanted = vec![None; 10];
+    (wanted[0], wanted[1], wanted[7]) = (Some(11), Some(11), Some(10));
+    assert_eq!(problem.columns.ideals, wanted);
+    let solved = deck.solve(LIMIT).unwrap();
+    assert_eq!((solved.verdict, solved.steps), (Verdict::Fitted, Steps { bounds: 0, goals: 1 }));
+    assert_eq!(solved.values, [12, 11, 10, 13, 8, 8, 10, 10, 12, 20]);
+    let columns = Columns::new(problem.columns.lower, problem.columns.upper, problem.columns.goals);
+    let without = solve(&Problem { columns, ..problem }).unwrap();
+    assert_eq!((without.verdict, without.steps), (Verdict::Fitted, Steps { bounds: 9, goals: 13 }));
+    assert_eq!(without.values, [22, 1, 10, 13, 8, 8, 9, 1, 12, 15]);
+    assert_eq!(without.strides, solved.strides);
+}
+
+// ---------------------------------------------------------------- decks continued
+
 #[test]
 fn a_deck_continues_from_its_own_answer() {
     let deck = Deck::read(include_bytes!("../../../decks/shell-strip.txt")).unwrap();
@@ -109,6 +215,7 @@ fn a_deck_step_by_step() {
         include_str!("../../../decks/paved-bulkhead.txt"),
         include_str!("../../../decks/bounds-conflict.txt"),
         include_str!("../../../decks/mapped-panels.txt"),
+        PLAIN,
     ] {
         let deck = Deck::read(text).unwrap();
         let solved = deck.solve(LIMIT).unwrap();
@@ -126,6 +233,8 @@ fn a_deck_step_by_step() {
     }
 }
 
+// ---------------------------------------------------------------- refusals
+
 #[test]
 fn refusal_1_a_count() {
     refuses("0\n0\n", Refusal::Size);
@@ -140,10 +249,17 @@ fn refusal_2_a_wrong_length() {
         Lent { lower: vec![], ..Lent::marked() },
         Lent { upper: vec![-4; 1], ..Lent::marked() },
         Lent { goals: vec![-5; DECK_COLUMNS - 1], ..Lent::marked() },
+        Lent { ideals: vec![], ..Lent::marked() },
+        Lent { ideals: vec![Some(-6); DECK_COLUMNS - 1], ..Lent::marked() },
+        Lent { ideals: vec![None; DECK_COLUMNS + 1], ..Lent::marked() },
+        Lent { ideals: vec![Some(-6); 1000], ..Lent::marked() },
     ] {
-        let mut after = lent.clone();
-        assert_eq!(after.read(PAVING.as_bytes()), Err(Refusal::Length));
-        assert_eq!(after, lent);
+        // A wrong length is told before the text is looked at.
+        for text in [PAVING, PLAIN, "no deck", ""] {
+            let mut after = lent.clone();
+            assert_eq!(after.read(text.as_bytes()), Err(Refusal::Length));
+            assert_eq!(after, lent);
+        }
     }
 }
 
