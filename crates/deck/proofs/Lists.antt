@@ -2,19 +2,21 @@
 --   compacted-more, -end, -is   rows as narrow as the problem: a row at a time, and those of the widest rows
 --   entry-drop                  a number behind others
 --   picked-more, -end, -is      one number of each column: a column at a time, and those of columns side by side
+--   entry-padded, padded-long   a number of a list at the front of a buffer, and how long a buffer is
+--   entry-front                 a number of the first of two lists of columns
 -- Assumes nothing.
 use mathlib.Core.Path.{_≡_, refl, sym, ap, _∙_}
 use mathlib.Core.List.{List, [], _∷_, _++_, map, append-assoc}
 use Prim.Native.Nat.{ℕ, zero, suc, _+_, _-_, _*_, _≤_, _<_}
 use native.Mathlib.Omega.{arith}
 use lib.IntN.{ℤ, pos}
-use lib.ListN.{length, take, drop, set}
+use lib.ListN.{length, take, drop, set, length-append, length-replicate}
 use lib.Seq.{drop-at, drop-drop, take-append-le}
 use Rattle.whole.specs.Lists.{zeros, entry}
 use Rattle.whole.proofs.Lists.{take-zeros, drop-zeros, entry-zeros}
 use Rattle.problem.specs.Kinds.{Slack, none, slack, slackOf, slackCount}
 use Rattle.sections.specs.Sections.{deckColumns, Line}
-use Rattle.sections.specs.StatedColumns.{placed, withSlack, coefficientRow, coefficientRows, columnWidth, cell, cells}
+use Rattle.sections.specs.StatedColumns.{placed, withSlack, coefficientRow, coefficientRows, columnWidth, cell, cells, padded}
 use Rattle.sections.specs.declared.Interval.{Interval}
 use Rattle.sections.specs.declared.Term.{Term}
 use Rattle.sections.proofs.Storage.{length-row}
@@ -99,3 +101,20 @@ module _ (f : ℕ) where
   picked-is g each (i ∷ is) (suc k) m h =
       let z : suc k - suc (length is) ≡ k - length is = omega arith in
       rw (z, each i (cells is ++ zeros m)) (ap (λ (u : List ℤ). g i ∷ u) (picked-is g each is k m (omega arith)))
+
+-- ---- a list at the front
+entry-zeros-behind : (u : List ℤ) (n j : ℕ) → entry j (u ++ zeros n) ≡ entry j u
+entry-zeros-behind [] n j = entry-zeros j n
+entry-zeros-behind (x ∷ u) n zero = refl
+entry-zeros-behind (x ∷ u) n (suc j) = entry-zeros-behind u n j
+
+pub entry-padded : (size j : ℕ) (u : List ℤ) → entry j (padded size u) ≡ entry j u
+entry-padded size j u = entry-zeros-behind u (size - length u) j
+
+pub padded-long : (size : ℕ) (u : List ℤ) → size ≤ length (padded size u)
+padded-long size u = omega (arith, length-append u (zeros (size - length u)), length-replicate (size - length u) (pos 0))
+
+pub entry-front : (f : Interval → ℤ) (u v : List Interval) (j : ℕ) → j < length u → entry j (map f (u ++ v)) ≡ entry j (map f u)
+entry-front f [] v j h = absurd (omega (arith, h))
+entry-front f (i ∷ u) v zero h = refl
+entry-front f (i ∷ u) v (suc j) h = entry-front f u v j (omega (arith, h))

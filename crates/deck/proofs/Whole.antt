@@ -3,10 +3,13 @@
 --   RowsFound, rows-found, -refused             what the section of rows answered
 --   left-some, left-none                        what is left of the text
 --   deck-intervals, deck-rows, left-over        a deck whose sections are refused, or that something is left behind
+--   deck-within                                 the intervals of a deck that is read lie within the limits
 --   stored                                      a deck that is read, in the tables
 --   read-short, -long, -is, -not                the call by what it meets
 --   Largest, sizes                              the lengths that fit
---   accepting                                   an accepted text, whose tables went out into lent lists
+--   Holds, holds                                lent lists that an accepted text's tables went out into
+--   sized, small                                what handing in ideals asks of them
+--   accepting                                   an accepted text, with its ideals
 -- Assumes nothing.
 use mathlib.Core.Path.{_≡_, refl, sym, ap, _∙_, subst}
 use mathlib.Core.Bool.{true, false}
@@ -28,6 +31,8 @@ use Rattle.text.specs.declared.Next.{Next}
 use Rattle.text.specs.declared.Next.the-variants.{Found, End}
 use Rattle.problem.specs.declared.Refusal.{Refusal}
 use Rattle.problem.specs.declared.Refusal.the-variants.{Length, Layout}
+use Rattle.neighbours.specs.Neighbours.{statedBy, givenOf, idealsOf}
+use Rattle.neighbours.specs.Beside.{Sized, SmallColumns}
 use Rattle.sections.specs.Rules.{Outcome, ok, no, then, onEnd, closed}
 use Rattle.sections.specs.Sections.{deckColumns, deckRows, coefficientCount, maxText, Line, intervalSection, rowSection}
 use Rattle.sections.specs.StatedColumns.{lowerOf, upperOf, goalOf, rightOf, slackColumns, coefficientRows}
@@ -37,12 +42,15 @@ use Rattle.sections.specs.declared.Interval.{Interval}
 use Rattle.sections.specs.declared.Cursor.{Cursor}
 use Rattle.sections.specs.declared.Section.{Section}
 use Rattle.sections.specs.declared.Section.the-variants as section
-use Rattle.deck.specs.Posing.{Deck, deck, readDeck, columnsOf, posed}
+use Rattle.deck.specs.Posing.{Deck, deck, readDeck, columnsOf, countOf, rowsOf, lowers, uppers, goals, stated, posed}
 use Rattle.deck.specs.Reader.{DeckBuffers, deckBuffers, readDone, lengthsFit, turnedBack, accepted, read}
 use Rattle.deck.specs.ReaderTables.{noneLeft, DeckStored, compacted, picked}
 use Rattle.deck.specs.declared.Reading.the-variants.{Read}
+use Rattle.sections.proofs.Numbers.{same-ok, ok-not-no}
+use Rattle.sections.proofs.Limits.{Within, section-within}
 use Rattle.sections.proofs.Storage.{padded-written, from-blank, wiped, cells-two, length-cells, length-rows, few-cells}
-use Rattle.deck.proofs.Lists.{compacted-is, picked-is}
+use Rattle.deck.proofs.Lists.{compacted-is, picked-is, padded-long}
+use Rattle.deck.proofs.Handing.{stated-padded, small-columns, given-padded, ideals-padded}
 
 -- ---- what a section answered
 abbrev isRead : Section → ℕ
@@ -145,6 +153,23 @@ module _ (s : List ℕ) where
       → deck s ≡ no why
   deck-rows is at why p q = ap afterIntervals p ∙ ap (afterRows is) q
 
+  -- the intervals of a deck that was read lie within the limits
+  deck-within : (d : Deck) (e : ℕ) → deck s ≡ ok d e → Within (d .intervals)
+  deck-within d e h = first (intervalSection s 0) refl h
+    where
+      last : (is : List Interval) (ls : List Line) (at : ℕ) (n : Next) → Within is → onEnd (record { intervals = is; lines = ls }) at n ≡ ok d e
+          → Within (d .intervals)
+      last is ls at (Found t p) w f = absurd (ok-not-no f)
+      last is ls at End w f = subst (λ (x : Deck). Within (x .intervals)) (same-ok f) w
+
+      behind : (is : List Interval) (o : Outcome (List Line)) → Within is → afterRows is o ≡ ok d e → Within (d .intervals)
+      behind is (ok ls at) w f = last is ls at (nextAt s at) w f
+      behind is (no why) w f = absurd (ok-not-no f)
+
+      first : (o : Outcome (List Interval)) → intervalSection s 0 ≡ o → afterIntervals o ≡ ok d e → Within (d .intervals)
+      first (ok is at) g f = behind is (rowSection s (length is) at) (section-within s 0 at is g) f
+      first (no why) g f = absurd (ok-not-no f)
+
   deck-read : (is : List Interval) (ls : List Line) (p q : ℕ) → intervalSection s 0 ≡ ok is p → rowSection s (length is) p ≡ ok ls q
       → deck s ≡ closed s (record { intervals = is; lines = ls }) q
   deck-read is ls p q e f = ap afterIntervals e ∙ ap (afterRows is) f
@@ -226,6 +251,8 @@ pub record Largest (B : DeckBuffers) : Type 0 where
   pub lower : length (B .lower) ≡ deckColumns
   pub upper : length (B .upper) ≡ deckColumns
   pub goals : length (B .goals) ≡ deckColumns
+  pub given : length (B .given) ≡ deckColumns
+  pub ideals : length (B .ideals) ≡ deckColumns
 
 pub sizes : (B : DeckBuffers) → lengthsFit B ≡ true → Largest B
 sizes B h =
@@ -233,12 +260,16 @@ sizes B h =
     let b = both-true (eqb (length (B .rights)) deckRows) _ (a .1) in
     let c = both-true (eqb (length (B .lower)) deckColumns) _ (b .1) in
     let d = both-true (eqb (length (B .upper)) deckColumns) _ (c .1) in
+    let g = both-true (eqb (length (B .goals)) deckColumns) _ (d .1) in
+    let x = both-true (eqb (length (B .given)) deckColumns) _ (g .1) in
     record {
       coefficients = eqb-true (length (B .coefficients)) (coefficientCount) (a .0);
       rights = eqb-true (length (B .rights)) deckRows (b .0);
       lower = eqb-true (length (B .lower)) deckColumns (c .0);
       upper = eqb-true (length (B .upper)) deckColumns (d .0);
-      goals = eqb-true (length (B .goals)) deckColumns (d .1);
+      goals = eqb-true (length (B .goals)) deckColumns (g .0);
+      given = eqb-true (length (B .given)) deckColumns (x .0);
+      ideals = eqb-true (length (B .ideals)) deckColumns (x .1);
     }
 
 -- one number of each column
@@ -260,24 +291,80 @@ table-is o o₁ o₂ t n m c ls a h k q e f x =
     let s : length (coefficientRows n c ls) ≤ coefficientCount = omega (arith, length-rows n c ls, few-cells n (length ls) h (rw q at k)) in
     from-blank coefficientCount o₁ o₂ (coefficientRows n c ls) s (wiped coefficientCount o o₁ a e) (f ∙ ap (overwritten o₁ 0) y)
 
--- an accepted text, whose tables k, b and t went out into lent lists of the largest size
-pub accepting : (s : List ℕ) (B : DeckBuffers) (c : Cursor) (k b t o₁ c' b' l' u' g' : List ℤ) → lengthsFit B ≡ true → length s ≤ maxText
-    → DeckStored (deck s) c k b t → o₁ ≡ zeros (length (B .coefficients)) → c' ≡ overwritten o₁ 0 (compacted (c .columns) (c .rows) 0 t) → b' ≡ b
-    → l' ≡ picked 0 deckColumns k → u' ≡ picked 1 deckColumns k → g' ≡ picked 2 deckColumns k
-    → readDone (Read (c .columns) (c .rows) (c .intervals)) (deckBuffers c' b' l' u' g') ≡ read s B
-unfolding posed
-accepting s B c k b t o₁ c' b' l' u' g' f h st e₁ e₂ eb el eu eg =
-    let z = sizes B f in
-    let d = st .deck in
-    let n : length (columnsOf d) ≤ deckColumns = omega (arith, st .few, st .columns) in
-    let i : ℕ = length (d .intervals) in
-    let pc =
-    table-is (B .coefficients) o₁ c' t (c .columns) (c .rows) i (d .lines) (z .coefficients) (st .few) (st .few-rows) (st .rows) e₁ e₂
-    (st .table-is) ∙
-    ap (λ (j : ℕ). padded coefficientCount (coefficientRows j i (d .lines))) (st .columns) in
-    let pb = eb ∙ st .rights-is in
-    let pl = column-is 0 lowerOf (λ i r. refl) k l' (columnsOf d) n (st .columns-is) el in
-    let pu = column-is 1 upperOf (λ i r. refl) k u' (columnsOf d) n (st .columns-is) eu in
-    let pg = column-is 2 goalOf (λ i r. refl) k g' (columnsOf d) n (st .columns-is) eg in
-    (λ i. readDone (Read (st .columns i) (st .rows i) (st .intervals i)) (deckBuffers (pc i) (pb i) (pl i) (pu i) (pg i))) ∙
-    sym (read-is s B d (c .at) f h (st .read))
+-- lent lists that a deck's tables went out into
+pub record Holds (d : Deck) (c b l u g : List ℤ) : Type 0 where
+  pub coefficients : c ≡ padded coefficientCount (rowsOf d)
+  pub rights : b ≡ padded deckRows (map rightOf (d .lines))
+  pub lower : l ≡ padded deckColumns (lowers d)
+  pub upper : u ≡ padded deckColumns (uppers d)
+  pub goals : g ≡ padded deckColumns (goals d)
+
+module _ (s : List ℕ) (c : Cursor) (k b t : List ℤ) (st : DeckStored (deck s) c k b t) where
+  few : countOf (st .deck) ≤ deckColumns
+  few = omega (arith, st .few, st .columns)
+
+  -- the tables k, b and t went out into lent lists of the largest size
+  pub holds : (B : DeckBuffers) (o₁ c' b' l' u' g' : List ℤ) → lengthsFit B ≡ true → o₁ ≡ zeros (length (B .coefficients))
+      → c' ≡ overwritten o₁ 0 (compacted (c .columns) (c .rows) 0 t) → b' ≡ b
+      → l' ≡ picked 0 deckColumns k → u' ≡ picked 1 deckColumns k → g' ≡ picked 2 deckColumns k → Holds (st .deck) c' b' l' u' g'
+  holds B o₁ c' b' l' u' g' f e₁ e₂ eb el eu eg =
+      let d = st .deck in
+      let i : ℕ = length (d .intervals) in
+      record {
+        coefficients =
+            table-is (B .coefficients) o₁ c' t (c .columns) (c .rows) i (d .lines) (sizes B f .coefficients) (st .few) (st .few-rows) (st .rows) e₁ e₂
+            (st .table-is) ∙
+            ap (λ (j : ℕ). padded coefficientCount (coefficientRows j i (d .lines))) (st .columns);
+        rights = eb ∙ st .rights-is;
+        lower = column-is 0 lowerOf (λ i r. refl) k l' (columnsOf d) few (st .columns-is) el;
+        upper = column-is 1 upperOf (λ i r. refl) k u' (columnsOf d) few (st .columns-is) eu;
+        goals = column-is 2 goalOf (λ i r. refl) k g' (columnsOf d) few (st .columns-is) eg;
+      }
+
+  module _ (c' b' l' u' g' : List ℤ) (q : Holds (st .deck) c' b' l' u' g') where
+    -- what is asked of them where ideals are handed in
+    pub sized : Sized (c .columns) (c .rows) (c .intervals) c' l' u' g'
+    sized =
+        let d = st .deck in
+        record {
+          few = st .few;
+          few-rows = st .few-rows;
+          intervals = omega (arith, st .intervals, st .columns, length-append (d .intervals) (slackColumns (d .lines)));
+          coefficients =
+              omega (
+                arith,
+                few-cells (c .columns) (c .rows) (st .few) (st .few-rows),
+                ap length (q .coefficients),
+                padded-long coefficientCount (rowsOf d),
+              );
+          lower = omega (arith, st .few, ap length (q .lower), padded-long deckColumns (lowers d));
+          upper = omega (arith, st .few, ap length (q .upper), padded-long deckColumns (uppers d));
+          goals = omega (arith, st .few, ap length (q .goals), padded-long deckColumns (goals d));
+        }
+
+    pub small : SmallColumns (c .intervals) l' u' g'
+    small =
+        rw (st .intervals, q .lower, q .upper, q .goals) (small-columns deckColumns (st .deck) (deck-within s (st .deck) (c .at) (st .read)))
+
+    -- they state what the deck states
+    states : statedBy (c .columns) (c .rows) (c .intervals) c' l' u' g' ≡ stated (st .deck)
+    states =
+        let d = st .deck in
+        (λ i. statedBy (st .columns i) (st .rows i) (st .intervals i) (q .coefficients i) (q .lower i) (q .upper i) (q .goals i))
+        ∙ stated-padded (countOf d) (length (d .lines)) (length (d .intervals)) coefficientCount deckColumns (rowsOf d) (lowers d) (uppers d)
+        (goals d)
+
+    pub accepting : (B : DeckBuffers) (a' x' : List ℤ) → lengthsFit B ≡ true → length s ≤ maxText
+        → a' ≡ givenOf (statedBy (c .columns) (c .rows) (c .intervals) c' l' u' g') (length (B .given))
+        → x' ≡ idealsOf (statedBy (c .columns) (c .rows) (c .intervals) c' l' u' g') (length (B .given))
+        → readDone (Read (c .columns) (c .rows) (c .intervals)) (deckBuffers c' b' l' u' g' a' x') ≡ read s B
+    unfolding posed
+    accepting B a' x' f h ea ex =
+        let d = st .deck in
+        let z = sizes B f .given in
+        let front : length (d .intervals) ≤ countOf d = omega (arith, length-append (d .intervals) (slackColumns (d .lines))) in
+        let pa = ea ∙ (λ i. givenOf (states i) (z i)) ∙ given-padded (stated d) (countOf d) front few in
+        let px = ex ∙ (λ i. idealsOf (states i) (z i)) ∙ ideals-padded (stated d) (countOf d) front few in
+        (λ i. readDone (Read (st .columns i) (st .rows i) (st .intervals i))
+        (deckBuffers (q .coefficients i) (q .rights i) (q .lower i) (q .upper i) (q .goals i) (pa i) (px i))) ∙
+        sym (read-is s B d (c .at) f h (st .read))

@@ -6,19 +6,20 @@
 --   summed-all           from the first column on it is the whole mean
 --   ideal-within         an ideal lies within the limit of bounds where the column's bounds do
 --   numbered-length, -at how many numbers there are, and which stands at a place
+--   numbered-past        where the numbers are 0 from some column on, they are those before it and zeros
 --   wish-past, -goal     nothing is handed in for a column past the intervals, nor for one with a goal
 --   wish-plain           for a plain interval it is the mean
 -- Assumes nothing.
 use mathlib.Core.Path.{_≡_, refl, sym, _∙_, ap, subst}
 use mathlib.Core.Bool.{Bool, true, false, cond, _&&_, and-false}
-use mathlib.Core.List.{List, [], _∷_}
+use mathlib.Core.List.{List, [], _∷_, _++_}
 use Prim.Native.Nat.{ℕ, zero, suc, _+_, _*_, _-_, _<_, _≤_}
 use native.Mathlib.Omega.{arith}
 use borrow.Author.Tests.{lt-ltb, le-ltb}
 use lib.Dec.{ltb}
 use lib.IntN.{ℤ, pos, natAbs, _+ℤ_}
 use lib.ListN.{length}
-use Rattle.whole.specs.Lists.{entry}
+use Rattle.whole.specs.Lists.{entry, zeros}
 use Rattle.whole.specs.Tests.{isZero}
 use Rattle.whole.proofs.Integers.{rep, diff-rel}
 use Rattle.whole.proofs.Signed.{abs-add}
@@ -135,3 +136,16 @@ unfolding numbered
 numbered-at f zero j i s h e = absurd (omega (arith, h))
 numbered-at f (suc k) j zero s h e = ap f (omega (arith, e))
 numbered-at f (suc k) j (suc i) s h e = numbered-at f k (suc j) i s (omega (arith, h)) (omega (arith, e))
+
+numbered-zeros : (f : ℕ → ℤ) (r j : ℕ) → ((i : ℕ) → j ≤ i → f i ≡ pos 0) → numbered f r j ≡ zeros r
+unfolding numbered
+numbered-zeros f zero j h = refl
+numbered-zeros f (suc r) j h = (λ i. h j (omega arith) i ∷ numbered-zeros f r (suc j) (λ n l. h n (omega (arith, l))) i)
+
+pub numbered-past : (f : ℕ → ℤ) (k r n j : ℕ) → n ≡ k + r → ((i : ℕ) → j + k ≤ i → f i ≡ pos 0) → numbered f n j ≡ numbered f k j ++ zeros r
+unfolding numbered
+numbered-past f zero r n j e h =
+    ap (λ (m : ℕ). numbered f m j) {x = n} {y = r} (omega (arith, e)) ∙ numbered-zeros f r j (λ i l. h i (omega (arith, l)))
+numbered-past f (suc k) r zero j e h = absurd (omega (arith, e))
+numbered-past f (suc k) r (suc n) j e h =
+    ap (λ (l : List ℤ). f j ∷ l) (numbered-past f k r n (suc j) (omega (arith, e)) (λ i l. h i (omega (arith, l))))

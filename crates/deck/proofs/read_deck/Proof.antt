@@ -1,26 +1,128 @@
 -- `deck::read_deck` meets its contract: nothing is written before the whole text is accepted, and then the tables go out into the lists.
 -- Assumes nothing.
-use mathlib.Core.Path.{_≡_, refl, sym, _∙_}
+use mathlib.Core.Path.{_≡_, refl, sym, _∙_, subst}
 use mathlib.Core.Bool.{true}
+use mathlib.Core.List.{List}
+use Prim.Native.Nat.{ℕ}
 use native.Mathlib.Omega.{arith}
+use lib.IntN.{ℤ}
 use borrow.Author.Tests.{not-true, not-false}
 use Rattle.sections.specs.Rules.{no}
 use Rattle.sections.specs.StatedColumns.{blank}
+use Rattle.sections.specs.declared.Cursor.{Cursor}
+use Rattle.sections.specs.declared.Section.{Section}
 use Rattle.deck.specs.Posing.{deck}
 use Rattle.deck.specs.Reader.{DeckBuffers, deckBuffers, lengthsFit}
-use Rattle.deck.specs.ReaderTables.{DeckStored}
-use Rattle.deck.proofs.Whole.{read-short, read-long, read-not, sizes, accepting}
+use Rattle.deck.specs.ReaderTables.{DeckStored, DeckRead}
+use Rattle.deck.proofs.Whole.{read-short, read-long, read-not, Largest, sizes, Holds, holds, sized, small, accepting}
 use borrow.Author.Needs.{needs}
 use Rattle.deck.proofs.read_deck.Statement.{statement}
 use Rattle.deck.proofs.read_deck.Tie as tie
 
-module _ (a : tie.Start) where
-  abbrev lent : DeckBuffers
-  lent = deckBuffers (a .args .coefficients .now) (a .args .rights .now) (a .args .lower .now) (a .args .upper .now) (a .args .goals .now)
+-- the lists that are lent, and what the test says of their lengths
+abbrev lent : tie.Start → DeckBuffers
+lent a =
+    deckBuffers (a .args .coefficients .now) (a .args .rights .now) (a .args .lower .now) (a .args .upper .now) (a .args .goals .now)
+    (a .args .given .now) (a .args .ideals .now)
 
-module _ (e : tie.Else1) where
-  fit : lengthsFit (lent (e .before .before .before)) ≡ true
-  fit = sym (e .before .lengths-fit .ensures) ∙ not-false (e .before .lengths-fit .result) (e .if1 .left)
+tested : (c : tie.After-lengths-fit) → lengthsFit (lent (c .before .before)) ≡ c .lengths-fit .result
+tested c = sym {b = lengthsFit (lent (c .before .before))} (c .lengths-fit .ensures)
+
+-- where the code has come to when the text is looked at
+abbrev begun : tie.Else1 → tie.Start
+begun c = c .before .before .before
+
+fit : (c : tie.Else1) → lengthsFit (lent (begun c)) ≡ true
+fit c = tested (c .before) ∙ not-false (c .before .lengths-fit .result) (c .if1 .left)
+
+module _ (c : tie.After-scan) where
+  abbrev looked : tie.Else2
+  looked = c .before .before .before .before
+
+  abbrev start : tie.Start
+  start = begun (looked .before)
+
+  abbrev text : List ℕ
+  text = start .args .text .now
+
+  fitting : lengthsFit (lent start) ≡ true
+  fitting = fit (looked .before)
+
+  long : Largest (lent start)
+  long = sizes (lent start) fitting
+
+-- a text that is accepted, in the tables k, b and t
+module _ (c : tie.After-d) where
+  abbrev scanned : tie.After-scan
+  scanned = c .before .before .before .before .before
+
+  abbrev cursor : Cursor
+  cursor = c .d .given .0 .0
+
+  abbrev k : List ℤ
+  k = scanned .scan .last .1 .0
+
+  abbrev b : List ℤ
+  b = scanned .scan .last .1 .1 .0
+
+  abbrev t : List ℤ
+  t = scanned .scan .last .1 .1 .1 .0
+
+  stored : DeckStored (deck (text scanned)) cursor k b t
+  stored = subst (λ (r : Section). DeckRead (deck (text scanned)) r k b t) (c .d .given .1) (scanned .scan .ensures)
+
+-- from each list that is filled to the one before
+abbrev before-lower : tie.After-pick → tie.After-d
+before-lower c = c .before .before .before .before
+
+abbrev before-upper : tie.After-pick2 → tie.After-pick
+before-upper c = c .before .before .before .before
+
+abbrev before-goals : tie.After-pick3 → tie.After-pick2
+before-goals c = c .before .before .before .before
+
+abbrev before-rights : tie.After-copy → tie.After-pick3
+before-rights c = c .before .before .before .before
+
+abbrev before-wipe : tie.After-wipe → tie.After-copy
+before-wipe c = c .before .before .before
+
+abbrev read : tie.After-copy → tie.After-d
+read c = before-lower (before-upper (before-goals (before-rights c)))
+
+-- the lists that the tables went out into
+module _ (c : tie.After-compact) where
+  abbrev wiped : tie.After-wipe
+  wiped = c .before .before .before .before
+
+  abbrev copied : tie.After-copy
+  copied = before-wipe wiped
+
+  abbrev picked : tie.After-pick3
+  picked = before-rights copied
+
+  abbrev coefficients : List ℤ
+  coefficients = c .compact .last .1 .1 .1 .0
+
+  abbrev rights : List ℤ
+  rights = copied .copy .last .0
+
+  abbrev lower : List ℤ
+  lower = before-upper (before-goals picked) .pick .last .1 .1 .0
+
+  abbrev upper : List ℤ
+  upper = before-goals picked .pick2 .last .1 .1 .0
+
+  abbrev goals : List ℤ
+  goals = picked .pick3 .last .1 .1 .0
+
+  out : Holds (stored (read copied) .deck) coefficients rights lower upper goals
+  out =
+      let d = read copied in
+      let s = scanned d in
+      holds (text s) (cursor d) (k d) (b d) (t d) (stored d) (lent (start s)) (wiped .wipe .last .0) coefficients rights lower upper goals (fitting s)
+      (wiped .wipe .ensures) (c .compact .ensures) (copied .copy .ensures) (before-upper (before-goals picked) .pick .ensures)
+      (before-goals picked .pick2 .ensures) (picked .pick3 .ensures)
 
 lengths-fit-requires : tie.Need-lengths-fit-requires
 lengths-fit-requires c κs = search needs
@@ -28,11 +130,11 @@ lengths-fit-requires c κs = search needs
 returns : tie.Need-returns
 returns c =
     let a = c .before .before .before in
-    sym (read-short (a .args .text .now) (lent a) (sym (c .before .lengths-fit .ensures) ∙ not-true (c .before .lengths-fit .result) (c .if1 .taken)))
+    sym (read-short (a .args .text .now) (lent a) (tested (c .before) ∙ not-true (c .before .lengths-fit .result) (c .if1 .taken)))
 
 returns-2 : tie.Need-returns-2
 returns-2 c =
-    let a = c .before .before .before .before in
+    let a = begun (c .before) in
     sym (read-long (a .args .text .now) (lent a) (fit (c .before)) (c .if2 .taken))
 
 slice-aggregate-scan : tie.Need-slice-aggregate-scan
@@ -56,53 +158,32 @@ slice-aggregate-pick c = search needs
 
 pick-requires : tie.Need-pick-requires
 pick-requires c κs =
-    let after-t2 = c .before .before .before .before .before in
-    let after-scan = after-t2 .before .before .before in
-    let else1 = after-scan .before .before .before .before .before in
-    let start = else1 .before .before .before in
-    let z = sizes (lent start) (fit else1) in
-    (omega arith, (after-scan .scan .kept .1 .0, z .lower))
+    let s = scanned (c .before .before .before) in
+    (omega arith, (s .scan .kept .1 .0, long s .lower))
 
 slice-aggregate-pick-2 : tie.Need-slice-aggregate-pick-2
 slice-aggregate-pick-2 c = search needs
 
 pick-requires-2 : tie.Need-pick-requires-2
 pick-requires-2 c κs =
-    let after-k3 = c .before .before .before .before .before in
-    let after-b2 = after-k3 .before .before .before .before .before in
-    let after-scan = after-b2 .before .before in
-    let else1 = after-scan .before .before .before .before .before in
-    let start = else1 .before .before .before in
-    let z = sizes (lent start) (fit else1) in
-    (omega arith, (after-scan .scan .kept .1 .0, z .upper))
+    let s = scanned (before-lower (c .before .before .before)) in
+    (omega arith, (s .scan .kept .1 .0, long s .upper))
 
 slice-aggregate-pick-3 : tie.Need-slice-aggregate-pick-3
 slice-aggregate-pick-3 c = search needs
 
 pick-requires-3 : tie.Need-pick-requires-3
 pick-requires-3 c κs =
-    let after-k4 = c .before .before .before .before .before in
-    let after-k3 = after-k4 .before .before .before .before in
-    let after-b2 = after-k3 .before .before .before .before .before in
-    let after-scan = after-b2 .before .before in
-    let else1 = after-scan .before .before .before .before .before in
-    let start = else1 .before .before .before in
-    let z = sizes (lent start) (fit else1) in
-    (omega arith, (after-scan .scan .kept .1 .0, z .goals))
+    let s = scanned (before-lower (before-upper (c .before .before .before))) in
+    (omega arith, (s .scan .kept .1 .0, long s .goals))
 
 slice-aggregate-copy : tie.Need-slice-aggregate-copy
 slice-aggregate-copy c = search needs
 
 copy-requires : tie.Need-copy-requires
 copy-requires c κs =
-    let after-k5 = c .before .before .before .before .before in
-    let after-lower = after-k5 .before .before .before .before .before in
-    let after-d = after-lower .before .before .before .before .before in
-    let after-scan = after-d .before .before .before .before .before in
-    let else1 = after-scan .before .before .before .before .before in
-    let start = else1 .before .before .before in
-    let z = sizes (lent start) (fit else1) in
-    z .rights ∙ sym (after-scan .scan .kept .1 .1 .0)
+    let s = scanned (before-lower (before-upper (before-goals (c .before .before .before)))) in
+    long s .rights ∙ sym (s .scan .kept .1 .1 .0)
 
 wipe-requires : tie.Need-wipe-requires
 wipe-requires c κs = search needs
@@ -112,20 +193,20 @@ slice-aggregate-compact c = search needs
 
 compact-requires : tie.Need-compact-requires
 compact-requires c κs =
-    let after-wipe = c .before .before .before in
-    let after-b3 = after-wipe .before .before .before .before in
-    let after-k5 = after-b3 .before .before .before .before .before in
-    let after-lower = after-k5 .before .before .before .before .before in
-    let after-d = after-lower .before .before .before .before .before in
-    let after-scan = after-d .before .before .before .before .before in
-    let else1 = after-scan .before .before .before .before .before in
-    let start = else1 .before .before .before in
-    let a = start in
-    let v = after-scan .scan in
-    let z = sizes (lent a) (fit else1) in
-    let st : DeckStored (deck (a .args .text .now)) (after-d .d .given .0 .0) (v .last .1 .0) (v .last .1 .1 .0) (v .last .1 .1 .1 .0) =
-    rw (after-d .d .given .1) at (v .ensures) in
-    ((st .few, st .few-rows), (v .kept .1 .1 .1 .0, after-wipe .wipe .kept .0 ∙ z .coefficients))
+    let w = c .before .before .before in
+    let d = read (before-wipe w) in
+    let s = scanned d in
+    ((stored d .few, stored d .few-rows), (s .scan .kept .1 .1 .1 .0, w .wipe .kept .0 ∙ long s .coefficients))
+
+hand-in-requires : tie.Need-hand-in-requires
+hand-in-requires c κs =
+    let o = c .before .before .before .before .before .before .before in
+    let d = read (copied o) in
+    let s = scanned d in (
+      sized (text s) (cursor d) (k d) (b d) (t d) (stored d) (coefficients o) (rights o) (lower o) (upper o) (goals o) (out o),
+      small (text s) (cursor d) (k d) (b d) (t d) (stored d) (coefficients o) (rights o) (lower o) (upper o) (goals o) (out o),
+      long s .ideals ∙ sym (long s .given),
+    )
 
 enum-known-d-2 : tie.Need-enum-known-d-2
 enum-known-d-2 c = search needs
@@ -145,37 +226,28 @@ same-length-4 c = search needs
 same-length-5 : tie.Need-same-length-5
 same-length-5 c = search needs
 
+same-length-6 : tie.Need-same-length-6
+same-length-6 c = search needs
+
+same-length-7 : tie.Need-same-length-7
+same-length-7 c = search needs
+
 returns-3 : tie.Need-returns-3
 returns-3 c =
-    let after-wipe = c .before .before .before .before .before in
-    let after-copy = after-wipe .before .before .before in
-    let after-pick3 = after-copy .before .before .before .before in
-    let after-pick2 = after-pick3 .before .before .before .before in
-    let after-pick = after-pick2 .before .before .before .before in
-    let after-d = after-pick .before .before .before .before in
-    let after-scan = after-d .before .before .before .before .before in
-    let else2 = after-scan .before .before .before .before in
-    let else1 = else2 .before in
-    let start = else1 .before .before .before in
-    let a = start in
-    let v = after-scan .scan in
-    let p = after-d .d .given .0 .0 in
-    let st : DeckStored (deck (a .args .text .now)) p (v .last .1 .0) (v .last .1 .1 .0) (v .last .1 .1 .1 .0) =
-    rw (after-d .d .given .1) at (v .ensures) in
-    accepting (a .args .text .now) (lent a) p (v .last .1 .0) (v .last .1 .1 .0) (v .last .1 .1 .1 .0) (after-wipe .wipe .last .0) _ _ _ _ _
-    (fit else1) (else2 .if2 .left) st (after-wipe .wipe .ensures) (c .before .compact .ensures) (after-copy .copy .ensures)
-    (after-pick .pick .ensures) (after-pick2 .pick2 .ensures) (after-pick3 .pick3 .ensures)
+    let h = c .before .before in
+    let o = h .before .before .before .before .before .before .before .before in
+    let d = read (copied o) in
+    let s = scanned d in
+    accepting (text s) (cursor d) (k d) (b d) (t d) (stored d) (coefficients o) (rights o) (lower o) (upper o) (goals o) (out o) (lent (start s))
+    (h .hand-in .last .1 .1 .1 .1 .1 .0) (h .hand-in .last .1 .1 .1 .1 .1 .1 .0) (fitting s) (looked s .if2 .left) (h .hand-in .ensures .0)
+    (h .hand-in .ensures .1)
 
 returns-4 : tie.Need-returns-4
 returns-4 c =
-    let after-k2 = c .before .before .before .before .before in
-    let after-scan = after-k2 .before in
-    let else2 = after-scan .before .before .before .before in
-    let else1 = else2 .before in
-    let start = else1 .before .before .before in
-    let a = start in
-    let d : deck (a .args .text .now) ≡ no (c .before .d2 .given .0 .0) = rw (c .before .d2 .given .1) at (after-scan .scan .ensures) in
-    sym (read-not (a .args .text .now) (lent a) (c .before .d2 .given .0 .0) (fit else1) (else2 .if2 .left) d)
+    let s = c .before .before .before .before .before .before in
+    let why = c .before .d2 .given .0 .0 in
+    let d : deck (text s) ≡ no why = rw (c .before .d2 .given .1) at (s .scan .ensures) in
+    sym (read-not (text s) (lent (start s)) why (fitting s) (looked s .if2 .left) d)
 
 pub read-deck-spec : {M : Type 1} → statement M
 read-deck-spec =
@@ -200,11 +272,14 @@ read-deck-spec =
     wipe-requires
     slice-aggregate-compact
     compact-requires
+    hand-in-requires
     enum-known-d-2
     same-length
     same-length-2
     same-length-3
     same-length-4
     same-length-5
+    same-length-6
+    same-length-7
     returns-3
     returns-4)

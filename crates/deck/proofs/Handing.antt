@@ -1,0 +1,67 @@
+-- What is handed in for the columns of a deck.
+--   stated-padded     buffers state what the lists at their front state
+--   small-columns     the first columns are the intervals, which lie within the limits
+--   given-padded, ideals-padded   for as many columns as a buffer holds: the marks and numbers of the deck's columns, and 0 behind them
+-- Assumes nothing.
+use mathlib.Core.Path.{_≡_, refl, sym, _∙_, ap, subst}
+use mathlib.Core.List.{List, _++_, map}
+use Prim.Native.Nat.{ℕ, _+_, _-_, _*_, _<_, _≤_}
+use native.Mathlib.Omega.{arith}
+use lib.IntN.{ℤ, pos, natAbs}
+use lib.ListN.{length}
+use Rattle.whole.specs.Lists.{zeros, entry}
+use Rattle.settling.specs.declared.Wish.{Wish}
+use Rattle.settling.specs.declared.Wish.the-variants.{Unset}
+use Rattle.settling.specs.Ideals.{markOf, numberOf}
+use Rattle.neighbours.specs.Neighbours.{Stated, statedBy, neighbourWish, numbered, givenOf, idealsOf}
+use Rattle.neighbours.specs.Beside.{SmallColumns}
+use Rattle.neighbours.proofs.Laws.{wish-past, numbered-length, numbered-past}
+use Rattle.sections.specs.Sections.{deckColumns}
+use Rattle.sections.specs.StatedColumns.{lowerOf, upperOf, goalOf, slackColumns, padded}
+use Rattle.sections.specs.declared.Interval.{Interval}
+use Rattle.sections.proofs.Limits.{Within}
+use Rattle.deck.specs.Posing.{Deck, lowers, uppers, goals}
+use Rattle.deck.proofs.Lists.{entry-padded, entry-front}
+
+pub stated-padded : (n m k a b : ℕ) (c lo hi gs : List ℤ)
+    → statedBy n m k (padded a c) (padded b lo) (padded b hi) (padded b gs) ≡ statedBy n m k c lo hi gs
+stated-padded n m k a b c lo hi gs =
+    (λ i. record {
+      rows = m;
+      intervals = k;
+      coefficient = λ r j. entry-padded a (r * n + j) c i;
+      lower = λ j. entry-padded b j lo i;
+      upper = λ j. entry-padded b j hi i;
+      goal = λ j. entry-padded b j gs i;
+    })
+
+-- ---- the first columns
+small-front : (f : Interval → ℤ) (most size : ℕ) (u v : List Interval) → ((j : ℕ) → natAbs (entry j (map f u)) ≤ most)
+    → (j : ℕ) → j < length u → natAbs (entry j (padded size (map f (u ++ v)))) ≤ most
+small-front f most size u v h j l =
+    subst (λ (x : ℤ). natAbs x ≤ most) (sym (entry-padded size j (map f (u ++ v)) ∙ entry-front f u v j l)) (h j)
+
+pub small-columns : (size : ℕ) (d : Deck) → Within (d .intervals)
+    → SmallColumns (length (d .intervals)) (padded size (lowers d)) (padded size (uppers d)) (padded size (goals d))
+small-columns size d w =
+    let ys = slackColumns (d .lines) in
+    record {
+      lower = small-front lowerOf _ size (d .intervals) ys (w .lower);
+      upper = small-front upperOf _ size (d .intervals) ys (w .upper);
+      goals = small-front goalOf _ size (d .intervals) ys (w .goals);
+    }
+
+-- ---- nothing is handed in past the intervals
+module _ (S : Stated) (n : ℕ) (h : S .intervals ≤ n) (k : n ≤ deckColumns) where
+  handed-padded : (g : Wish → ℤ) → g Unset ≡ pos 0
+      → numbered (λ j. g (neighbourWish S j)) deckColumns 0 ≡ padded deckColumns (numbered (λ j. g (neighbourWish S j)) n 0)
+  handed-padded g e =
+      let f : ℕ → ℤ = λ j. g (neighbourWish S j) in
+      numbered-past f n (deckColumns - n) deckColumns 0 (omega (arith, k)) (λ i l. ap g (wish-past S i (omega (arith, h, l))) ∙ e)
+      ∙ ap (λ (r : ℕ). numbered f n 0 ++ zeros (deckColumns - r)) (sym (numbered-length f n 0))
+
+  pub given-padded : givenOf S deckColumns ≡ padded deckColumns (givenOf S n)
+  given-padded = handed-padded markOf refl
+
+  pub ideals-padded : idealsOf S deckColumns ≡ padded deckColumns (idealsOf S n)
+  ideals-padded = handed-padded numberOf refl
