@@ -12,10 +12,10 @@ use lib.ListN.{length}
 use Rattle.whole.specs.Lists.{zeros, entry}
 use Rattle.settling.specs.declared.Wish.{Wish}
 use Rattle.settling.specs.declared.Wish.the-variants.{Unset}
-use Rattle.settling.specs.Ideals.{markOf, numberOf}
-use Rattle.neighbours.specs.Neighbours.{Stated, statedBy, neighbourWish, numbered, givenOf, idealsOf}
+use Rattle.settling.specs.Ideals.{wishMark, wishNumber}
+use Rattle.neighbours.specs.Neighbours.{Stated, statedBy, neighbourWish, numbersFrom, givenOf, idealsOf}
 use Rattle.neighbours.specs.Beside.{SmallColumns}
-use Rattle.neighbours.proofs.Laws.{wish-past, numbered-length, numbered-past}
+use Rattle.neighbours.proofs.Laws.{wish-past, numbers-length, numbers-past}
 use Rattle.sections.specs.Sections.{deckColumns}
 use Rattle.sections.specs.StatedColumns.{lowerOf, upperOf, goalOf, slackColumns, padded}
 use Rattle.sections.specs.declared.Interval.{Interval}
@@ -54,14 +54,14 @@ small-columns size d w =
 -- ---- nothing is handed in past the intervals
 module _ (S : Stated) (n : ℕ) (h : S .intervals ≤ n) (k : n ≤ deckColumns) where
   handed-padded : (g : Wish → ℤ) → g Unset ≡ pos 0
-      → numbered (λ j. g (neighbourWish S j)) deckColumns 0 ≡ padded deckColumns (numbered (λ j. g (neighbourWish S j)) n 0)
+      → numbersFrom (λ j. g (neighbourWish S j)) deckColumns 0 ≡ padded deckColumns (numbersFrom (λ j. g (neighbourWish S j)) n 0)
   handed-padded g e =
       let f : ℕ → ℤ = λ j. g (neighbourWish S j) in
-      numbered-past f n (deckColumns - n) deckColumns 0 (omega (arith, k)) (λ i l. ap g (wish-past S i (omega (arith, h, l))) ∙ e)
-      ∙ ap (λ (r : ℕ). numbered f n 0 ++ zeros (deckColumns - r)) (sym (numbered-length f n 0))
+      numbers-past f n (deckColumns - n) deckColumns 0 (omega (arith, k)) (λ i l. ap g (wish-past S i (omega (arith, h, l))) ∙ e)
+      ∙ ap (λ (r : ℕ). numbersFrom f n 0 ++ zeros (deckColumns - r)) (sym (numbers-length f n 0))
 
   pub given-padded : givenOf S deckColumns ≡ padded deckColumns (givenOf S n)
-  given-padded = handed-padded markOf refl
+  given-padded = handed-padded wishMark refl
 
   pub ideals-padded : idealsOf S deckColumns ≡ padded deckColumns (idealsOf S n)
-  ideals-padded = handed-padded numberOf refl
+  ideals-padded = handed-padded wishNumber refl

@@ -32,7 +32,7 @@ use Rattle.text.specs.declared.Next.the-variants.{Found, End}
 use Rattle.problem.specs.declared.Refusal.{Refusal}
 use Rattle.problem.specs.declared.Refusal.the-variants.{Length, Layout}
 use Rattle.neighbours.specs.Neighbours.{statedBy, givenOf, idealsOf}
-use Rattle.neighbours.specs.Beside.{Sized, SmallColumns}
+use Rattle.neighbours.specs.Beside.{LongEnough, SmallColumns}
 use Rattle.sections.specs.Rules.{Outcome, ok, no, then, onEnd, closed}
 use Rattle.sections.specs.Sections.{deckColumns, deckRows, coefficientCount, maxText, Line, intervalSection, rowSection}
 use Rattle.sections.specs.StatedColumns.{lowerOf, upperOf, goalOf, rightOf, slackColumns, coefficientRows}
@@ -42,7 +42,7 @@ use Rattle.sections.specs.declared.Interval.{Interval}
 use Rattle.sections.specs.declared.Cursor.{Cursor}
 use Rattle.sections.specs.declared.Section.{Section}
 use Rattle.sections.specs.declared.Section.the-variants as section
-use Rattle.deck.specs.Posing.{Deck, deck, readDeck, columnsOf, countOf, rowsOf, lowers, uppers, goals, stated, posed}
+use Rattle.deck.specs.Posing.{Deck, deck, readDeck, columnsOf, countOf, coefficientsOf, lowers, uppers, goals, stated, posed}
 use Rattle.deck.specs.Reader.{DeckBuffers, deckBuffers, readDone, lengthsFit, turnedBack, accepted, read}
 use Rattle.deck.specs.ReaderTables.{noneLeft, DeckStored, compacted, picked}
 use Rattle.deck.specs.declared.Reading.the-variants.{Read}
@@ -293,7 +293,7 @@ table-is o o₁ o₂ t n m c ls a h k q e f x =
 
 -- lent lists that a deck's tables went out into
 pub record Holds (d : Deck) (c b l u g : List ℤ) : Type 0 where
-  pub coefficients : c ≡ padded coefficientCount (rowsOf d)
+  pub coefficients : c ≡ padded coefficientCount (coefficientsOf d)
   pub rights : b ≡ padded deckRows (map rightOf (d .lines))
   pub lower : l ≡ padded deckColumns (lowers d)
   pub upper : u ≡ padded deckColumns (uppers d)
@@ -323,7 +323,7 @@ module _ (s : List ℕ) (c : Cursor) (k b t : List ℤ) (st : DeckStored (deck s
 
   module _ (c' b' l' u' g' : List ℤ) (q : Holds (st .deck) c' b' l' u' g') where
     -- what is asked of them where ideals are handed in
-    pub sized : Sized (c .columns) (c .rows) (c .intervals) c' l' u' g'
+    pub sized : LongEnough (c .columns) (c .rows) (c .intervals) c' l' u' g'
     sized =
         let d = st .deck in
         record {
@@ -335,7 +335,7 @@ module _ (s : List ℕ) (c : Cursor) (k b t : List ℤ) (st : DeckStored (deck s
                 arith,
                 few-cells (c .columns) (c .rows) (st .few) (st .few-rows),
                 ap length (q .coefficients),
-                padded-long coefficientCount (rowsOf d),
+                padded-long coefficientCount (coefficientsOf d),
               );
           lower = omega (arith, st .few, ap length (q .lower), padded-long deckColumns (lowers d));
           upper = omega (arith, st .few, ap length (q .upper), padded-long deckColumns (uppers d));
@@ -351,7 +351,7 @@ module _ (s : List ℕ) (c : Cursor) (k b t : List ℤ) (st : DeckStored (deck s
     states =
         let d = st .deck in
         (λ i. statedBy (st .columns i) (st .rows i) (st .intervals i) (q .coefficients i) (q .lower i) (q .upper i) (q .goals i))
-        ∙ stated-padded (countOf d) (length (d .lines)) (length (d .intervals)) coefficientCount deckColumns (rowsOf d) (lowers d) (uppers d)
+        ∙ stated-padded (countOf d) (length (d .lines)) (length (d .intervals)) coefficientCount deckColumns (coefficientsOf d) (lowers d) (uppers d)
         (goals d)
 
     pub accepting : (B : DeckBuffers) (a' x' : List ℤ) → lengthsFit B ≡ true → length s ≤ maxText

@@ -3,7 +3,7 @@
 --   deck s          the deck of a text's sections, one after the other, and nothing behind them
 --   readDeck s      the deck that the text s states, or the refusal of its first place that breaks a rule
 --   columnsOf d     the columns: the intervals, then the y of each row that has one; countOf d, how many
---   rowsOf, lowers, uppers, goals d   the lists that the deck states, of just the lengths that n and m need: the coefficients, and of its columns
+--   coefficientsOf, lowers, uppers, goals d   the lists that the deck states, of just the lengths that n and m need: the coefficients, and of its columns
 --   stated d        what it states of its rows and columns
 --   posed limit d   the problem: these lists, and "the reader gives such an interval an ideal"
 -- Assumes nothing.
@@ -41,8 +41,8 @@ columnsOf d = d .intervals ++ slackColumns (d .lines)
 abbrev pub countOf : Deck → ℕ
 countOf d = length (columnsOf d)
 
-abbrev pub rowsOf : Deck → List ℤ
-rowsOf d = coefficientRows (countOf d) (length (d .intervals)) (d .lines)
+abbrev pub coefficientsOf : Deck → List ℤ
+coefficientsOf d = coefficientRows (countOf d) (length (d .intervals)) (d .lines)
 
 abbrev pub lowers : Deck → List ℤ
 lowers d = map lowerOf (columnsOf d)
@@ -54,12 +54,12 @@ abbrev pub goals : Deck → List ℤ
 goals d = map goalOf (columnsOf d)
 
 abbrev pub stated : Deck → Stated
-stated d = statedBy (countOf d) (length (d .lines)) (length (d .intervals)) (rowsOf d) (lowers d) (uppers d) (goals d)
+stated d = statedBy (countOf d) (length (d .lines)) (length (d .intervals)) (coefficientsOf d) (lowers d) (uppers d) (goals d)
 
 unfoldable pub posed : ℕ → Deck → Posed
 posed limit d = record {
   problem = record { columns = countOf d; rows = length (d .lines); limit = limit };
-  coefficients = rowsOf d;
+  coefficients = coefficientsOf d;
   rights = map rightOf (d .lines);
   lower = lowers d;
   upper = uppers d;

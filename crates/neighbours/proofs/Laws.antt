@@ -5,8 +5,8 @@
 --   summed-skip, -more   one column further up: it is not admitted, or it is
 --   summed-all           from the first column on it is the whole mean
 --   ideal-within         an ideal lies within the limit of bounds where the column's bounds do
---   numbered-length, -at how many numbers there are, and which stands at a place
---   numbered-past        where the numbers are 0 from some column on, they are those before it and zeros
+--   numbers-length, -at how many numbers there are, and which stands at a place
+--   numbers-past        where the numbers are 0 from some column on, they are those before it and zeros
 --   wish-past, -goal     nothing is handed in for a column past the intervals, nor for one with a goal
 --   wish-plain           for a plain interval it is the mean
 -- Assumes nothing.
@@ -28,7 +28,7 @@ use Rattle.settling.specs.declared.Wish.the-variants.{Unset, Set}
 use Rattle.settling.specs.Ideals.{goalIdeal, ideal}
 use Rattle.settling.proofs.Seats.{ideal-small}
 use Rattle.neighbours.specs.Neighbours.{Stated, idealOf, chosen, total, mean, meanBy}
-use Rattle.neighbours.specs.Neighbours.{neighbourIdeals, isPlain, neighbourWish, numbered}
+use Rattle.neighbours.specs.Neighbours.{neighbourIdeals, isPlainInterval, neighbourWish, numbersFrom}
 
 -- ---- the sum over the neighbours, from the last column up
 pub record Summed (t : ℕ → Bool) (x : ℕ → ℤ) (k h : ℕ) (s : ℤ) (c : ℕ) : Type 0 where
@@ -111,7 +111,7 @@ ideal-within S h a b = ideal-small (S .lower h) (S .upper h) (Set (pos (goalIdea
 
 -- ---- what is handed in
 module _ (S : Stated) (j : ℕ) where
-  nothing : isPlain S j ≡ false → neighbourWish S j ≡ Unset
+  nothing : isPlainInterval S j ≡ false → neighbourWish S j ≡ Unset
   unfolding neighbourWish
   nothing e = ap (λ (b : Bool). cond b (mean (neighbourIdeals S j)) Unset) e
 
@@ -126,26 +126,26 @@ module _ (S : Stated) (j : ℕ) where
   wish-plain h e = (λ i. cond (lt-ltb j (S .intervals) h i && e i) (mean (neighbourIdeals S j)) Unset)
 
 -- ---- numbers by column
-pub numbered-length : (f : ℕ → ℤ) (k j : ℕ) → length (numbered f k j) ≡ k
-unfolding numbered
-numbered-length f zero j = refl
-numbered-length f (suc k) j = ap suc (numbered-length f k (suc j))
+pub numbers-length : (f : ℕ → ℤ) (k j : ℕ) → length (numbersFrom f k j) ≡ k
+unfolding numbersFrom
+numbers-length f zero j = refl
+numbers-length f (suc k) j = ap suc (numbers-length f k (suc j))
 
-pub numbered-at : (f : ℕ → ℤ) (k j i s : ℕ) → i < k → s ≡ j + i → entry i (numbered f k j) ≡ f s
-unfolding numbered
-numbered-at f zero j i s h e = absurd (omega (arith, h))
-numbered-at f (suc k) j zero s h e = ap f (omega (arith, e))
-numbered-at f (suc k) j (suc i) s h e = numbered-at f k (suc j) i s (omega (arith, h)) (omega (arith, e))
+pub numbers-at : (f : ℕ → ℤ) (k j i s : ℕ) → i < k → s ≡ j + i → entry i (numbersFrom f k j) ≡ f s
+unfolding numbersFrom
+numbers-at f zero j i s h e = absurd (omega (arith, h))
+numbers-at f (suc k) j zero s h e = ap f (omega (arith, e))
+numbers-at f (suc k) j (suc i) s h e = numbers-at f k (suc j) i s (omega (arith, h)) (omega (arith, e))
 
-numbered-zeros : (f : ℕ → ℤ) (r j : ℕ) → ((i : ℕ) → j ≤ i → f i ≡ pos 0) → numbered f r j ≡ zeros r
-unfolding numbered
-numbered-zeros f zero j h = refl
-numbered-zeros f (suc r) j h = (λ i. h j (omega arith) i ∷ numbered-zeros f r (suc j) (λ n l. h n (omega (arith, l))) i)
+numbers-zeros : (f : ℕ → ℤ) (r j : ℕ) → ((i : ℕ) → j ≤ i → f i ≡ pos 0) → numbersFrom f r j ≡ zeros r
+unfolding numbersFrom
+numbers-zeros f zero j h = refl
+numbers-zeros f (suc r) j h = (λ i. h j (omega arith) i ∷ numbers-zeros f r (suc j) (λ n l. h n (omega (arith, l))) i)
 
-pub numbered-past : (f : ℕ → ℤ) (k r n j : ℕ) → n ≡ k + r → ((i : ℕ) → j + k ≤ i → f i ≡ pos 0) → numbered f n j ≡ numbered f k j ++ zeros r
-unfolding numbered
-numbered-past f zero r n j e h =
-    ap (λ (m : ℕ). numbered f m j) {x = n} {y = r} (omega (arith, e)) ∙ numbered-zeros f r j (λ i l. h i (omega (arith, l)))
-numbered-past f (suc k) r zero j e h = absurd (omega (arith, e))
-numbered-past f (suc k) r (suc n) j e h =
-    ap (λ (l : List ℤ). f j ∷ l) (numbered-past f k r n (suc j) (omega (arith, e)) (λ i l. h i (omega (arith, l))))
+pub numbers-past : (f : ℕ → ℤ) (k r n j : ℕ) → n ≡ k + r → ((i : ℕ) → j + k ≤ i → f i ≡ pos 0) → numbersFrom f n j ≡ numbersFrom f k j ++ zeros r
+unfolding numbersFrom
+numbers-past f zero r n j e h =
+    ap (λ (m : ℕ). numbersFrom f m j) {x = n} {y = r} (omega (arith, e)) ∙ numbers-zeros f r j (λ i l. h i (omega (arith, l)))
+numbers-past f (suc k) r zero j e h = absurd (omega (arith, e))
+numbers-past f (suc k) r (suc n) j e h =
+    ap (λ (l : List ℤ). f j ∷ l) (numbers-past f k r n (suc j) (omega (arith, e)) (λ i l. h i (omega (arith, l))))

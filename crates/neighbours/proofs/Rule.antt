@@ -20,7 +20,7 @@ use Rattle.whole.proofs.Counted.{every-not}
 use Rattle.whole.proofs.Integers.{isZero-true, floorQuotient-low, floorQuotient-high}
 use Rattle.whole.proofs.Tests.{both-true}
 use Rattle.settling.specs.declared.Wish.the-variants.{Unset, Set}
-use Rattle.neighbours.specs.Neighbours.{Stated, inRow, shares, isNeighbour, idealOf, chosen, neighbourIdeals, total, meanBy, mean, isPlain, neighbourWish}
+use Rattle.neighbours.specs.Neighbours.{Stated, inRow, shares, isNeighbour, idealOf, chosen, neighbourIdeals, total, meanBy, mean, isPlainInterval, neighbourWish}
 use Rattle.neighbours.specs.Rule.{SharedRow, Neighbour, Plain, Apart, Among, left, Mean, HandsMean, ReaderRule, ReadersRule}
 
 -- ---- tests
@@ -75,12 +75,12 @@ module _ (S : Stated) (j : ℕ) where
   is-neighbour : (h : ℕ) → Neighbour S j h → isNeighbour S j h ≡ true
   is-neighbour h x = and-true (not (isZero (S .goal h))) (shares S j h) (zero-not _ (x .goal)) (has-row h (x .shared))
 
-  plain : isPlain S j ≡ true → Plain S j
+  plain : isPlainInterval S j ≡ true → Plain S j
   plain e =
       let b = both-true (ltb j (S .intervals)) (isZero (S .goal j)) e in
       record { interval = ltb-true j (S .intervals) (b .0); goal = isZero-true _ (b .1) }
 
-  is-plain : Plain S j → isPlain S j ≡ true
+  is-plain : Plain S j → isPlainInterval S j ≡ true
   is-plain x = and-true (ltb j (S .intervals)) (isZero (S .goal j)) (lt-ltb _ _ (x .interval)) (ap isZero (x .goal))
 
 -- ---- the columns that a test admits
@@ -162,7 +162,7 @@ module _ (S : Stated) (j : ℕ) where
   mean-is : mean (neighbourIdeals S j) ≡ meanBy (total (map (idealOf S) beside)) (length beside)
   mean-is = ap mean beside-ideals ∙ ap (meanBy (total (map (idealOf S) beside))) (length-map beside (idealOf S))
 
-  hands : isPlain S j ≡ true → (l : List ℕ) → beside ≡ l → (h : ℕ) → Among h l → HandsMean S j
+  hands : isPlainInterval S j ≡ true → (l : List ℕ) → beside ≡ l → (h : ℕ) → Among h l → HandsMean S j
   unfolding neighbourWish
   hands p [] e h a = absurd a
   hands p (k ∷ l) e h a =
@@ -186,7 +186,7 @@ module _ (S : Stated) (j : ℕ) where
   none-beside (k ∷ l) e f = absurd (f k (inl refl))
 
   -- where nothing is asked of it, or there is nothing to take the mean of
-  unset : (t : Bool) → isPlain S j ≡ t → (isPlain S j ≡ true → mean (neighbourIdeals S j) ≡ Unset) → neighbourWish S j ≡ Unset
+  unset : (t : Bool) → isPlainInterval S j ≡ t → (isPlainInterval S j ≡ true → mean (neighbourIdeals S j) ≡ Unset) → neighbourWish S j ≡ Unset
   unfolding neighbourWish
   unset true p f = rw p (f p)
   unset false p f = rw p refl
@@ -195,6 +195,6 @@ module _ (S : Stated) (j : ℕ) where
 pub readers-rule : ReadersRule
 readers-rule S j = record {
   mean = λ p h x. hands S j (is-plain S j p) (beside S j) refl h (beside-all S j h .0 x);
-  none = λ f. unset S j (isPlain S j) refl (λ p. none-beside S j (beside S j) refl (λ h a. f h (beside-all S j h .1 a)));
-  other = λ f. unset S j (isPlain S j) refl (λ p. absurd (f (plain S j p)));
+  none = λ f. unset S j (isPlainInterval S j) refl (λ p. none-beside S j (beside S j) refl (λ h a. f h (beside-all S j h .1 a)));
+  other = λ f. unset S j (isPlainInterval S j) refl (λ p. absurd (f (plain S j p)));
 }

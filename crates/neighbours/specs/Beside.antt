@@ -1,5 +1,5 @@
 -- What the reader's ideals need of the lists that they are made from.
---   Sized n m k c lo hi gs   lists with a number for each column, and coefficients for each row; the intervals are columns
+--   LongEnough n m k c lo hi gs   lists with a number for each column, and coefficients for each row; the intervals are columns
 --   SmallColumns k lo hi gs  bounds and goals of the first k columns lie within the limits
 --   rowsBy n m c             what the coefficients alone state
 -- Assumes nothing.
@@ -11,7 +11,7 @@ use Rattle.whole.specs.Lists.{entry}
 use Rattle.problem.specs.Limits.{maxColumns, maxRows, maxBound, maxGoal}
 use Rattle.neighbours.specs.Neighbours.{Stated, statedBy}
 
-pub record Sized (n m k : ℕ) (c lo hi gs : List ℤ) : Type 0 where
+pub record LongEnough (n m k : ℕ) (c lo hi gs : List ℤ) : Type 0 where
   pub few : n ≤ maxColumns
   pub few-rows : m ≤ maxRows
   pub intervals : k ≤ n

@@ -10,9 +10,9 @@
 --   chosen t x k h    the numbers x of those columns that the test t admits, of k columns from column h on, each once
 --   neighbourIdeals S j   the ideals of the neighbours of column j: the first columns are the intervals
 --   total, mean       a list's sum, and its mean, rounded down; meanBy, of a sum over a count; nothing is set where the list is empty
---   isPlain S j       "such an interval": column j is an interval without a goal
+--   isPlainInterval S j   "such an interval": column j is an interval without a goal
 --   neighbourWish S j what the reader hands in for column j
---   numbered f k j    the numbers f j, f (j + 1) and on, k of them
+--   numbersFrom f k j the numbers f j, f (j + 1) and on, k of them
 --   givenOf, idealsOf S k   the two lists of k columns: whether an ideal is set, and the number
 -- "neighbour" is document 02's own term.
 -- Assumes nothing.
@@ -27,7 +27,7 @@ use Rattle.whole.specs.Quotient.{floorQuotient}
 use Rattle.whole.specs.Tests.{isZero, every}
 use Rattle.settling.specs.declared.Wish.{Wish}
 use Rattle.settling.specs.declared.Wish.the-variants.{Unset, Set}
-use Rattle.settling.specs.Ideals.{goalIdeal, into, markOf, numberOf}
+use Rattle.settling.specs.Ideals.{goalIdeal, into, wishMark, wishNumber}
 
 pub record Stated : Type 0 where
   pub rows : ℕ
@@ -87,18 +87,18 @@ abbrev pub mean : List ℤ → Wish
 mean l = meanBy (total l) (length l)
 
 -- ---- "the reader gives such an interval an ideal", "unset .. for slacks"; where there is a goal none is needed
-abbrev pub isPlain : Stated → ℕ → Bool
-isPlain S j = ltb j (S .intervals) && isZero (S .goal j)
+abbrev pub isPlainInterval : Stated → ℕ → Bool
+isPlainInterval S j = ltb j (S .intervals) && isZero (S .goal j)
 
 unfoldable pub neighbourWish : Stated → ℕ → Wish
-neighbourWish S j = cond (isPlain S j) (mean (neighbourIdeals S j)) Unset
+neighbourWish S j = cond (isPlainInterval S j) (mean (neighbourIdeals S j)) Unset
 
-unfoldable pub numbered : (ℕ → ℤ) → ℕ → ℕ → List ℤ
-numbered f zero j = []
-numbered f (suc k) j = f j ∷ numbered f k (suc j)
+unfoldable pub numbersFrom : (ℕ → ℤ) → ℕ → ℕ → List ℤ
+numbersFrom f zero j = []
+numbersFrom f (suc k) j = f j ∷ numbersFrom f k (suc j)
 
 abbrev pub givenOf : Stated → ℕ → List ℤ
-givenOf S k = numbered (λ j. markOf (neighbourWish S j)) k 0
+givenOf S k = numbersFrom (λ j. wishMark (neighbourWish S j)) k 0
 
 abbrev pub idealsOf : Stated → ℕ → List ℤ
-idealsOf S k = numbered (λ j. numberOf (neighbourWish S j)) k 0
+idealsOf S k = numbersFrom (λ j. wishNumber (neighbourWish S j)) k 0

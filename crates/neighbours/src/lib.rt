@@ -8,14 +8,14 @@ ghost use Rattle.whole.specs.Lists.{entry};
 ghost use Rattle.whole.specs.Tests.{isZero};
 ghost use Rattle.problem.specs.Limits.{maxColumns, maxRows, maxGoal};
 ghost use Rattle.settling.specs.Ideals.{goalIdeal, into};
-ghost use Rattle.neighbours.specs.Beside.{Sized, SmallColumns, rowsBy};
+ghost use Rattle.neighbours.specs.Beside.{LongEnough, SmallColumns, rowsBy};
 ghost use Rattle.neighbours.specs.Neighbours.{statedBy, shares, neighbourIdeals, meanBy, mean, neighbourWish, givenOf, idealsOf};
 use settling::Wish;
 use settling::goal_ideal;
 use settling::into_bounds;
-use settling::mark_of;
 use settling::measures::is_zero;
-use settling::number_of;
+use settling::wish_mark;
+use settling::wish_number;
 use whole::floor_quotient;
 use whole::magnitude;
 
@@ -84,7 +84,7 @@ fn mean_beside(
     goals: &[i64],
     j: usize,
 ) -> Wish
-    requires { ⌜ Sized (shape .columns) (shape .rows) (shape .intervals) (now coefficients) (now lower) (now upper) (now goals)
+    requires { ⌜ LongEnough (shape .columns) (shape .rows) (shape .intervals) (now coefficients) (now lower) (now upper) (now goals)
         × SmallColumns (shape .intervals) (now lower) (now upper) (now goals) × (j < shape .columns) ⌝ }
     ensures { λ r. ⌜ r ≡ mean (neighbourIdeals (statedBy (shape .columns) (shape .rows) (shape .intervals) (now (coefficients .entry))
         (now (lower .entry)) (now (upper .entry)) (now (goals .entry))) j) ⌝ }
@@ -114,7 +114,7 @@ fn neighbour_wish(
     goals: &[i64],
     j: usize,
 ) -> Wish
-    requires { ⌜ Sized (shape .columns) (shape .rows) (shape .intervals) (now coefficients) (now lower) (now upper) (now goals)
+    requires { ⌜ LongEnough (shape .columns) (shape .rows) (shape .intervals) (now coefficients) (now lower) (now upper) (now goals)
         × SmallColumns (shape .intervals) (now lower) (now upper) (now goals) ⌝ }
     ensures { λ r. ⌜ r ≡ neighbourWish (statedBy (shape .columns) (shape .rows) (shape .intervals) (now (coefficients .entry))
         (now (lower .entry)) (now (upper .entry)) (now (goals .entry))) j ⌝ }
@@ -138,7 +138,7 @@ pub fn hand_in(
     given: &mut [i64],
     ideals: &mut [i64],
 )
-    requires { ⌜ Sized (shape .columns) (shape .rows) (shape .intervals) (now coefficients) (now lower) (now upper) (now goals)
+    requires { ⌜ LongEnough (shape .columns) (shape .rows) (shape .intervals) (now coefficients) (now lower) (now upper) (now goals)
         × SmallColumns (shape .intervals) (now lower) (now upper) (now goals) × (length (now ideals) ≡ length (now given)) ⌝ }
     ensures { λ _. ⌜ (now (given .exit) ≡ givenOf (statedBy (shape .columns) (shape .rows) (shape .intervals) (now (coefficients .entry))
         (now (lower .entry)) (now (upper .entry)) (now (goals .entry))) (length (now (given .entry))))
@@ -148,8 +148,8 @@ pub fn hand_in(
     let mut j = 0;
     while j < given.len() {
         let wish = neighbour_wish(shape, coefficients, lower, upper, goals, j);
-        given[j] = mark_of(wish);
-        ideals[j] = number_of(wish);
+        given[j] = wish_mark(wish);
+        ideals[j] = wish_number(wish);
         j += 1;
     }
 }

@@ -16,7 +16,7 @@ use Rattle.whole.proofs.Lists.{set-behind}
 use Rattle.settling.specs.declared.Wish.{Wish}
 use Rattle.settling.specs.declared.Wish.the-variants.{Unset, Set}
 use Rattle.settling.specs.Columns.{Column, width, columnAt, columnsIn, columnOf, listed, recordOf, packedFrom, packed}
-use Rattle.settling.specs.Ideals.{wishOf, markOf, numberOf}
+use Rattle.settling.specs.Ideals.{wishOf, wishMark, wishNumber}
 use Rattle.settling.specs.Packing.{put}
 use Rattle.settling.proofs.Fronts.{lt-or-ge}
 
@@ -57,7 +57,7 @@ module _ (A : List ℤ) (at : ℕ) (e : at ≡ length A) where
   put-behind c (a ∷ b ∷ d ∷ g ∷ []) h = absurd (omega (arith, h))
   put-behind c (a ∷ b ∷ d ∷ g ∷ p ∷ []) h = absurd (omega (arith, h))
   put-behind c (a ∷ b ∷ d ∷ g ∷ p ∷ q ∷ B) h =
-      six (c .lower) (c .upper) (c .low) (c .high) (markOf (c .wish)) (numberOf (c .wish)) a b d g p q B
+      six (c .lower) (c .upper) (c .low) (c .high) (wishMark (c .wish)) (wishNumber (c .wish)) a b d g p q B
 
 -- one column more
 packed-more : (f : ℕ → Column) (k j i : ℕ) → i ≡ j + k → packedFrom f (suc k) j ≡ packedFrom f k j ++ recordOf (f i)

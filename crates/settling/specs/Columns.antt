@@ -19,7 +19,7 @@ use lib.IntN.{ℤ}
 use Rattle.whole.specs.Lists.{entry}
 use Rattle.settling.specs.declared.Cell.{Cell}
 use Rattle.settling.specs.declared.Wish.{Wish}
-use Rattle.settling.specs.Ideals.{wishOf, markOf, numberOf, columnWish}
+use Rattle.settling.specs.Ideals.{wishOf, wishMark, wishNumber, columnWish}
 
 pub record Column : Type 0 where
   pub lower : ℤ
@@ -64,7 +64,7 @@ abbrev pub columnsIn : ℕ → List ℤ → Columns
 columnsIn n t = record { count = n; column = columnAt t }
 
 abbrev pub recordOf : Column → List ℤ
-recordOf c = c .lower ∷ c .upper ∷ c .low ∷ c .high ∷ markOf (c .wish) ∷ numberOf (c .wish) ∷ []
+recordOf c = c .lower ∷ c .upper ∷ c .low ∷ c .high ∷ wishMark (c .wish) ∷ wishNumber (c .wish) ∷ []
 
 unfoldable pub packedFrom : (ℕ → Column) → ℕ → ℕ → List ℤ
 packedFrom f zero j = []

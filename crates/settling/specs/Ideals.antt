@@ -4,7 +4,7 @@
 --   Wish                what a column is to come to: a number, or nothing set (declared in src/)
 --   goalWish g          the wish of a goal; nothing for 0, no goal; wishFrom of its magnitude
 --   wishOf given x      the wish that two numbers stand for, a mark and a number: "unset" is the mark 0, and not a number
---   markOf, numberOf w  the two numbers of a wish
+--   wishMark, wishNumber   the two numbers of a wish
 --   columnWish g w      the wish of a column with the goal g, where w is handed in
 --   wished w x          the wish, or the present value x where none is set
 --   ideal lo hi w x     the wish brought into the bounds; "Without a goal it is the present value brought into the bounds"
@@ -41,13 +41,13 @@ abbrev pub wishOf : ℤ → ℤ → Wish
 wishOf given x = cond (isZero given) Unset (Set x)
 
 -- "unset" has the mark 0, and 0 for its number
-abbrev pub markOf : Wish → ℤ
-markOf Unset = pos 0
-markOf (Set x) = pos 1
+abbrev pub wishMark : Wish → ℤ
+wishMark Unset = pos 0
+wishMark (Set x) = pos 1
 
-abbrev pub numberOf : Wish → ℤ
-numberOf Unset = pos 0
-numberOf (Set x) = x
+abbrev pub wishNumber : Wish → ℤ
+wishNumber Unset = pos 0
+wishNumber (Set x) = x
 
 -- "it is used only without a goal"
 abbrev pub columnWish : ℤ → Wish → Wish

@@ -10,11 +10,11 @@ use lib.ListN.{length, set}
 use Rattle.whole.specs.Lists.{entry}
 use Rattle.problem.specs.Limits.{maxGoal}
 use Rattle.settling.specs.declared.Wish.{Wish}
-use Rattle.settling.specs.Ideals.{markOf, numberOf}
+use Rattle.settling.specs.Ideals.{wishMark, wishNumber}
 use Rattle.settling.specs.Columns.{Column, width}
 
 abbrev pub putWish : ℕ → Wish → List ℤ → List ℤ
-putWish at w t = set (set t (at + 4) (markOf w)) (at + 5) (numberOf w)
+putWish at w t = set (set t (at + 4) (wishMark w)) (at + 5) (wishNumber w)
 
 abbrev pub put : ℕ → Column → List ℤ → List ℤ
 put at c t = putWish at (c .wish) (set (set (set (set t (at + 0) (c .lower)) (at + 1) (c .upper)) (at + 2) (c .low)) (at + 3) (c .high))

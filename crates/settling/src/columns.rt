@@ -10,8 +10,8 @@ ghost use Rattle.settling.specs.Packing.{putWish, put, Packable};
 use crate::Cell;
 use crate::Wish;
 use crate::column_wish;
-use crate::mark_of;
-use crate::number_of;
+use crate::wish_mark;
+use crate::wish_number;
 use crate::wish_of;
 
 // How many numbers a record has.
@@ -60,8 +60,8 @@ fn put_wish(columns: &mut [i64], at: usize, wish: Wish)
     requires { ⌜ at + width ≤ length (now columns) ⌝ }
     ensures { λ _. ⌜ now (columns .exit) ≡ putWish at wish (now (columns .entry)) ⌝ }
 {
-    columns[at + GIVEN] = mark_of(wish);
-    columns[at + WISH] = number_of(wish);
+    columns[at + GIVEN] = wish_mark(wish);
+    columns[at + WISH] = wish_number(wish);
 }
 
 // Writes the record of a column at a place, with one goal and the wish that is handed in.

@@ -2,7 +2,7 @@ ghost use mathlib.Core.Path.{_≡_};
 ghost use Prim.Native.Nat.{_≤_};
 ghost use lib.IntN.{natAbs};
 ghost use Rattle.problem.specs.Limits.{maxGoal};
-ghost use Rattle.settling.specs.Ideals.{goalIdeal, goalWish, wishOf, markOf, numberOf, columnWish, into};
+ghost use Rattle.settling.specs.Ideals.{goalIdeal, goalWish, wishOf, wishMark, wishNumber, columnWish, into};
 ghost use Rattle.settling.specs.Ideals as Ideals;
 use measures::is_zero;
 use whole::magnitude;
@@ -107,8 +107,8 @@ pub fn wish_of(given: i64, x: i64) -> Wish
 }
 
 // The mark of a wish: 0 for nothing, and else 1.
-pub fn mark_of(wish: Wish) -> i64
-    ensures { λ r. ⌜ r ≡ markOf wish ⌝ }
+pub fn wish_mark(wish: Wish) -> i64
+    ensures { λ r. ⌜ r ≡ wishMark wish ⌝ }
 {
     match wish {
         Wish::Unset => 0,
@@ -117,8 +117,8 @@ pub fn mark_of(wish: Wish) -> i64
 }
 
 // The number of a wish: 0 for nothing.
-pub fn number_of(wish: Wish) -> i64
-    ensures { λ r. ⌜ r ≡ numberOf wish ⌝ }
+pub fn wish_number(wish: Wish) -> i64
+    ensures { λ r. ⌜ r ≡ wishNumber wish ⌝ }
 {
     match wish {
         Wish::Unset => 0,

@@ -20,6 +20,7 @@ use Rattle.settling.specs.Steps.{isRanked, passes, improves, insert, rankFrom, 
 use Rattle.settling.specs.Settle.{settleFrom, settle}
 use Rattle.settling.specs.Strides.{stride, stridesFrom}
 use Rattle.engine.specs.Assign.{settleOn, assign}
+use Rattle.neighbours.specs.Neighbours.{numbersFrom, neighbourWish}
 use Rattle.sections.specs.Sections.{intervals, terms, lines}
 use Rattle.sections.specs.StatedColumns.{slackColumns, placed, coefficientRows}
 use Rattle.deck.specs.Posing.{readDeck, posed}
@@ -28,7 +29,7 @@ use Rattle.solve.specs.Program.{printed}
 use Rattle.solve.specs.Cases.{DeckCases}
 
 pub deck-cases : DeckCases
-unfolding every divisorBy divisor plus neg allZero lead dot sums stretch allDigits value decimal anyBeyond firstCause tableauFrom tableau lowered
+unfolding numbersFrom neighbourWish every divisorBy divisor plus neg allZero lead dot sums stretch allDigits value decimal anyBeyond firstCause tableauFrom tableau lowered
     reduced each choose exchange clear round gather passColumn passColumns eliminate sweep leading remaining rightSide form solve goalIdeal ideal
     seatOne seat singles pairsWith pairs moves moved measure isRanked passes improves insert rankFrom firstMove firstColumn stepAt stepOf nextStep
     settleFrom settle stride stridesFrom settleOn assign intervals terms lines readDeck slackColumns placed coefficientRows posed linesFrom listing

@@ -35,12 +35,12 @@ use Rattle.sections.specs.Rules.{Outcome, ok, no}
 use Rattle.sections.specs.Sections.{deckColumns, deckRows, coefficientCount}
 use Rattle.sections.specs.StatedColumns.{lowerOf, upperOf, goalOf, rightOf, padded, blank}
 use Rattle.neighbours.specs.Neighbours.{givenOf, idealsOf}
-use Rattle.deck.specs.Posing.{Deck, readDeck, columnsOf, countOf, rowsOf, lowers, uppers, goals, stated, posed}
+use Rattle.deck.specs.Posing.{Deck, readDeck, columnsOf, countOf, coefficientsOf, lowers, uppers, goals, stated, posed}
 use Rattle.deck.specs.Reader.{DeckBuffers, ReadDone, deckBuffers, readDone, lengthsFit, onDeck, read}
 use Rattle.deck.specs.declared.Reading.{Reading}
 use Rattle.deck.specs.declared.Reading.the-variants.{Read, Refused as TurnedBack}
 use Rattle.sections.proofs.Storage.{length-rows}
-use Rattle.neighbours.proofs.Laws.{numbered-length}
+use Rattle.neighbours.proofs.Laws.{numbers-length}
 use Rattle.engine.specs.Assign.{Buffers, Done, buffers, done, n, m, assign, posedBy}
 use Rattle.report.specs.Listing.{listing, linesOf, placedIn, writeListing}
 use Rattle.solve.specs.Program.{programLimit, zeroBuffers, listed, printed, printInto, listInto}
@@ -151,7 +151,7 @@ pub record Taken (s : List ℕ) (n m : ℕ) (c b l u g a x : List ℤ) : Type 0 
   pub is : readDeck s ≡ ok deck rest
   pub columns : n ≡ countOf deck
   pub rows : m ≡ length (deck .lines)
-  pub coefficients : c ≡ padded (deckRows * deckColumns) (rowsOf deck)
+  pub coefficients : c ≡ padded (deckRows * deckColumns) (coefficientsOf deck)
   pub rights : b ≡ padded deckRows (map rightOf (deck .lines))
   pub lower : l ≡ padded deckColumns (lowers deck)
   pub upper : u ≡ padded deckColumns (uppers deck)
@@ -198,7 +198,7 @@ module _ {s : List ℕ} {n m : ℕ} {c b l u g a x : List ℤ} (T : Taken s n m 
   pub few-rows : length b ≡ deckRows → m ≤ deckRows
   few-rows q = within deckRows m (map rightOf (T .deck .lines)) b (T .rights) (T .rows ∙ sym (length-map (T .deck .lines) rightOf)) q
 
-  cells : m * n ≡ length (rowsOf (T .deck))
+  cells : m * n ≡ length (coefficientsOf (T .deck))
   cells = (λ i. T .rows i * T .columns i) ∙ sym (length-rows (countOf (T .deck)) (length (T .deck .intervals)) (T .deck .lines))
 
   posed-is : problemPart n m c b l u g a x ≡ posed programLimit (T .deck)
@@ -209,8 +209,8 @@ module _ {s : List ℕ} {n m : ℕ} {c b l u g a x : List ℤ} (T : Taken s n m 
       let pl = part-is deckColumns n _ l (T .lower) (T .columns ∙ sym (length-map (columnsOf (T .deck)) lowerOf)) in
       let pu = part-is deckColumns n _ u (T .upper) (T .columns ∙ sym (length-map (columnsOf (T .deck)) upperOf)) in
       let pg = part-is deckColumns n _ g (T .goals) (T .columns ∙ sym (length-map (columnsOf (T .deck)) goalOf)) in
-      let pa = part-is deckColumns n _ a (T .given) (T .columns ∙ sym (numbered-length _ (countOf (T .deck)) 0)) in
-      let px = part-is deckColumns n _ x (T .ideals) (T .columns ∙ sym (numbered-length _ (countOf (T .deck)) 0)) in
+      let pa = part-is deckColumns n _ a (T .given) (T .columns ∙ sym (numbers-length _ (countOf (T .deck)) 0)) in
+      let px = part-is deckColumns n _ x (T .ideals) (T .columns ∙ sym (numbers-length _ (countOf (T .deck)) 0)) in
       λ i. posedBy (record { columns = T .columns i; rows = T .rows i; limit = programLimit }) (pc i) (pb i) (pl i) (pu i) (pg i) (pa i) (px i)
 
   pub accepted-into : (o : List ℕ) → listInto o (problemPart n m c b l u g a x) ≡ printInto o s

@@ -9,9 +9,9 @@ use mir.Val.{toZ, ofZ}
 use Rattle.whole.specs.Lists.{entry}
 use Rattle.whole.proofs.Signed.{back}
 use Rattle.whole.proofs.Writing.{WrittenTo, starts, goes-on, ends}
-use Rattle.settling.specs.Ideals.{markOf, numberOf}
+use Rattle.settling.specs.Ideals.{wishMark, wishNumber}
 use Rattle.neighbours.specs.Neighbours.{Stated, statedBy, neighbourWish, givenOf, idealsOf}
-use Rattle.neighbours.proofs.Laws.{numbered-length, numbered-at}
+use Rattle.neighbours.proofs.Laws.{numbers-length, numbers-at}
 use Rattle.neighbours.proofs.hand_in.Statement.{statement}
 use Rattle.neighbours.proofs.hand_in.Tie as tie
 
@@ -50,38 +50,38 @@ handed : (c : tie.After-neighbour-wish Inv-loop μ-loop) →
     c .neighbour-wish .result ≡ neighbourWish (stated (from w)) (now w .loop .j)
 handed c = c .neighbour-wish .ensures
 
-marked : (c : tie.After-mark-of Inv-loop μ-loop) →
+marked : (c : tie.After-wish-mark Inv-loop μ-loop) →
     let w = c .before .before in
     let s = from w in
-    toZ w64 (ofZ w64 (c .mark-of .result)) ≡ entry (now w .loop .j) (givenOf (stated s) (room s))
+    toZ w64 (ofZ w64 (c .wish-mark .result)) ≡ entry (now w .loop .j) (givenOf (stated s) (room s))
 marked c =
     let w = c .before .before in
     let s = from w in
-    back _ (c .mark-of .ok) ∙ c .mark-of .ensures ∙ ap markOf (handed (c .before))
-    ∙ sym (numbered-at (λ j. markOf (neighbourWish (stated s) j)) (room s) 0 (now w .loop .j) (now w .loop .j) (inside w) (omega arith))
+    back _ (c .wish-mark .ok) ∙ c .wish-mark .ensures ∙ ap wishMark (handed (c .before))
+    ∙ sym (numbers-at (λ j. wishMark (neighbourWish (stated s) j)) (room s) 0 (now w .loop .j) (now w .loop .j) (inside w) (omega arith))
 
-numbered : (c : tie.After-number-of Inv-loop μ-loop) →
+numbersFrom : (c : tie.After-wish-number Inv-loop μ-loop) →
     let w = c .before .before .before in
     let s = from w in
-    toZ w64 (ofZ w64 (c .number-of .result)) ≡ entry (now w .loop .j) (idealsOf (stated s) (room s))
-numbered c =
+    toZ w64 (ofZ w64 (c .wish-number .result)) ≡ entry (now w .loop .j) (idealsOf (stated s) (room s))
+numbersFrom c =
     let w = c .before .before .before in
     let s = from w in
-    back _ (c .number-of .ok) ∙ c .number-of .ensures ∙ ap numberOf (handed (c .before .before))
-    ∙ sym (numbered-at (λ j. numberOf (neighbourWish (stated s) j)) (room s) 0 (now w .loop .j) (now w .loop .j) (inside w) (omega arith))
+    back _ (c .wish-number .ok) ∙ c .wish-number .ensures ∙ ap wishNumber (handed (c .before .before))
+    ∙ sym (numbers-at (λ j. wishNumber (neighbourWish (stated s) j)) (room s) 0 (now w .loop .j) (now w .loop .j) (inside w) (omega arith))
 
 loop-holds : tie.Need-loop-holds Inv-loop μ-loop
 loop-holds c =
     let S = stated c in (
-      starts (sym (numbered-length (λ j. markOf (neighbourWish S j)) (room c) 0)),
-      starts (c .pre .2 ∙ sym (numbered-length (λ j. numberOf (neighbourWish S j)) (room c) 0)),
+      starts (sym (numbers-length (λ j. wishMark (neighbourWish S j)) (room c) 0)),
+      starts (c .pre .2 ∙ sym (numbers-length (λ j. wishNumber (neighbourWish S j)) (room c) 0)),
     )
 
 neighbour-wish-requires : tie.Need-neighbour-wish-requires Inv-loop μ-loop
 neighbour-wish-requires c κs = (c .before .before .pre .0, c .before .before .pre .1)
 
-mark-of-requires : tie.Need-mark-of-requires Inv-loop μ-loop
-mark-of-requires c κs = search needs
+wish-mark-requires : tie.Need-wish-mark-requires Inv-loop μ-loop
+wish-mark-requires c κs = search needs
 
 mul-ideals : tie.Need-mul-ideals Inv-loop μ-loop
 mul-ideals c = search needs
@@ -89,8 +89,8 @@ mul-ideals c = search needs
 slice-set-from-ideals : tie.Need-slice-set-from-ideals Inv-loop μ-loop
 slice-set-from-ideals c = c .before .before .loop-test .taken
 
-number-of-requires : tie.Need-number-of-requires Inv-loop μ-loop
-number-of-requires c κs = search needs
+wish-number-requires : tie.Need-wish-number-requires Inv-loop μ-loop
+wish-number-requires c κs = search needs
 
 mul-t10 : tie.Need-mul-t10 Inv-loop μ-loop
 mul-t10 c = search needs
@@ -110,10 +110,10 @@ loop-again : tie.Need-loop-again Inv-loop μ-loop
 loop-again c =
     let w = c .before .before .before in
     let s = from w in
-    let f = numbered-length (λ j. markOf (neighbourWish (stated s) j)) (room s) 0 in
-    let g = numbered-length (λ j. numberOf (neighbourWish (stated s) j)) (room s) 0 in (
+    let f = numbers-length (λ j. wishMark (neighbourWish (stated s) j)) (room s) 0 in
+    let g = numbers-length (λ j. wishNumber (neighbourWish (stated s) j)) (room s) 0 in (
       goes-on (now w .loop .inv .0) (omega (arith, inside w, f)) (marked (c .before)),
-      goes-on (now w .loop .inv .1) (omega (arith, inside w, g)) (numbered c),
+      goes-on (now w .loop .inv .1) (omega (arith, inside w, g)) (numbersFrom c),
     )
 
 same-length : tie.Need-same-length Inv-loop μ-loop
@@ -126,8 +126,8 @@ returns : tie.Need-returns Inv-loop μ-loop
 returns c =
     let l = c .before in
     let s = l .before in
-    let f = numbered-length (λ j. markOf (neighbourWish (stated s) j)) (room s) 0 in
-    let g = numbered-length (λ j. numberOf (neighbourWish (stated s) j)) (room s) 0 in (
+    let f = numbers-length (λ j. wishMark (neighbourWish (stated s) j)) (room s) 0 in
+    let g = numbers-length (λ j. wishNumber (neighbourWish (stated s) j)) (room s) 0 in (
       ends (l .loop .inv .0) (omega (arith, c .loop-test .left, l .loop .inv .0 .same, f)),
       ends (l .loop .inv .1) (omega (arith, c .loop-test .left, l .loop .inv .0 .same, g)),
     )
@@ -140,10 +140,10 @@ hand-in-spec =
     μ-loop
     loop-holds
     neighbour-wish-requires
-    mark-of-requires
+    wish-mark-requires
     mul-ideals
     slice-set-from-ideals
-    number-of-requires
+    wish-number-requires
     mul-t10
     slice-set-from-ideals-2
     add-j

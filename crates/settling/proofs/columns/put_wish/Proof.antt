@@ -9,11 +9,11 @@ use Rattle.settling.proofs.columns.put_wish.Statement.{statement}
 use Rattle.settling.proofs.columns.put_wish.Tie as tie
 use Rattle.settling.proofs.columns.put_wish.Reads as reads
 use Rattle.settling.proofs.columns.put_wish.Lts as lts
-use Rattle.settling.proofs.mark_of.Reads as mark-of-reads
-use Rattle.settling.proofs.number_of.Reads as number-of-reads
+use Rattle.settling.proofs.wish_mark.Reads as wish-mark-reads
+use Rattle.settling.proofs.wish_number.Reads as wish-number-reads
 
-mark-of-requires : tie.Need-mark-of-requires
-mark-of-requires c κs = search needs
+wish-mark-requires : tie.Need-wish-mark-requires
+wish-mark-requires c κs = search needs
 
 add-columns : tie.Need-add-columns
 add-columns c = search needs
@@ -24,8 +24,8 @@ mul-columns c = search needs
 slice-set-from-columns : tie.Need-slice-set-from-columns
 slice-set-from-columns c = search needs
 
-number-of-requires : tie.Need-number-of-requires
-number-of-requires c κs = search needs
+wish-number-requires : tie.Need-wish-number-requires
+wish-number-requires c κs = search needs
 
 add-t6 : tie.Need-add-t6
 add-t6 c = search needs
@@ -42,18 +42,18 @@ same-length c = search needs
 returns : tie.Need-returns
 returns c =
     let s = c .before .before in
-    (λ i. set (set (s .args .columns .now) (s .args .at + 4) ((back _ (c .before .mark-of .ok) ∙ c .before .mark-of .ensures) i)) (s .args .at + 5)
-    ((back _ (c .number-of .ok) ∙ c .number-of .ensures) i))
+    (λ i. set (set (s .args .columns .now) (s .args .at + 4) ((back _ (c .before .wish-mark .ok) ∙ c .before .wish-mark .ensures) i)) (s .args .at + 5)
+    ((back _ (c .wish-number .ok) ∙ c .wish-number .ensures) i))
 
 pub put-wish-spec : {M : Type 1} → statement M
 put-wish-spec =
     tie.close
     (tie.spec
-    mark-of-requires
+    wish-mark-requires
     add-columns
     mul-columns
     slice-set-from-columns
-    number-of-requires
+    wish-number-requires
     add-t6
     mul-t5
     slice-set-from-columns-2

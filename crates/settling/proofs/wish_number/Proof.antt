@@ -1,12 +1,12 @@
--- `settling::number_of` meets its contract. Assumes nothing.
+-- `settling::wish_number` meets its contract. Assumes nothing.
 use mathlib.Core.Path.{_≡_}
 use mir.Syntax.{w64}
 use mir.Val.{toZ, ofZ}
 use borrow.Author.Needs.{needs}
-use Rattle.settling.proofs.number_of.Statement.{statement}
-use Rattle.settling.proofs.number_of.Tie as tie
-use Rattle.settling.proofs.number_of.Reads as reads
-use Rattle.settling.proofs.number_of.Lts as lts
+use Rattle.settling.proofs.wish_number.Statement.{statement}
+use Rattle.settling.proofs.wish_number.Tie as tie
+use Rattle.settling.proofs.wish_number.Reads as reads
+use Rattle.settling.proofs.wish_number.Lts as lts
 
 enum-told : tie.Need-enum-told
 enum-told c = search needs
@@ -24,5 +24,5 @@ returns-2 c =
     let e : toZ w64 (ofZ w64 x) ≡ x = search needs in
     cc (c .before .wish .given .1)
 
-pub number-of-spec : {M : Type 1} → statement M
-number-of-spec = tie.close (tie.spec enum-told enum-known-wish returns returns-2)
+pub wish-number-spec : {M : Type 1} → statement M
+wish-number-spec = tie.close (tie.spec enum-told enum-known-wish returns returns-2)
