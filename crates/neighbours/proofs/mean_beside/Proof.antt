@@ -40,8 +40,11 @@ module _ (c : tie.In-loop Inv-loop μ-loop) where
   abbrev column : ℕ
   column = c .before .loop .h - 1
 
+  left : 0 < c .before .loop .h
+  left = omega (arith, c .loop-test .taken)
+
   interval : column < from .args .shape .intervals
-  interval = omega (arith, c .loop-test .taken, c .before .loop .inv .within)
+  interval = omega (arith, left, c .before .loop .inv .within)
 
   lists : column < from .args .shape .columns
   lists = omega (arith, interval, from .pre .0 .intervals)
@@ -97,7 +100,7 @@ module _ (c : tie.After-ideal-of Inv-loop μ-loop) where
   more =
       let a = c .before .before .before in
       summed-more (isNeighbour (stated (from turn)) (from turn .args .j)) (idealOf (stated (from turn))) (from turn .args .shape .intervals)
-      (turn .before .loop .h) (toZ w64 (turn .before .loop .sum)) (turn .before .loop .count) (turn .loop-test .taken)
+      (turn .before .loop .h) (toZ w64 (turn .before .loop .sum)) (turn .before .loop .count) (left turn)
       (row-tested (a .before) ∙ a .if2 .taken) ideal-small (turn .before .loop .inv)
 
   sum-fits : SFits w64 (toZ w64 (turn .before .loop .sum) +ℤ toZ w64 (ofZ w64 (c .ideal-of .result)))
@@ -171,7 +174,7 @@ loop-again-2 c =
     let a = c .before in
     let w = a .before .before .before .before in
     let s = from w in
-    summed-skip (isNeighbour (stated s) (s .args .j)) (idealOf (stated s)) (s .args .shape .intervals) (w .before .loop .h) _ _ (w .loop-test .taken)
+    summed-skip (isNeighbour (stated s) (s .args .j)) (idealOf (stated s)) (s .args .shape .intervals) (w .before .loop .h) _ _ (left w)
     (row-tested a ∙ c .if2 .left) (w .before .loop .inv)
 
 loop-less-3 : tie.Need-loop-less-3 Inv-loop μ-loop
@@ -182,7 +185,7 @@ loop-again-3 c =
     let a = c .before in
     let w = a .before .before in
     let s = from w in
-    summed-skip (isNeighbour (stated s) (s .args .j)) (idealOf (stated s)) (s .args .shape .intervals) (w .before .loop .h) _ _ (w .loop-test .taken)
+    summed-skip (isNeighbour (stated s) (s .args .j)) (idealOf (stated s)) (s .args .shape .intervals) (w .before .loop .h) _ _ (left w)
     (ap (λ (b : Bool). b && shares (stated s) (s .args .j) (column w)) (goal-tested a ∙ c .if1 .left)) (w .before .loop .inv)
 
 mean-by-requires : tie.Need-mean-by-requires Inv-loop μ-loop

@@ -28,7 +28,7 @@ module _ (c : tie.After-is-zero) where
 returns : tie.Need-returns
 returns c =
     let s = c .before .before in
-    sym (wish-past (stated s) (s .args .j) (c .if1 .taken))
+    sym (wish-past (stated s) (s .args .j) (omega (arith, c .if1 .taken)))
 
 mul-is-zero : tie.Need-mul-is-zero
 mul-is-zero c = search needs
