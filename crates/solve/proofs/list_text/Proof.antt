@@ -17,7 +17,10 @@ use Rattle.solve.proofs.list_text.Tie as tie
 -- what the reader leaves
 module _ (w : tie.After-read-deck) where
   abbrev start : tie.Start
-  start = let after-coefficients = w .before .before .before .before .before in after-coefficients .before .before .before
+  start =
+      let after-lower = w .before .before .before .before .before in
+      let after-coefficients = after-lower .before .before in
+      after-coefficients .before .before .before
 
   abbrev left : DeckBuffers
   left = deckBuffers (w .read-deck .last .1 .0) (w .read-deck .last .1 .1 .0) (w .read-deck .last .1 .1 .1 .0) (w .read-deck .last .1 .1 .1 .1 .0)
@@ -33,7 +36,10 @@ module _ (w : tie.After-read-deck) where
 -- what an accepted text leaves: its parts lie in the buffers
 module _ (k : tie.After-known-told2) where
   abbrev at : tie.After-read-deck
-  at = let after-goals = k .before .before .before in after-goals .before .before .before .before .before
+  at =
+      let after-ideals = k .before .before .before in
+      let after-goals = after-ideals .before .before in
+      after-goals .before .before .before .before .before
 
   abbrev n : ℕ
   n = k .before .reading2 .given .0 .0
@@ -82,6 +88,10 @@ module _ (k : tie.After-known-told2) where
 
   ideals-fit : n ≤ length (D .ideals)
   ideals-fit = let e : length (D .ideals) ≡ deckColumns = at .read-deck .kept .1 .1 .1 .1 .1 .1 .1 .0 in omega (arith, columns-few)
+
+-- where the parts of an accepted text are lent
+abbrev filled : tie.After-goals3 → tie.After-known-told2
+filled c = c .before .before .before .before .before
 
 slice-aggregate-read-deck : tie.Need-slice-aggregate-read-deck
 slice-aggregate-read-deck c = search needs
@@ -165,9 +175,8 @@ slice-aggregate-list-assigned-7 c = sym (length-take-le _ _ (ideals-fit (filled 
 
 list-assigned-requires : tie.Need-list-assigned-requires
 list-assigned-requires c κs =
-    let after-coefficients3 = c .before .before .before .before .before in
-    let after-known-told2 = after-coefficients3 .before in
-    (columns-few after-known-told2, rows-few after-known-told2)
+    let k = filled (c .before .before .before) in
+    (columns-few k, rows-few k)
 
 same-length : tie.Need-same-length
 same-length c = search needs
@@ -175,8 +184,8 @@ same-length c = search needs
 returns : tie.Need-returns
 returns c =
     let after-reading = c .before .before .before .before .before in
-    let after-rights2 = after-reading .before .before .before .before .before in
-    let after-read-deck = after-rights2 .before .before in
+    let after-upper2 = after-reading .before .before .before .before .before in
+    let after-read-deck = after-upper2 .before .before .before .before in
     let w = after-read-deck in
     let a = start w .args in
     c .before .before .list-refused .ensures ∙
@@ -188,9 +197,8 @@ same-length-2 c = search needs
 returns-2 : tie.Need-returns-2
 returns-2 c =
     let after-list-assigned = c .before .before in
-    let after-rights3 = after-list-assigned .before .before .before .before .before in
-    let after-known-told2 = after-rights3 .before .before in
-    let k = after-known-told2 in
+    let after-goals3 = after-list-assigned .before .before .before .before in
+    let k = filled after-goals3 in
     after-list-assigned .list-assigned .ensures ∙ accepted-into (text-taken k) (start (at k) .args .out .now)
 
 pub list-text-spec : {M : Type 1} → statement M

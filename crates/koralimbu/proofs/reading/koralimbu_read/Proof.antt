@@ -45,13 +45,19 @@ same-length-5 c = search needs
 same-length-6 : tie.Need-same-length-6
 same-length-6 c = search needs
 
+same-length-7 : tie.Need-same-length-7
+same-length-7 c = search needs
+
+same-length-8 : tie.Need-same-length-8
+same-length-8 c = search needs
+
 returns-2 : tie.Need-returns-2
 returns-2 c =
     let after-tell-sizes = c .before .before .before in
-    let after-rights = after-tell-sizes .before .before .before .before .before in
-    let after-read-deck = after-rights .before .before in
-    let after-read-deck-arg = after-read-deck .before .before .before .before .before in
-    let else1 = after-read-deck-arg .before in
+    let after-upper = after-tell-sizes .before .before .before .before .before in
+    let after-read-deck = after-upper .before .before .before .before in
+    let after-read-deck-arg3 = after-read-deck .before .before .before .before .before in
+    let else1 = after-read-deck-arg3 .before .before .before in
     let start = else1 .before .before .before in
     let a = start in
     let d = after-read-deck in
@@ -73,4 +79,6 @@ koralimbu-read-spec =
     same-length-4
     same-length-5
     same-length-6
+    same-length-7
+    same-length-8
     returns-2)
