@@ -3,7 +3,7 @@
 --   deck s          the deck of a text's sections, one after the other, and nothing behind them
 --   readDeck s      the deck that the text s states, or the refusal of its first place that breaks a rule
 --   columnsOf d     the columns: the intervals, then the y of each row that has one; countOf d, how many
---   coefficientsOf, lowers, uppers, goals d   the lists that the deck states, of just the lengths that n and m need: the coefficients, and of its columns
+--   coefficientsOf, lowers, uppers, goals d   the lists that the deck states, of just the lengths that n and m need
 --   stated d        what it states of its rows and columns
 --   posed limit d   the problem: these lists, and "the reader gives such an interval an ideal"
 -- Assumes nothing.

@@ -1,6 +1,6 @@
 -- Demand 3: "Nobody who restates a requirement can move the intervals", in document 01's words ("The words of demand 3") and, of ideals and strides,
--- in those of document 02, (ii): "Two restated problems must now have the same ideals too before their verdicts, refusals, counts and intervals can be
--- compared; their starting lists and bases are compared as before, and their strides where both have a verdict."
+-- in those of document 02, (ii): "Two restated problems must now have the same ideals too before their verdicts, refusals, counts and intervals
+-- can be compared; their starting lists and bases are compared as before, and their strides where both have a verdict."
 --   WithinLimits P B  "A problem is within the limits if none of causes 1 to 6 holds for it and the buffers lent with it."
 --   PastLimit P B     "It is past the elimination limit if it meets 7"
 --   IsNone P B        "and "none" if it meets 8"

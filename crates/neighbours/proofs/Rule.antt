@@ -20,8 +20,9 @@ use Rattle.whole.proofs.Counted.{every-not}
 use Rattle.whole.proofs.Integers.{isZero-true, floorQuotient-low, floorQuotient-high}
 use Rattle.whole.proofs.Tests.{both-true}
 use Rattle.settling.specs.declared.Wish.the-variants.{Unset, Set}
-use Rattle.neighbours.specs.Neighbours.{Stated, inRow, shares, isNeighbour, idealOf, chosen, neighbourIdeals, total, meanBy, mean, isPlainInterval, neighbourWish}
-use Rattle.neighbours.specs.Rule.{SharedRow, Neighbour, Plain, Apart, Among, left, Mean, HandsMean, ReaderRule, ReadersRule}
+use Rattle.neighbours.specs.Neighbours.{Stated, inRow, shares, isNeighbour, idealOf, chosen, neighbourIdeals}
+use Rattle.neighbours.specs.Neighbours.{total, meanBy, mean, isPlainInterval, neighbourWish}
+use Rattle.neighbours.specs.Rule.{SharedRow, Neighbour, Plain, Apart, Among, HandsMean, ReadersRule}
 
 -- ---- tests
 record Failing (n : ℕ) (f : ℕ → Bool) : Type 0 where

@@ -29,7 +29,8 @@ use Rattle.solve.specs.Program.{printed}
 use Rattle.solve.specs.Cases.{DeckCases}
 
 pub deck-cases : DeckCases
-unfolding numbersFrom neighbourWish every divisorBy divisor plus neg allZero lead dot sums stretch allDigits value decimal anyBeyond firstCause tableauFrom tableau lowered
+unfolding numbersFrom neighbourWish
+    every divisorBy divisor plus neg allZero lead dot sums stretch allDigits value decimal anyBeyond firstCause tableauFrom tableau lowered
     reduced each choose exchange clear round gather passColumn passColumns eliminate sweep leading remaining rightSide form solve goalIdeal ideal
     seatOne seat singles pairsWith pairs moves moved measure isRanked passes improves insert rankFrom firstMove firstColumn stepAt stepOf nextStep
     settleFrom settle stride stridesFrom settleOn assign intervals terms lines readDeck slackColumns placed coefficientRows posed linesFrom listing

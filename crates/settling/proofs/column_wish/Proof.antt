@@ -7,10 +7,6 @@ use Rattle.settling.specs.Ideals.{goalWish}
 use borrow.Author.Needs.{needs}
 use Rattle.settling.proofs.column_wish.Statement.{statement}
 use Rattle.settling.proofs.column_wish.Tie as tie
-use Rattle.settling.proofs.column_wish.Reads as reads
-use Rattle.settling.proofs.column_wish.Lts as lts
-use Rattle.settling.proofs.goal_wish.Reads as goal-wish-reads
-use Rattle.settling.proofs.measures.is_zero.Reads as is-zero-reads
 
 -- what the test says of the goal
 zero : (c : tie.After-is-zero) → isZero (c .before .args .g) ≡ c .is-zero .result

@@ -2,8 +2,6 @@
 use borrow.Author.Needs.{needs}
 use Rattle.settling.proofs.wish_mark.Statement.{statement}
 use Rattle.settling.proofs.wish_mark.Tie as tie
-use Rattle.settling.proofs.wish_mark.Reads as reads
-use Rattle.settling.proofs.wish_mark.Lts as lts
 
 enum-told : tie.Need-enum-told
 enum-told c = search needs

@@ -5,8 +5,6 @@ use mir.Val.{toZ, ofZ}
 use borrow.Author.Needs.{needs}
 use Rattle.settling.proofs.wish_number.Statement.{statement}
 use Rattle.settling.proofs.wish_number.Tie as tie
-use Rattle.settling.proofs.wish_number.Reads as reads
-use Rattle.settling.proofs.wish_number.Lts as lts
 
 enum-told : tie.Need-enum-told
 enum-told c = search needs

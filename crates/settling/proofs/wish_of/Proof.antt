@@ -7,9 +7,6 @@ use Rattle.settling.specs.declared.Wish.the-variants.{Unset, Set}
 use borrow.Author.Needs.{needs}
 use Rattle.settling.proofs.wish_of.Statement.{statement}
 use Rattle.settling.proofs.wish_of.Tie as tie
-use Rattle.settling.proofs.wish_of.Reads as reads
-use Rattle.settling.proofs.wish_of.Lts as lts
-use Rattle.settling.proofs.measures.is_zero.Reads as is-zero-reads
 
 -- what the test says of the mark
 marked : (c : tie.After-is-zero) → isZero (c .before .args .given) ≡ c .is-zero .result

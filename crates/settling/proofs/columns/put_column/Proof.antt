@@ -72,8 +72,9 @@ same-length c =
 returns : tie.Need-returns
 returns c =
     let s = c .before .before .before .before in
+    let wish = c .before .before .column-wish .ensures ∙ ap (λ (g : ℤ). columnWish g (s .args .handed)) (toZ-ofZ (s .fits .goal)) in
     c .before .put-wish .ensures
-    ∙ (λ i. putWish (s .args .at) ((c .before .before .column-wish .ensures ∙ ap (λ (g : ℤ). columnWish g (s .args .handed)) (toZ-ofZ (s .fits .goal))) i)
+    ∙ (λ i. putWish (s .args .at) (wish i)
     (set (set (set (set (s .args .columns .now) (s .args .at + 0) (toZ-ofZ (s .fits .lower) i)) (s .args .at + 1) (toZ-ofZ (s .fits .upper) i))
     (s .args .at + 2) (toZ-ofZ (s .fits .goal) i)) (s .args .at + 3) (toZ-ofZ (s .fits .goal) i)))
 

@@ -1,5 +1,5 @@
 -- `settling::columns::put_wish` meets its contract: the two numbers are those of the wish. Assumes nothing.
-use mathlib.Core.Path.{_≡_, _∙_}
+use mathlib.Core.Path.{_∙_}
 use Prim.Native.Nat.{_+_}
 use native.Mathlib.Omega.{arith}
 use lib.ListN.{set, length-set}
@@ -7,10 +7,6 @@ use Rattle.whole.proofs.Signed.{back}
 use borrow.Author.Needs.{needs}
 use Rattle.settling.proofs.columns.put_wish.Statement.{statement}
 use Rattle.settling.proofs.columns.put_wish.Tie as tie
-use Rattle.settling.proofs.columns.put_wish.Reads as reads
-use Rattle.settling.proofs.columns.put_wish.Lts as lts
-use Rattle.settling.proofs.wish_mark.Reads as wish-mark-reads
-use Rattle.settling.proofs.wish_number.Reads as wish-number-reads
 
 wish-mark-requires : tie.Need-wish-mark-requires
 wish-mark-requires c κs = search needs
@@ -42,8 +38,9 @@ same-length c = search needs
 returns : tie.Need-returns
 returns c =
     let s = c .before .before in
-    (λ i. set (set (s .args .columns .now) (s .args .at + 4) ((back _ (c .before .wish-mark .ok) ∙ c .before .wish-mark .ensures) i)) (s .args .at + 5)
-    ((back _ (c .wish-number .ok) ∙ c .wish-number .ensures) i))
+    (λ i. set
+    (set (s .args .columns .now) (s .args .at + 4) ((back _ (c .before .wish-mark .ok) ∙ c .before .wish-mark .ensures) i))
+    (s .args .at + 5) ((back _ (c .wish-number .ok) ∙ c .wish-number .ensures) i))
 
 pub put-wish-spec : {M : Type 1} → statement M
 put-wish-spec =

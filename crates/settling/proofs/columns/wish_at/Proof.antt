@@ -1,5 +1,5 @@
 -- `settling::columns::wish_at` meets its contract: the wish is that of the record's mark and number. Assumes nothing.
-use mathlib.Core.Path.{_≡_, _∙_}
+use mathlib.Core.Path.{_∙_}
 use Prim.Native.Nat.{_+_, _*_}
 use Rattle.whole.specs.Lists.{entry}
 use Rattle.whole.proofs.Signed.{back}
@@ -8,9 +8,6 @@ use Rattle.settling.specs.Ideals.{wishOf}
 use borrow.Author.Needs.{needs}
 use Rattle.settling.proofs.columns.wish_at.Statement.{statement}
 use Rattle.settling.proofs.columns.wish_at.Tie as tie
-use Rattle.settling.proofs.columns.wish_at.Reads as reads
-use Rattle.settling.proofs.columns.wish_at.Lts as lts
-use Rattle.settling.proofs.wish_of.Reads as wish-of-reads
 
 mul-at : tie.Need-mul-at
 mul-at c = search needs
