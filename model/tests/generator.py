@@ -1,5 +1,6 @@
 """The generator of random problems and texts: what it must make often enough to tell."""
 
+import engine
 import generate
 import text
 from engine import FITTED, OUTSIDE, PROBLEM_LISTS, SPENT, goal_ideal, into_bounds
@@ -74,13 +75,13 @@ def kinds_of_damage(case):
     """Which of the lists of ideals has a wrong length, and which cause is then named."""
     problem, n = case.problem, case.problem.n
     given, ideals = len(problem.given) - n, len(problem.ideals) - n
-    wrong = 1 <= n <= 48 and (given, ideals) != (0, 0)
-    number = case.run()[0]
+    number = case.run()[0] if (given, ideals) != (0, 0) else 0
+    later = (engine.row_number_outside(problem) or engine.bound_outside(problem)
+             or engine.goal_outside(problem) or engine.limit_outside(problem))
     return {"given shorter": given < 0 == ideals, "given longer": given > 0 == ideals,
             "ideals shorter": ideals < 0 == given, "ideals longer": ideals > 0 == given,
-            "as long together": given == -ideals != 0,
-            "refused by 1 before": not 1 <= n <= 48 and number == 1,
-            "refused by 2": wrong and number == 2}
+            "as long together": given == -ideals != 0, "refused by 1 before": number == 1,
+            "refused by 2": number == 2, "refused by 2 before others": number == 2 and later}
 
 
 @test
@@ -101,8 +102,8 @@ def kinds_of_intervals(deck):
             if any(shared[:j] + shared[j + 1:]):
                 shown.add("beside plain ones only")
             continue
-        ideals = [into_bounds(goal_ideal(deck.goals[h]), deck.lower[h],
-                                       deck.upper[h]) for h in beside]
+        ideals = [into_bounds(goal_ideal(deck.goals[h]), deck.lower[h], deck.upper[h])
+                  for h in beside]
         shown.add("one neighbour" if len(beside) == 1 else "several neighbours")
         if any(shared[h] > 1 for h in beside):
             shown.add("a neighbour in two rows")
