@@ -1,14 +1,16 @@
 """The formal definitions against the plain model, on random cases.
 
-    python3 model/against_definitions.py [PROBLEMS TEXTS SEED RUNS PREVIEWS]
+    python3 model/against_definitions.py [PROBLEMS TEXTS SEED RUNS PREVIEWS IDEALS]
 
 The definitions of crates/*/specs compute. This writes a crate of one equation
 for each case below target/against, with the model's answer on its right side,
 and has the checker compute the left sides: whole assignments and Continue with
-every lent buffer afterwards, texts with the listing's bytes, the runs of both calls
-with what falls at a step (document 02, (xiii)), and previews with what they tell and
-leave (document 02, (i)), many of which show a step. Cases are kept small, since the
-checker computes slowly. The last line is 'N passed, M failed'.
+every lent buffer afterwards, with ideals handed in for none, some or all columns, texts
+with the listing's bytes, the runs of both calls with what falls at a step (document 02,
+(xiii)), previews with what they tell and leave (document 02, (i)), many of which show a
+step, and the two lists of ideals that the reader hands in for what texts state (document
+02, (ii)), many of which set one. Cases are kept small, since the checker computes
+slowly. The last line is 'N passed, M failed'.
 """
 
 import os
@@ -19,10 +21,11 @@ from fractions import Fraction
 
 import needs
 import runs
-from engine import preview, ratio
+from engine import PROBLEM_LISTS, preview, ratio
 from generate import preview_case, problem_case, rng_for, text_case
 from listing import listing
 from needs import ROOT
+from text import read
 
 SCRATCH = os.path.join(ROOT, "target", "against")
 
@@ -55,10 +58,10 @@ def naturals(numbers):
 
 def posed(problem):
     return ("(record { problem = record { columns = %d; rows = %d; limit = %d };"
-            " coefficients = %s; rights = %s; lower = %s; upper = %s; goals = %s })"
-            % (problem.n, problem.m, problem.limit, integers(problem.coefficients),
-               integers(problem.rights), integers(problem.lower),
-               integers(problem.upper), integers(problem.goals)))
+            " coefficients = %s; rights = %s; lower = %s; upper = %s; goals = %s;"
+            " given = %s; ideals = %s })"
+            % (problem.n, problem.m, problem.limit,
+               *[integers(getattr(problem, name)) for name in PROBLEM_LISTS]))
 
 
 def buffers(lent):
@@ -163,6 +166,23 @@ def preview_equation(rng):
                integers(lent.tableau), integers(lent.values), naturals(lent.strides)))
 
 
+def ideals_equation(rng):
+    """The two lists of ideals of a read text as an equation, or None where the text is
+    refused or too large, or sets none in a draw for one."""
+    set_one = rng.random() < 0.75
+    deck = read(text_case(rng))
+    if isinstance(deck, int) or deck.n * (deck.m + deck.n) > MOST_NUMBERS:
+        return None
+    if set_one and not any(deck.given):
+        return None
+    n, m = deck.n, deck.m
+    stated = ("(statedBy %d %d %d %s %s %s %s)"
+              % (n, m, deck.intervals, integers(deck.coefficients[:m * n]),
+                 integers(deck.lower[:n]), integers(deck.upper[:n]), integers(deck.goals[:n])))
+    return ("(givenOf %s %d ≡ %s) × (idealsOf %s %d ≡ %s)"
+            % (stated, n, integers(deck.given[:n]), stated, n, integers(deck.ideals[:n])))
+
+
 def some(make, count, seed):
     """The first count cases that are small enough."""
     found = []
@@ -232,6 +252,7 @@ use Rattle.engine.specs.declared.preview.Seen.the-variants.{Refused as Unseen, 
 use Rattle.runs.specs.Sorted.{sorted}
 use Rattle.runs.specs.Runs.{distances, ratios}
 use Rattle.runs.specs.CallRuns.{assignRun, continueRun}
+use Rattle.neighbours.specs.Neighbours.{statedBy, givenOf, idealsOf}
 use Rattle.solve.specs.Program.{printed}
 """ % ", ".join(REFUSALS)
 
@@ -265,18 +286,20 @@ def write_crate(equations):
     with open(os.path.join(specs, "Cases.antt"), "w", encoding="utf-8") as out:
         out.write(HEAD + uses)
         for number, equation in enumerate(equations, 1):
-            proof = "(refl, refl, refl)" if " × " in equation else "refl"
+            proofs = ["refl"] * (1 + equation.count(" × "))
+            proof = "(%s)" % ", ".join(proofs) if len(proofs) > 1 else "refl"
             out.write("\ncase%d : %s\nunfolding %s\ncase%d = %s\n"
                       % (number, equation, " ".join(opened), number, proof))
 
 
 def main(arguments):
-    counts = needs.numbers(arguments, [60, 60, 1, 20, 30], __doc__)
+    counts = needs.numbers(arguments, [60, 60, 1, 20, 30, 40], __doc__)
     rt = needs.rt()
     equations = some(problem_equation, counts[0], counts[2])
     equations += some(text_equation, counts[1], counts[2])
     equations += some(run_equation, counts[3], counts[2])
     equations += some(preview_equation, counts[4], counts[2])
+    equations += some(ideals_equation, counts[5], counts[2])
     write_crate(equations)
     run = subprocess.run([rt, "check", "cases"], cwd=SCRATCH, capture_output=True, text=True)
     log = run.stdout + run.stderr

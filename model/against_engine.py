@@ -4,10 +4,11 @@
 
 Builds the crate koralimbu as a static library, links that into a shared object below
 target/, and calls koralimbu_assign and koralimbu_continue on the problems of
-generate.py, valid and damaged. The returned number, the report and every buffer
-afterwards must be the model's, the problem's buffers and the numbers on both
-sides of each buffer must be as before, and a report of a wrong length must be
-refused with nothing changed. Step limits beyond 32 bits, which C's type cannot
+generate.py, valid and damaged, with ideals handed in for none, some or all columns
+(document 02, (ii)); in how many calls they play a part is printed. The returned number,
+the report and every buffer afterwards must be the model's, the problem's buffers and the
+numbers on both sides of each buffer must be as before, and a report of a wrong length
+must be refused with nothing changed. Step limits beyond 32 bits, which C's type cannot
 hold, are left out.
 
 Then RUNS runs are made list by list: the case's call with the step limit 0, and
@@ -26,12 +27,13 @@ kind of KINDS must be among them: some 1,000 calls have them all.
 The last line is 'N passed, M failed'.
 """
 
+import copy
 import ctypes
 
 import needs
 from boundary import Buffer, Tally, call, declare, load
-from engine import (BOUNDS, FITTED, GOALS, OUTSIDE, SPENT, WRONG_LENGTH, Lent, Problem,
-                    preview)
+from engine import (BOUNDS, FITTED, GOALS, LENT_LISTS, OUTSIDE, PROBLEM_LISTS, SPENT,
+                    WRONG_LENGTH, Lent, preview)
 from generate import Case, preview_case, problem_case, rng_for
 from runs import faults, run_from
 
@@ -39,8 +41,6 @@ VERDICTS = {FITTED: 1, OUTSIDE: 2, SPENT: 3}
 PARTS = {BOUNDS: 1, GOALS: 2}
 SIGNS = {1: 1, -1: 2}
 STEP_NUMBERS = 6
-READ = ["coefficients", "rights", "lower", "upper", "goals"]
-FILLED = ["tableau", "values", "strides"]
 NUMBERS = {"strides": ctypes.c_uint64, "report": ctypes.c_uint32}
 MOST_STEPS = 60
 
@@ -55,9 +55,11 @@ KINDS += ["no move", "refusal 1", "refusal 2", "refusal 3", "refusal 4", "refusa
 def engine_functions(library):
     """The engine's functions by call."""
     numbers = [ctypes.c_size_t, ctypes.c_size_t, ctypes.c_uint32]
-    return {"assign": declare(library.koralimbu_assign, numbers, 9),
-            "continue": declare(library.koralimbu_continue, numbers, 9),
-            "preview": declare(library.koralimbu_preview, numbers[:2], 10)}
+    # the lists and the report; a preview has the standing list beside them
+    buffers = len(PROBLEM_LISTS) + len(LENT_LISTS) + 1
+    return {"assign": declare(library.koralimbu_assign, numbers, buffers),
+            "continue": declare(library.koralimbu_continue, numbers, buffers),
+            "preview": declare(library.koralimbu_preview, numbers[:2], buffers + 1)}
 
 
 def as_buffers(lists):
@@ -69,8 +71,8 @@ def as_buffers(lists):
 def engine_call(functions, case, report):
     """The returned number and every buffer after the engine's call."""
     problem = case.problem
-    lists = {name: getattr(problem, name) for name in READ}
-    lists.update((name, getattr(case.lent, name)) for name in FILLED)
+    lists = {name: getattr(problem, name) for name in PROBLEM_LISTS}
+    lists.update((name, getattr(case.lent, name)) for name in LENT_LISTS)
     lists["report"] = report
     return call(functions[case.call], [problem.n, problem.m, problem.limit],
                 as_buffers(lists))
@@ -79,7 +81,7 @@ def engine_call(functions, case, report):
 def model_call(case, report):
     """The same of the model, which knows no report: one of a wrong length is refusal 2
     and changes nothing."""
-    after = {name: list(getattr(case.problem, name)) for name in READ}
+    after = {name: list(getattr(case.problem, name)) for name in PROBLEM_LISTS}
     if len(report) == 3:
         outcome, bounds, goals = case.run()
         after["number"] = 0 if outcome in VERDICTS else outcome
@@ -87,7 +89,7 @@ def model_call(case, report):
     else:
         after["number"] = WRONG_LENGTH
         after["report"] = report
-    after.update((name, list(getattr(case.lent, name))) for name in FILLED)
+    after.update((name, list(getattr(case.lent, name))) for name in LENT_LISTS)
     after["edges"] = {}
     return after
 
@@ -174,7 +176,7 @@ def told(step):
 
 def engine_preview(functions, problem, standing, lent, report):
     """The returned number and every buffer after the engine's preview."""
-    lists = {name: getattr(problem, name) for name in READ}
+    lists = {name: getattr(problem, name) for name in PROBLEM_LISTS}
     lists.update(standing=standing, tableau=lent.tableau, after=lent.values,
                  strides=lent.strides, report=report)
     return call(functions["preview"], [problem.n, problem.m], as_buffers(lists))
@@ -182,7 +184,7 @@ def engine_preview(functions, problem, standing, lent, report):
 
 def model_preview(problem, standing, lent, report):
     """The same of the model; a report of a wrong length as above."""
-    after = {name: list(getattr(problem, name)) for name in READ}
+    after = {name: list(getattr(problem, name)) for name in PROBLEM_LISTS}
     after.update(standing=list(standing), number=WRONG_LENGTH, report=report, edges={})
     if len(report) == STEP_NUMBERS:
         after["number"], step = preview(problem, standing, lent)
@@ -196,10 +198,10 @@ def by_continue(functions, problem, standing, lent):
     """What a preview must leave by the engine's Continue with limit 1 on a copy of the
     list: the list after is as before where that is refused, and the part is the one whose
     count is 1."""
-    once = Problem(problem.n, problem.m, problem.coefficients, problem.rights,
-                   problem.lower, problem.upper, problem.goals, 1)
-    copy = Lent(lent.tableau, standing, lent.strides)
-    after = engine_call(functions, Case("continue", once, copy), [0, 0, 0])
+    once = copy.copy(problem)
+    once.limit = 1
+    beside = Lent(lent.tableau, standing, lent.strides)
+    after = engine_call(functions, Case("continue", once, beside), [0, 0, 0])
     _, bounds, goals = after["report"]
     return {"number": after["number"], "tableau": after["tableau"],
             "strides": after["strides"], "part": bounds * PARTS[BOUNDS] + goals * PARTS[GOALS],
@@ -239,14 +241,23 @@ def compare_previews(tally, functions, count, seed):
         tally.require("a preview of the kind: " + kind, met[kind] > 0)
 
 
-def main(arguments):
-    count, seed, runs, previews = needs.numbers(arguments, [4000, 1, 500, 3000], __doc__)
-    tally = Tally()
-    library = load("the engine is not compared with the plain model")
-    if library is None:
-        return tally.end()
-    functions = engine_functions(library)
-    left_out = 0
+def left_by_model(case, given):
+    """What the model answers and leaves, on copies, with these marks for the ideals."""
+    problem = copy.copy(case.problem)
+    problem.given = given
+    lent = Lent(*[list(getattr(case.lent, name)) for name in LENT_LISTS])
+    return Case(case.call, problem, lent).run(), lent.values
+
+
+def moved_by_ideals(case):
+    """Whether the ideals that are handed in change what a call answers or leaves."""
+    given = case.problem.given
+    return any(given) and left_by_model(case, given) != left_by_model(case, [0] * len(given))
+
+
+def compare_calls(tally, functions, count, seed):
+    """Whole assignments and Continues of random problems."""
+    left_out = moved = 0
     for number in range(1, count + 1):
         rng = rng_for(seed, number)
         case = problem_case(rng)
@@ -257,9 +268,22 @@ def main(arguments):
             continue
         what = "case %d of seed %d: %s, n %d, m %d, limit %d" % (
             number, seed, case.call, problem.n, problem.m, problem.limit)
+        moved += moved_by_ideals(case)
         got = engine_call(functions, case, report)
         tally.compare(what, got, model_call(case, report))
     print("%d left out: a step limit beyond 32 bits" % left_out)
+    print("%d calls in which ideals that are handed in play a part" % moved)
+    tally.require("a call in which an ideal plays a part", moved > 0)
+
+
+def main(arguments):
+    count, seed, runs, previews = needs.numbers(arguments, [4000, 1, 500, 3000], __doc__)
+    tally = Tally()
+    library = load("the engine is not compared with the plain model")
+    if library is None:
+        return tally.end()
+    functions = engine_functions(library)
+    compare_calls(tally, functions, count, seed)
     compare_runs(tally, functions, runs, seed)
     compare_previews(tally, functions, previews, seed)
     return tally.end()

@@ -157,12 +157,14 @@ SHAPES = [mesh_rows, tied_rows, repeated_rows, small_dense_rows, large_entry_row
 
 def engine_form(assign, rng, n, rows):
     """The returned number and the tableau. Half of the right sides are random, so that there are refusals 8;
-    goals at the largest with low upper bounds pull columns far enough for refusals 9."""
+    goals at the largest with low upper bounds pull columns far enough for refusals 9. Ideals that are handed in
+    leave the form as it is."""
     m = len(rows)
     rights = [rng.randint(-9, 9) for _ in range(m)] if rng.random() < 0.5 else [0] * m
     goals = [10 ** 9] * n if rng.random() < 0.2 else [0] * n
     lists = {"coefficients": [a for row in rows for a in row], "rights": rights, "lower": [1] * n,
-             "upper": [10 ** 6] * n, "goals": goals, "tableau": [7] * (n * (m + n)),
+             "upper": [10 ** 6] * n, "goals": goals, "given": [rng.choice([0, 0, 1, -7]) for _ in range(n)],
+             "ideals": [rng.randint(-99, 999) for _ in range(n)], "tableau": [7] * (n * (m + n)),
              "values": [0] * n, "strides": [0] * n, "report": [0] * 3}
     buffers = {name: Buffer(NUMBERS.get(name, ctypes.c_int64), numbers)
                for name, numbers in lists.items()}

@@ -2,9 +2,9 @@
 
     python3 model/against_listing.py [COUNT SEED]
 
-Builds the program, and runs it on document 01's deck cases, the sample decks, texts
-at and past the longest, and COUNT texts of generate.py: as laid out, damaged,
-truncated and binary. Each listing must be the expected one or the model's, and the
+Builds the program, and runs it on document 01's deck cases, decks of plain curves
+beside others (document 02, (ii)), the sample decks, texts at and past the longest, and
+COUNT texts of generate.py: as laid out, damaged, truncated and binary. Each listing must be the expected one or the model's, and the
 program must end with status 0 and write nothing else. Then it is tried at its edges
 (edges.py): standard files that cannot be read or written, a terminal, an argument,
 texts that come in pieces. The last line is 'N passed, M failed'.
@@ -51,6 +51,44 @@ DECK_CASES = [
      "REFUSED 9\n"),
 ]
 
+# Document 02, (ii), by hand: in a row of kind 1 over all curves each of them leads, so that
+# each is seated at its ideal. A curve with goal 0 is a plain one.
+BESIDE = "1 0 3 1 1 2 1 3 1\n"
+NEIGHBOUR_CASES = [
+    # “the mean, rounded down”: 4 and 7 have 5
+    ("3\n1 100 0\n1 100 4000\n1 100 7000\n1\n" + BESIDE,
+     "FITTED 0 0\n1 5 1\n2 4 1\n3 7 1\n4 16 1\n"),
+    # “each counted once”: 4, in two rows, and 10 have 7
+    ("3\n1 100 0\n1 100 4000\n1 100 10000\n2\n" + BESIDE + "1 0 2 1 1 2 1\n",
+     "FITTED 0 0\n1 7 1\n2 4 1\n3 10 1\n4 21 1\n5 11 1\n"),
+    # an ideal is in its bounds: 5, for a goal of 9, and 7 have 6
+    ("3\n1 100 0\n1 5 9000\n1 100 7000\n1\n" + BESIDE,
+     "FITTED 0 0\n1 6 1\n2 5 1\n3 7 1\n4 18 1\n"),
+    # “brought into the bounds”: 5 is above 1..3, and below 20..30
+    ("3\n1 3 0\n1 100 4000\n1 100 7000\n1\n" + BESIDE,
+     "FITTED 0 0\n1 3 1\n2 4 1\n3 7 1\n4 14 1\n"),
+    ("3\n20 30 0\n1 100 4000\n1 100 7000\n1\n" + BESIDE,
+     "FITTED 0 0\n1 20 1\n2 4 1\n3 7 1\n4 31 1\n"),
+    # “intervals with a goal”: the second plain curve does not count for the first
+    ("3\n1 100 0\n50 100 0\n1 100 7000\n1\n" + BESIDE,
+     "FITTED 0 0\n1 7 1\n2 50 1\n3 7 1\n4 64 1\n"),
+    # “in some row with it”: the third curve is in no row with the first
+    ("3\n1 100 0\n1 100 4000\n1 100 9000\n2\n1 0 2 1 1 2 1\n1 0 2 2 1 3 1\n",
+     "FITTED 0 0\n1 4 1\n2 4 1\n3 9 1\n4 8 1\n5 13 1\n"),
+    # “unset if there are none”: plain curves alone stay where the rows put them
+    ("3\n-9 9 0\n-9 9 0\n1 100 7000\n1\n0 13 2 1 1 2 -5\n",
+     "FITTED 0 0\n1 3 5\n2 -2 1\n3 7 1\n"),
+    ("2\n3 9 0\n1 100 7000\n0\n", "FITTED 0 0\n1 3 1\n2 7 1\n"),
+]
+
+
+def by_hand():
+    """What a case is, its deck, and its listing, by document 01 and by document 02."""
+    for number, (deck, wanted) in enumerate(DECK_CASES, 1):
+        yield "deck case %d" % number, deck.encode(), wanted.encode()
+    for number, (deck, wanted) in enumerate(NEIGHBOUR_CASES, 1):
+        yield "neighbour case %d" % number, deck.encode(), wanted.encode()
+
 
 def samples():
     """The sample decks with their listings, by name."""
@@ -71,8 +109,7 @@ def long_texts():
 
 def cases(count, seed):
     """What a case is, its text, and the listing wanted."""
-    for number, (deck, wanted) in enumerate(DECK_CASES, 1):
-        yield "deck case %d" % number, deck.encode(), wanted.encode()
+    yield from by_hand()
     yield from samples()
     yield from long_texts()
     for number in range(1, count + 1):

@@ -3,11 +3,13 @@
     python3 model/against_reader.py [COUNT SEED]
 
 Builds the crate koralimbu as against_engine.py does, and calls koralimbu_read on document
-01's deck cases, the sample decks, the fullest deck and the longest texts; on buffers
+01's deck cases, the sample decks, the fullest decks and the longest texts; on buffers
 and sizes that are empty or one number off; and on COUNT texts of generate.py, as laid
 out, damaged and binary, with some buffers of a wrong length. Every buffer holds
 anything before the call. The returned number and every buffer afterwards must be the
-model's, and the text and the numbers on both sides of each buffer must be as before.
+model's, the ideals that the reader hands in among them (document 02, (ii)), and the text
+and the numbers on both sides of each buffer must be as before. How many of the texts
+set ideals or leave plain intervals without one is printed; there must be some of each.
 Where a text has a known listing, a whole assignment goes on from the read buffers as
 the header says, and must give that listing. The last line is 'N passed, M failed'.
 """
@@ -16,16 +18,20 @@ import ctypes
 
 import needs
 from against_engine import VERDICTS, engine_call, engine_functions
-from against_listing import DECK_CASES, long_texts, samples
+from against_listing import DECK_CASES, by_hand, long_texts, samples
 from boundary import Buffer, Tally, call, declare, load
-from engine import MAX_COLUMNS, MAX_ROWS, WRONG_LENGTH
+from engine import MAX_COLUMNS, MAX_ROWS, PROBLEM_LISTS, WRONG_LENGTH
 from generate import Case, noise, rng_for, text_case
 from listing import blank_lent, problem_of, refusal_lines, verdict_lines
 from text import MAX_COEFFICIENTS, MAX_TEXT, Deck, read
 
 LENGTHS = {"coefficients": MAX_COEFFICIENTS, "rights": MAX_ROWS, "lower": MAX_COLUMNS,
-           "upper": MAX_COLUMNS, "goals": MAX_COLUMNS, "sizes": 3}
+           "upper": MAX_COLUMNS, "goals": MAX_COLUMNS, "given": MAX_COLUMNS,
+           "ideals": MAX_COLUMNS, "sizes": 3}
 NUMBERS = {"text": ctypes.c_uint8, "sizes": ctypes.c_size_t}
+
+# What texts show of the ideals that the reader hands in.
+IDEALS = ["an ideal set", "a plain interval without one", "a slack beside a set ideal"]
 
 
 # --------------------------------------------------------------------- the calls
@@ -69,7 +75,7 @@ def listing_by_calls(functions, after):
         return refusal_lines(after["number"])
     deck = Deck()
     deck.n, deck.m, _ = after["sizes"]
-    for name in ("coefficients", "rights", "lower", "upper", "goals"):
+    for name in PROBLEM_LISTS:
         setattr(deck, name, after[name])
     case = Case("assign", problem_of(deck), None)
     case.lent = blank_lent(case.problem)
@@ -85,20 +91,30 @@ def listing_by_calls(functions, after):
 
 def listed_texts():
     """What a case is, its text, and its listing."""
-    for number, (deck, wanted) in enumerate(DECK_CASES, 1):
-        yield "deck case %d" % number, deck.encode(), wanted.encode()
+    yield from by_hand()
     yield from samples()
     yield from long_texts()
 
 
-def full_texts():
-    """48 intervals and 48 rows of 48 terms, as short as it goes and filled up to the
-    longest text and one byte past it."""
+def full_deck(plain):
+    """48 intervals and 48 rows of 48 terms; so many of the intervals are plain, the first
+    and the last among them."""
+    wanted, without = b"1 1000000 1000000000\n", b"1 1000000 0\n"
+    intervals = (without * (plain - plain // 2) + wanted * (MAX_COLUMNS - plain)
+                 + without * (plain // 2))
     terms = b"".join(b" %d -1000" % index for index in range(1, MAX_COLUMNS + 1))
-    deck = (b"%d\n" % MAX_COLUMNS + b"1 1000000 1000000000\n" * MAX_COLUMNS
+    return (b"%d\n" % MAX_COLUMNS + intervals
             + b"%d\n" % MAX_ROWS + (b"0 -1000000 %d" % MAX_COLUMNS + terms + b"\n") * MAX_ROWS)
+
+
+def full_texts():
+    """The fullest deck, as short as it goes and filled up to the longest text and one byte
+    past it; and with plain intervals, each with as many neighbours as there are goals."""
+    deck = full_deck(0)
     for length in (len(deck), MAX_TEXT, MAX_TEXT + 1):
         yield "the fullest deck in %d bytes" % length, deck.ljust(length)
+    for plain in (1, 2, 24, MAX_COLUMNS - 1, MAX_COLUMNS):
+        yield "the fullest deck with %d plain" % plain, full_deck(plain)
 
 
 def wrong_lengths():
@@ -106,6 +122,10 @@ def wrong_lengths():
     for name, length in LENGTHS.items():
         for wrong in (0, length - 1, length + 1):
             yield "%s of %d" % (name, wrong), dict(LENGTHS, **{name: wrong})
+    # as many numbers together as there must be
+    for one, other in (("given", "ideals"), ("ideals", "given"), ("goals", "given")):
+        lengths = {one: MAX_COLUMNS - 1, other: MAX_COLUMNS + 1}
+        yield "%s shorter, %s longer" % (one, other), dict(LENGTHS, **lengths)
     yield "all of 0", dict.fromkeys(LENGTHS, 0)
 
 
@@ -135,17 +155,41 @@ def cases(count, seed):
         yield "text %d of seed %d" % (number, seed), text_case(rng), random_lengths(rng)
 
 
+def ideals_met(after):
+    """Which of IDEALS a reading shows, by what the reader tells and leaves."""
+    if after["number"] != 0:
+        return []
+    n, _, intervals = after["sizes"]
+    plain = [after["given"][j] for j in range(intervals) if after["goals"][j] == 0]
+    found = {"an ideal set": any(plain), "a plain interval without one": not all(plain),
+             "a slack beside a set ideal": any(plain) and n > intervals}
+    return [kind for kind in IDEALS if found[kind]]
+
+
+def compare_readings(tally, reader, count, seed):
+    """Every case, on buffers that hold anything."""
+    met = dict.fromkeys(IDEALS, 0)
+    for number, (what, data, lengths) in enumerate(cases(count, seed)):
+        lists = noisy_lists(rng_for(seed + 1, number), lengths)
+        got = reader_call(reader, data, lists)
+        tally.compare(what, got, model_call(data, lists))
+        for kind in ideals_met(got):
+            met[kind] += 1
+    print("texts read: " + ", ".join("%s %d" % pair for pair in met.items()))
+    for kind, texts in met.items():
+        tally.require("a text with " + kind, texts > 0)
+
+
 def main(arguments):
     count, seed = needs.numbers(arguments, [4000, 1], __doc__)
     tally = Tally()
     library = load("the reader is not compared with the plain model")
     if library is None:
         return tally.end()
-    reader = declare(library.koralimbu_read, [], 7)
+    # the text, the lists and the sizes
+    reader = declare(library.koralimbu_read, [], 1 + len(LENGTHS))
     engine = engine_functions(library)
-    for number, (what, data, lengths) in enumerate(cases(count, seed)):
-        lists = noisy_lists(rng_for(seed + 1, number), lengths)
-        tally.compare(what, reader_call(reader, data, lists), model_call(data, lists))
+    compare_readings(tally, reader, count, seed)
     for number, (what, data, wanted) in enumerate(listed_texts()):
         after = reader_call(reader, data, noisy_lists(rng_for(seed + 2, number), LENGTHS))
         lines = listing_by_calls(engine, after)

@@ -4,6 +4,8 @@ Every function carries out a sentence of document 01 and quotes it. Whole
 numbers are Python's, so nothing here overflows or is cut off. Rows and columns
 are counted from 0 in the code and from 1 in document 01.
 
+Ideals handed in and previews are document 02's, whose sentences stand at them.
+
 assign(problem, lent) is a whole assignment, cont(problem, lent) is Continue.
 Both return (outcome, steps of the bounds part, steps of the goals part), where
 the outcome is the word FITTED, OUTSIDE or SPENT or the number of a refusal.
@@ -44,11 +46,19 @@ NO_WHOLE_NUMBERS = 8
 SEATING_BEYOND = 9
 LIST_NOT_FIT = 10
 
+# The lists of a problem, and those that a call may write, in the order of every call.
+PROBLEM_LISTS = ["coefficients", "rights", "lower", "upper", "goals", "given", "ideals"]
+LENT_LISTS = ["tableau", "values", "strides"]
+
 
 class Problem:
-    """“n columns, 1 to 48; m rows, 0 to 48”; the coefficients lie flat, n to a row."""
+    """“n columns, 1 to 48; m rows, 0 to 48”; the coefficients lie flat, n to a row.
 
-    def __init__(self, n, m, coefficients, rights, lower, upper, goals, limit):
+    Document 02, (ii): “Any number may be handed in as an ideal”, so that no number can say
+    that there is none: given has a mark for each column, 0 where its ideal is unset and any
+    other number where the one in ideals is handed in."""
+
+    def __init__(self, n, m, coefficients, rights, lower, upper, goals, given, ideals, limit):
         self.n = n
         self.m = m
         self.coefficients = coefficients
@@ -56,7 +66,14 @@ class Problem:
         self.lower = lower
         self.upper = upper
         self.goals = goals
+        self.given = given
+        self.ideals = ideals
         self.limit = limit
+
+
+def unset(n):
+    """The lists given and ideals of n columns for which no ideal is handed in."""
+    return [0] * n, [0] * n
 
 
 class Lent:
@@ -94,6 +111,8 @@ def wrong_length(problem, lent):
             or len(problem.lower) != n
             or len(problem.upper) != n
             or len(problem.goals) != n
+            or len(problem.given) != n
+            or len(problem.ideals) != n
             or len(lent.tableau) != n * (m + n)
             or len(lent.values) != n
             or len(lent.strides) != n)
@@ -292,8 +311,14 @@ def goal_ideal(goal):
 
 def ideal(problem, j, present):
     """“The ideal of a column with goal g ... Without a goal it is the present value
-    brought into the bounds.”"""
-    wanted = goal_ideal(problem.goals[j]) if problem.goals[j] > 0 else present
+    brought into the bounds.” Document 02, (ii): an ideal that is handed in “is used only
+    without a goal, and brought into the bounds”; “unset, document 01's rule holds”."""
+    if problem.goals[j] > 0:
+        wanted = goal_ideal(problem.goals[j])
+    elif problem.given[j] != 0:
+        wanted = problem.ideals[j]
+    else:
+        wanted = present
     return into_bounds(wanted, problem.lower[j], problem.upper[j])
 
 

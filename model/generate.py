@@ -14,6 +14,8 @@ A problem is printed as lines of fields parted by one space:
     lower LENGTH numbers...
     upper LENGTH numbers...
     goals LENGTH numbers...
+    given LENGTH numbers...              0 where no ideal is handed in
+    ideals LENGTH numbers...
     tableau LENGTH numbers...            the lent buffers before the call
     values LENGTH numbers...
     strides LENGTH numbers...
@@ -35,9 +37,10 @@ import random
 import sys
 
 import needs
-from engine import (GOALS, M, MAX_BOUND, MAX_COEFFICIENT, MAX_COLUMNS, MAX_GOAL, MAX_LIMIT,
-                    MAX_RIGHT, MAX_ROWS, Lent, Problem, assign, basis_of, bring_to_form,
-                    cont, fill, move_named, move_names, part_of)
+from engine import (GOALS, LENT_LISTS, M, MAX_BOUND, MAX_COEFFICIENT, MAX_COLUMNS, MAX_GOAL,
+                    MAX_LIMIT, MAX_RIGHT, MAX_ROWS, PROBLEM_LISTS, Lent, Problem, assign,
+                    basis_of, bring_to_form, cont, fill, move_named, move_names, part_of,
+                    unset)
 from listing import listing
 from text import MAX_TEXT
 
@@ -134,7 +137,7 @@ def solvable_problem(rng, n, m, size, density, spread):
         columns = columns_around(rng, hidden, spread, goals)
     else:
         columns = random_columns(rng, n, spread, goals)
-    problem = Problem(n, m, coefficients, rights, *columns, random_limit(rng))
+    problem = Problem(n, m, coefficients, rights, *columns, *unset(n), random_limit(rng))
     return problem, hidden
 
 
@@ -186,7 +189,7 @@ def large_problem(rng):
     rights = products(n, m, coefficients, hidden)
     lower, upper, goals = random_columns(rng, n, 8, rng.choice([0.5, 1]))
     limit = rng.choice([0, 1, 5, 40])
-    return Problem(n, m, coefficients, rights, lower, upper, goals, limit), hidden
+    return Problem(n, m, coefficients, rights, lower, upper, goals, *unset(n), limit), hidden
 
 
 def extreme_counts(rng):
@@ -208,7 +211,7 @@ def chain_problem(rng):
     low = rng.choice([0, 1, 1])
     goals = [rng.choice([0, 1000, MAX_GOAL]) if low else 0 for _ in range(n)]
     high = rng.choice([10, MAX_BOUND, MAX_BOUND])
-    problem = Problem(n, m, coefficients, [0] * m, [low] * n, [high] * n, goals,
+    problem = Problem(n, m, coefficients, [0] * m, [low] * n, [high] * n, goals, *unset(n),
                       rng.choice([0, 10, 100]))
     return problem, [0] * n
 
@@ -236,7 +239,7 @@ def near_m_problem(rng):
         # the first column has a lower bound, so that seating grows
         lower[0] = rng.choice([-MAX_BOUND, 1, 1, 2])
         rights[-1] = rng.randint(-2, 2)
-    problem = Problem(n, m, coefficients, rights, lower, [MAX_BOUND] * n, [0] * n,
+    problem = Problem(n, m, coefficients, rights, lower, [MAX_BOUND] * n, [0] * n, *unset(n),
                       rng.choice([0, 3, 100]))
     return problem, [0] * n
 
@@ -249,13 +252,58 @@ def there_and_back_problem(rng):
     goal = rng.choice([1000, 2000000, 2148000, 3000000])
     goals = [goal, goal + rng.choice([0, 1000]), 0, 0]
     problem = Problem(4, 2, coefficients, [0, 0], [1, 1, -9, -MAX_BOUND],
-                      [MAX_BOUND] * 4, goals, rng.choice([0, 3, 100]))
+                      [MAX_BOUND] * 4, goals, *unset(4), rng.choice([0, 3, 100]))
     return problem, [0] * 4
+
+
+def strided_problem(rng):
+    """Pairs v1 = f × v2 + r: the vector of each has the lead f, and before seating v1 stands
+    at r, mostly nearer to f than to 0, so that an unset ideal is another than the ideal 0."""
+    pairs = rng.randint(1, 3)
+    n, m = 2 * pairs, pairs
+    coefficients = [0] * (m * n)
+    rights, hidden = [], []
+    for i in range(m):
+        f = rng.choice([2, 3, 5, 7, 12, 40])
+        coefficients[i * n + 2 * i] = 1
+        coefficients[i * n + 2 * i + 1] = rng.choice([-f, f])
+        rights.append(f * rng.randint(-3, 3) + rng.choice([-f // 3, rng.randint(0, f)]))
+        hidden += [rights[i], 0]
+    lower, upper, goals = random_columns(rng, n, rng.choice([10, 60]), rng.choice([0, 0.3]))
+    for j in range(n):
+        if goals[j] == 0 and rng.random() < 0.7:
+            lower[j], upper[j] = -99, 99
+    return Problem(n, m, coefficients, rights, lower, upper, goals, *unset(n),
+                   random_limit(rng)), hidden
 
 
 FAMILIES = [small_problem] * 6 + [middle_problem] * 4 + [wild_problem] * 3 + [
     heavy_problem, heavy_problem, heavy_wild_problem, large_problem, extreme_counts,
-    chain_problem, near_m_problem, there_and_back_problem]
+    chain_problem, near_m_problem, there_and_back_problem] + [strided_problem] * 4
+
+
+# What marks that an ideal is handed in: any number but 0.
+MARKS = [1, 1, 1, 1, -1, 2, -7, 1000000, BIGGEST, SMALLEST]
+
+
+def random_ideal(rng, low, high):
+    """A number to hand in: within the bounds, at their ends, outside near by and far away,
+    0, below 0, and at the ends of 64 bits."""
+    return rng.choice([rng.randint(low, high), rng.randint(low, high), rng.randint(low, high),
+                       low, high, low - rng.randint(1, 30), high + rng.randint(1, 30),
+                       0, -rng.randint(1, 99), SMALLEST, BIGGEST])
+
+
+def hand_in(rng, problem):
+    """Hands in ideals for none, some or all columns, those with a goal too; where none is,
+    any number may stand beside the mark 0."""
+    chance = rng.choice([0, 0.3, 0.5, 1])
+    blank = rng.random() < 0.3
+    for j in range(problem.n):
+        handed = rng.random() < chance
+        number = random_ideal(rng, problem.lower[j], problem.upper[j])
+        problem.given[j] = rng.choice(MARKS) if handed else 0
+        problem.ideals[j] = number if handed or not blank else 0
 
 
 def repeat_rows(rng, problem):
@@ -285,9 +333,28 @@ def past(rng, low, high):
                        SMALLEST, BIGGEST])
 
 
+def change_a_length(rng, problem, lent):
+    """Makes a buffer shorter or longer; or one list of ideals shorter and the other longer,
+    so that the two have as many numbers as before."""
+    if problem.given and problem.ideals and rng.random() < 0.2:
+        shorter, longer = rng.sample([problem.given, problem.ideals], 2)
+        longer.append(shorter.pop())
+        return
+    buffers = [getattr(problem, name) for name in PROBLEM_LISTS]
+    buffers += [getattr(lent, name) for name in LENT_LISTS]
+    buffer = rng.choice(buffers + [problem.given, problem.ideals])
+    what = rng.randrange(5)
+    if what == 0:
+        buffer.clear()
+    elif what <= 2 and buffer:
+        buffer.pop()
+    else:
+        buffer.append(rng.choice([0, 1, BIGGEST]))
+
+
 def change_a_number(rng, problem, lent):
     """Sets one number at or past its limit, or one count, or one length."""
-    what = rng.randrange(9)
+    what = rng.randrange(10)
     if what == 0:
         problem.n = rng.choice([0, MAX_COLUMNS + 1, problem.n + 1, MAX_COLUMNS, 2 ** 32])
     elif what == 1:
@@ -308,13 +375,7 @@ def change_a_number(rng, problem, lent):
         low, high = problem.lower[j:j + 1], problem.upper[j:j + 1]
         problem.lower[j:j + 1], problem.upper[j:j + 1] = high, low
     else:
-        buffer = rng.choice([problem.coefficients, problem.rights, problem.lower,
-                             problem.upper, problem.goals, lent.tableau, lent.values,
-                             lent.strides])
-        if buffer and rng.random() < 0.5:
-            buffer.pop()
-        else:
-            buffer.append(0)
+        change_a_length(rng, problem, lent)
 
 
 def continue_list(rng, hidden):
@@ -345,6 +406,7 @@ def tie_columns(rng, problem):
 def problem_case(rng):
     """One call on buffers."""
     problem, hidden = rng.choice(FAMILIES)(rng)
+    hand_in(rng, problem)
     if rng.random() < 0.15:
         repeat_rows(rng, problem)
     lent = noisy_lent(rng, problem.n, problem.m)
@@ -355,7 +417,7 @@ def problem_case(rng):
             hidden = [rng.choice([0, M, M, -M])] * problem.n
             problem.limit = min(problem.limit, 40)
         lent.values = continue_list(rng, hidden)
-    for _ in range(rng.choice([0, 0, 0, 0, 0, 0, 1, 1, 2])):
+    for _ in range(rng.choice([0, 0, 0, 0, 0, 0, 0, 0, 1, 1, 2, 3])):
         change_a_number(rng, problem, lent)
     if problem.limit <= MAX_LIMIT and any(abs(bound) > 1000 for bound in
                                           problem.lower + problem.upper):
@@ -400,7 +462,7 @@ def held_problem(rng):
     coefficients = random_matrix(rng, n, m, 2, 0.6)
     rights = products(n, m, coefficients, standing)
     problem = Problem(n, m, coefficients, rights, list(standing), list(standing), [0] * n,
-                      random_limit(rng))
+                      *unset(n), random_limit(rng))
     table = fill(problem)
     basis = basis_of(table, bring_to_form(table), m)
     pairs = [name for name in move_names(len(basis)) if len(name) == 2]
@@ -427,6 +489,7 @@ def preview_case(rng):
     after holds anything."""
     if rng.random() < 0.25:
         problem, standing = held_problem(rng)
+        hand_in(rng, problem)
         lent = noisy_lent(rng, problem.n, problem.m)
     else:
         case = problem_case(rng)
@@ -612,6 +675,88 @@ def chain_deck(rng):
     return sketch
 
 
+def cutting_bounds(rng):
+    """Bounds of a curve with a goal: wide ones, or some that many an ideal lies outside of,
+    above or below."""
+    return rng.choice([(1, MAX_BOUND), (1, MAX_BOUND), (1, rng.randint(1, 40)),
+                       (rng.randint(20, 90), 200), (rng.randint(60, 300), MAX_BOUND)])
+
+
+def plain_bounds(rng):
+    """Bounds of a curve without a goal, which may hold its neighbours' mean or not."""
+    return rng.choice([(1, MAX_BOUND), (1, MAX_BOUND), (0, 90), (-500, 500), (1, 4),
+                       (150, 400), (-20, -3)])
+
+
+def loose_row(rng, sketch, kinds, terms):
+    """A row of one of the kinds that a slack, where it has one, mostly leaves satisfiable
+    within the bounds."""
+    kind = rng.choice(kinds)
+    most = {0: 9, 1: 300, 2: 300, 3: 3}[kind]
+    number = rng.randint(0, most)
+    sketch.row(kind, -number if kind == 1 else number, terms)
+
+
+def lone_curves(rng, sketch):
+    """Plain curves without a neighbour: one in no row, or two in one with each other."""
+    a = sketch.curve(0, *plain_bounds(rng))
+    if rng.random() < 0.7:
+        b = sketch.curve(0, *plain_bounds(rng))
+        loose_row(rng, sketch, [0, 1, 2, 3], [(a, 1), (b, rng.choice([-1, 1]))])
+
+
+def beside_deck(rng):
+    """Plain curves in rows with curves that have goals, and mostly before them, so that they
+    lead. A second row, which has a slack, has some of the same curves again."""
+    sketch = Sketch()
+    if rng.random() < 0.2:
+        lone_curves(rng, sketch)
+    goals = [0] * rng.randint(1, 3) + [random_goal(rng) for _ in range(rng.randint(1, 5))]
+    if rng.random() < 0.3:
+        rng.shuffle(goals)
+    wide = rng.random() < 0.4
+    plain, wanted = [], []
+    for goal in goals:
+        bounds = (cutting_bounds if goal else plain_bounds)(rng)
+        index = sketch.curve(goal) if wide else sketch.curve(goal, *bounds)
+        (wanted if goal else plain).append(index)
+    for curve in plain:
+        beside = rng.sample(wanted, rng.randint(0, min(4, len(wanted))))
+        beside += rng.sample(plain, rng.choice([0, 0, 1]))
+        loose_row(rng, sketch, [0, 0, 1, 2, 3],
+                  [(curve, 1)] + [(i, rng.choice([-1, -1, 1])) for i in beside])
+        if rng.random() < 0.6:
+            again = rng.sample(beside, min(len(beside), rng.choice([1, 1, 2])))
+            loose_row(rng, sketch, [1, 2, 3],
+                      [(i, rng.choice([-1, 1])) for i in [curve] + again])
+    if rng.random() < 0.2:
+        lone_curves(rng, sketch)
+    return sketch
+
+
+def without_some_goals(rng, sketch):
+    """Leaves out some goals of a deck, and narrows the bounds of others."""
+    for at, (lower, upper, goal) in enumerate(sketch.intervals):
+        chance = rng.random()
+        if goal and chance < 0.35:
+            sketch.intervals[at] = (lower, upper, 0)
+        elif goal and chance < 0.5:
+            sketch.intervals[at] = (lower, min(upper, lower + rng.randint(0, 9)), goal)
+
+
+def strided_deck(rng):
+    """Curves that are a multiple of another one and some more, with goals or without: where
+    none is near, the first keeps what the row leaves over."""
+    sketch = Sketch()
+    for _ in range(rng.randint(1, 3)):
+        factor = rng.choice([2, 3, 5, 7, 12, 40])
+        low = rng.choice([-300, 0, 1])
+        a = sketch.curve(rng.choice([0, 0, random_goal(rng)]) if low == 1 else 0, low, 300)
+        b = sketch.curve(rng.choice([0, 0, random_goal(rng)]) if low == 1 else 0, low)
+        sketch.row(0, rng.randint(0, 5 * factor), [(a, 1), (b, -factor)])
+    return sketch
+
+
 def any_deck(rng):
     """Rows of every kind, with any terms and numbers."""
     sketch = Sketch()
@@ -631,7 +776,7 @@ def any_deck(rng):
 def edge_deck(rng):
     """Decks at the limits: 48 columns, 48 rows, a 49th column, greatest numbers."""
     sketch = Sketch()
-    what = rng.randrange(5)
+    what = rng.randrange(6)
     if what == 0:
         for _ in range(MAX_COLUMNS):
             sketch.curve(random_goal(rng))
@@ -649,6 +794,12 @@ def edge_deck(rng):
         b = sketch.curve(0, -MAX_BOUND, MAX_BOUND)
         sketch.row(0, rng.choice([-MAX_RIGHT, MAX_RIGHT]),
                    [(a, rng.choice([1, MAX_COEFFICIENT])), (b, -MAX_COEFFICIENT)])
+    elif what == 4:
+        # a plain curve with as many neighbours as there can be, of the largest ideals
+        goals = [0] + [MAX_GOAL - rng.choice([0, 0, 1000, 3000])
+                       for _ in range(MAX_COLUMNS - 1)]
+        curves = [sketch.curve(goal) for goal in goals]
+        sketch.equal(curves[0::2], curves[1::2])
     else:
         a = sketch.curve(3000)
         sketch.row(3, MAX_BOUND, [(a, 1)])
@@ -657,11 +808,15 @@ def edge_deck(rng):
 
 
 DECKS = [mapped_deck, paved_deck, submapped_deck, radish_deck, midpoint_deck,
-         parity_deck, chain_deck, any_deck, any_deck, any_deck, edge_deck]
+         parity_deck, chain_deck, any_deck, any_deck, any_deck, edge_deck,
+         beside_deck, beside_deck, beside_deck, beside_deck, strided_deck, strided_deck]
 
 
 def sketch_for(rng):
-    return rng.choice(DECKS)(rng)
+    sketch = rng.choice(DECKS)(rng)
+    if rng.random() < 0.3:
+        without_some_goals(rng, sketch)
+    return sketch
 
 
 def join(lines):
@@ -805,10 +960,10 @@ def print_problems(count, seed):
     for number, case in enumerate(problems(count, seed), 1):
         problem = case.problem
         print("case", number, case.call, problem.n, problem.m, problem.limit)
-        print_buffers(problem, ["coefficients", "rights", "lower", "upper", "goals"])
-        print_buffers(case.lent, ["tableau", "values", "strides"])
+        print_buffers(problem, PROBLEM_LISTS)
+        print_buffers(case.lent, LENT_LISTS)
         print("answer", *case.run())
-        print_buffers(case.lent, ["tableau", "values", "strides"])
+        print_buffers(case.lent, LENT_LISTS)
 
 
 def write_texts(count, seed, folder):

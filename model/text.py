@@ -7,7 +7,7 @@ import re
 
 from engine import (COUNTS_OUTSIDE, WRONG_LENGTH, ROW_NUMBER_OUTSIDE, BOUND_OUTSIDE,
                     GOAL_OUTSIDE, MIN_COLUMNS, MAX_COLUMNS, MAX_ROWS, MAX_COEFFICIENT,
-                    MAX_RIGHT, MAX_BOUND, MAX_GOAL)
+                    MAX_RIGHT, MAX_BOUND, MAX_GOAL, PROBLEM_LISTS, goal_ideal, into_bounds)
 
 MAX_TEXT = 32768
 MAX_COEFFICIENTS = MAX_COLUMNS * MAX_ROWS
@@ -47,6 +47,9 @@ class Deck:
         self.lower = [0] * MAX_COLUMNS
         self.upper = [0] * MAX_COLUMNS
         self.goals = [0] * MAX_COLUMNS
+        # document 02, (ii): whether an ideal is set, and the number
+        self.given = [0] * MAX_COLUMNS
+        self.ideals = [0] * MAX_COLUMNS
 
 
 class Refused(Exception):
@@ -160,6 +163,41 @@ def read_sections(data):
     return columns, rows
 
 
+def neighbours_of(j, columns, rows):
+    """Document 02, (ii): “all intervals with a goal that have a nonzero coefficient in some
+    row with it, each counted once”. They are a set, so that one that shares two rows with
+    interval j is in it once. A row's terms name intervals alone, with coefficients other
+    than 0, so that no slack and no absent interval is among them."""
+    beside = set()
+    for row in rows:
+        named = {index for index, _ in row.terms}
+        if j in named:
+            beside |= named
+    return {h for h in beside if columns[h][2] > 0}
+
+
+def neighbour_ideal(j, columns, rows):
+    """Document 02, (ii): “From now on the reader gives such an interval an ideal: the mean,
+    rounded down, of the ideals of all intervals with a goal that ...”, where an ideal is
+    document 01's, which is in the bounds. None where it is unset: “if there are none”."""
+    ideals = []
+    for h in neighbours_of(j, columns, rows):
+        lower, upper, goal = columns[h]
+        ideals.append(into_bounds(goal_ideal(goal), lower, upper))
+    return sum(ideals) // len(ideals) if ideals else None
+
+
+def put_ideals(deck, intervals, columns, rows):
+    """“such an interval” has no goal. “It is unset ... for slacks”, which are the columns
+    after the intervals."""
+    for j in range(intervals):
+        _, _, goal = columns[j]
+        mean = neighbour_ideal(j, columns, rows) if goal == 0 else None
+        if mean is not None:
+            deck.given[j] = 1
+            deck.ideals[j] = mean
+
+
 def fill_deck(deck, columns, rows):
     """“The reader fills buffers of the largest size ..., n to a row without gaps; the
     rest becomes 0.”"""
@@ -179,11 +217,9 @@ def fill_deck(deck, columns, rows):
     deck.n = n
     deck.m = m
     deck.intervals = n - sum(row.y is not None for row in rows)
-    deck.coefficients[:] = blank.coefficients
-    deck.rights[:] = blank.rights
-    deck.lower[:] = blank.lower
-    deck.upper[:] = blank.upper
-    deck.goals[:] = blank.goals
+    put_ideals(blank, deck.intervals, columns, rows)
+    for name in PROBLEM_LISTS:
+        getattr(deck, name)[:] = getattr(blank, name)
 
 
 def wrong_length(deck):
@@ -192,7 +228,9 @@ def wrong_length(deck):
             or len(deck.rights) != MAX_ROWS
             or len(deck.lower) != MAX_COLUMNS
             or len(deck.upper) != MAX_COLUMNS
-            or len(deck.goals) != MAX_COLUMNS)
+            or len(deck.goals) != MAX_COLUMNS
+            or len(deck.given) != MAX_COLUMNS
+            or len(deck.ideals) != MAX_COLUMNS)
 
 
 def read(data, deck=None):

@@ -4,8 +4,8 @@
 #include "work.h"
 
 using Assign = uint32_t (*)(size_t, size_t, uint32_t, const int64_t *, size_t, const int64_t *, size_t, const int64_t *, size_t,
-                            const int64_t *, size_t, const int64_t *, size_t, int64_t *, size_t, int64_t *, size_t, uint64_t *, size_t,
-                            uint32_t *, size_t);
+                            const int64_t *, size_t, const int64_t *, size_t, const int64_t *, size_t, const int64_t *, size_t, int64_t *,
+                            size_t, int64_t *, size_t, uint64_t *, size_t, uint32_t *, size_t);
 using Form = uint32_t (*)(size_t, size_t, const int64_t *, int64_t *);
 
 // The proved engine has no form of its own over C's boundary.
@@ -24,7 +24,7 @@ Answer room_for(const Deck &deck);
 // One whole assignment.
 void assign(Assign engine, const Deck &deck, Answer &answer);
 
-// The same rows with right sides 0, far bounds, no goals and no steps: nothing is seated and nothing settled.
+// The same rows with right sides 0, far bounds, no goals, no ideals and no steps: nothing is seated and nothing settled.
 Deck rows_alone(const Deck &deck);
 
 std::unique_ptr<Work> whole(const Engine &engine, const Deck &deck);

@@ -1,10 +1,8 @@
-"""Whole assignments and Continue: close readings of both calls, sound answers,
-and problems stated anew.
-"""
+"""Whole assignments and Continue: close readings of both calls, and sound answers."""
 
 import engine
 import generate
-from engine import FITTED, M, OUTSIDE, SPENT, Lent, Problem
+from engine import FITTED, M, OUTSIDE, SPENT, Lent
 from tests.tools import (ORDINARY, chain, check, form_of, make, random_problems, resume,
                          solve, sound_problem, test, with_limit)
 
@@ -126,53 +124,6 @@ def property_spent_and_continued():
         rest, end = resume(with_limit(problem, 60 - first), halfway.values)
         check("counts add up", (rest[0], part[1] + rest[1], part[2] + rest[2]), whole)
         check("same end", (end.values, end.strides), (lent.values, lent.strides))
-
-
-def restated(rng, problem):
-    """The same lists by other rows: permuted, negated, added up, repeated, or a row
-    of zeros more. None if a number would leave its limits."""
-    n, m = problem.n, problem.m
-    rows = [problem.coefficients[i * n:(i + 1) * n] + [problem.rights[i]]
-            for i in range(m)]
-    for _ in range(rng.randint(1, 5)):
-        what = rng.randrange(5)
-        if what == 0 or not rows:
-            rows.insert(rng.randrange(len(rows) + 1), [0] * (n + 1))
-        elif what == 1:
-            rows.append(list(rng.choice(rows)))
-        elif what == 2:
-            i = rng.randrange(len(rows))
-            rows[i] = [-x for x in rows[i]]
-        elif what == 3:
-            rows.insert(0, rows.pop(rng.randrange(len(rows))))
-        elif len(rows) > 1:
-            i, j = rng.sample(range(len(rows)), 2)
-            factor = rng.choice([-3, -1, 1, 2])
-            rows[i] = [x + factor * y for x, y in zip(rows[i], rows[j])]
-    if any(abs(x) > 1000 for row in rows for x in row[:n]) or len(rows) > 48:
-        return None
-    if any(abs(row[n]) > 1000000 for row in rows):
-        return None
-    return Problem(n, len(rows), [x for row in rows for x in row[:n]],
-                   [row[n] for row in rows], problem.lower, problem.upper,
-                   problem.goals, problem.limit)
-
-
-@test
-def property_restated_problems():
-    """Problems with the same lists have the same answers, unless one meets 7."""
-    families = ORDINARY + [generate.large_problem, generate.there_and_back_problem,
-                           generate.chain_problem]
-    for rng, problem, _ in random_problems(18, 700, families):
-        other = restated(rng, problem)
-        if other is None:
-            continue
-        one, lent = solve(problem)
-        two, again = solve(other)
-        if 7 in (one[0], two[0]):
-            continue
-        check("restated: answer", two, one)
-        check("restated: lists", (again.values, again.strides), (lent.values, lent.strides))
 
 
 @test

@@ -1,8 +1,12 @@
-"""The generator of random problems and texts."""
+"""The generator of random problems and texts: what it must make often enough to tell."""
 
+import engine
 import generate
-from engine import FITTED, OUTSIDE, SPENT
+import text
+from engine import FITTED, OUTSIDE, PROBLEM_LISTS, SPENT, goal_ideal, into_bounds
 from tests.tools import all_numbers, check, test
+
+BIGGEST, SMALLEST = 2 ** 63 - 1, -2 ** 63
 
 
 @test
@@ -16,3 +20,111 @@ def generator_is_the_same_for_the_same_seed():
     outcomes = {case.run()[0] for case in generate.problems(1500, 7)}
     wanted = {FITTED, OUTSIDE, SPENT, 1, 2, 3, 4, 5, 6, 7, 8, 9, 10}
     check("every outcome is met", wanted - outcomes, set())
+
+
+def has_its_lengths(problem):
+    """Whether every list of a problem has its length."""
+    n, m = problem.n, problem.m
+    return [len(getattr(problem, name)) for name in PROBLEM_LISTS] == [m * n, m] + [n] * 5
+
+
+def kinds_of_ideals(problem):
+    """What a problem whose lists have their lengths shows of ideals."""
+    columns = list(zip(problem.lower, problem.upper, problem.goals, problem.given,
+                       problem.ideals))
+    handed = [column for column in columns if column[3] != 0]
+    free = [column for column in handed if column[2] == 0]
+    return {
+        "none": not handed,
+        "some": 0 < len(handed) < len(columns),
+        "all": len(handed) == len(columns),
+        "a mark other than 1": any(mark != 1 for _, _, _, mark, _ in handed),
+        "a mark below 0": any(mark < 0 for _, _, _, mark, _ in handed),
+        "the greatest mark": any(mark == BIGGEST for _, _, _, mark, _ in handed),
+        "the least mark": any(mark == SMALLEST for _, _, _, mark, _ in handed),
+        "a number beside the mark 0": any(mark == 0 != number
+                                          for _, _, _, mark, number in columns),
+        "within the bounds": any(low <= x <= high for low, high, _, _, x in free),
+        "below the bounds": any(x < low for low, _, _, _, x in free),
+        "above the bounds": any(x > high for _, high, _, _, x in free),
+        "the ideal 0": any(x == 0 for _, _, _, _, x in free),
+        "an ideal below 0": any(x < 0 for _, _, _, _, x in free),
+        "the greatest ideal": any(x == BIGGEST for _, _, _, _, x in free),
+        "the least ideal": any(x == SMALLEST for _, _, _, _, x in free),
+        "beside a goal": len(free) < len(handed),
+    }
+
+
+def check_met(what, many, least):
+    """Each of the kinds that some things show is met often enough."""
+    met = {}
+    for kinds in many:
+        for kind, shown in kinds.items():
+            met[kind] = met.get(kind, 0) + shown
+    for kind, count in met.items():
+        check("%s: %s, %d times" % (what, kind, count), count >= least, True)
+
+
+@test
+def generator_hands_in_ideals():
+    check_met("problems", (kinds_of_ideals(case.problem) for case in generate.problems(1000, 8)
+                           if has_its_lengths(case.problem)), 50)
+
+
+def kinds_of_damage(case):
+    """Which of the lists of ideals has a wrong length, and which cause is then named."""
+    problem, n = case.problem, case.problem.n
+    given, ideals = len(problem.given) - n, len(problem.ideals) - n
+    number = case.run()[0] if (given, ideals) != (0, 0) else 0
+    later = (engine.row_number_outside(problem) or engine.bound_outside(problem)
+             or engine.goal_outside(problem) or engine.limit_outside(problem))
+    return {"given shorter": given < 0 == ideals, "given longer": given > 0 == ideals,
+            "ideals shorter": ideals < 0 == given, "ideals longer": ideals > 0 == given,
+            "as long together": given == -ideals != 0, "refused by 1 before": number == 1,
+            "refused by 2": number == 2, "refused by 2 before others": number == 2 and later}
+
+
+@test
+def generator_damages_ideals():
+    check_met("damage", (kinds_of_damage(case) for case in generate.problems(3000, 9)), 8)
+
+
+def kinds_of_intervals(deck):
+    """What a read text shows of plain intervals and their neighbours."""
+    n, shown = deck.n, set()
+    for j in (j for j in range(deck.intervals) if deck.goals[j] == 0):
+        rows = [deck.coefficients[i * n:(i + 1) * n] for i in range(deck.m)
+                if deck.coefficients[i * n + j]]
+        shared = [sum(row[h] != 0 for row in rows) for h in range(deck.intervals)]
+        beside = [h for h in range(deck.intervals) if shared[h] and deck.goals[h]]
+        if not beside:
+            shown.add("without neighbours")
+            if any(shared[:j] + shared[j + 1:]):
+                shown.add("beside plain ones only")
+            continue
+        ideals = [into_bounds(goal_ideal(deck.goals[h]), deck.lower[h], deck.upper[h])
+                  for h in beside]
+        shown.add("one neighbour" if len(beside) == 1 else "several neighbours")
+        if any(shared[h] > 1 for h in beside):
+            shown.add("a neighbour in two rows")
+        if sum(ideals) % len(ideals):
+            shown.add("a mean that is not whole")
+        if ideals != [goal_ideal(deck.goals[h]) for h in beside]:
+            shown.add("a neighbour cut by its bounds")
+        if not deck.lower[j] <= deck.ideals[j] <= deck.upper[j]:
+            shown.add("a mean outside the bounds")
+        if any(any(row[deck.intervals:n]) for row in rows):
+            shown.add("a slack in the row")
+    return shown
+
+
+KINDS = ["without neighbours", "beside plain ones only", "one neighbour", "several neighbours",
+         "a neighbour in two rows", "a mean that is not whole", "a neighbour cut by its bounds",
+         "a mean outside the bounds", "a slack in the row"]
+
+
+@test
+def generator_puts_plain_intervals_beside_goals():
+    decks = [text.read(data) for data in generate.texts(1500, 10)]
+    shown = [kinds_of_intervals(deck) for deck in decks if not isinstance(deck, int)]
+    check_met("texts", ({kind: kind in some for kind in KINDS} for some in shown), 50)

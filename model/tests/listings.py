@@ -6,6 +6,7 @@ import subprocess
 import sys
 
 import listing
+from against_listing import by_hand
 from tests.tools import check, test
 
 MODEL = os.path.dirname(os.path.dirname(os.path.abspath(__file__)))
@@ -20,6 +21,13 @@ def deck_case_paving():
     check("paving", listing.listing(PAVING), PAVING_LISTING)
     with open(os.path.join(DECKS, "paving.txt"), "rb") as file:
         check("paving as a sample deck", file.read(), PAVING)
+
+
+@test
+def decks_by_hand():
+    """Document 01's deck cases as texts, and plain curves beside others."""
+    for what, deck, wanted in by_hand():
+        check(what, listing.listing(deck), wanted)
 
 
 @test

@@ -5,10 +5,10 @@ refusal, what makes it Continue with limit 1, and wrong answers that are told ap
 import engine
 import generate
 import runs
-from engine import BOUNDS, FITTED, GOALS, M, OUTSIDE, Lent, Step
+from engine import (BOUNDS, FITTED, GOALS, LENT_LISTS, M, OUTSIDE, PROBLEM_LISTS, Lent, Step)
 from tests.settling import plain_distance, plain_improves, plain_ratio
 from tests.steps import random_runs
-from tests.tools import (all_numbers, chain, check, form_of, make, marked_lent,
+from tests.tools import (TABLEAU, all_numbers, chain, check, form_of, make, marked_lent,
                          random_problems, resume, sound_problem, test, with_limit)
 
 PLUS, MINUS = 1, -1
@@ -136,7 +136,7 @@ def check_refused(what, problem, standing, lent, number, tableau=None):
     is given."""
     before = all_numbers(problem, lent) + [list(standing)]
     if tableau is not None:
-        before[5] = tableau
+        before[TABLEAU] = tableau
     check(what, engine.preview(problem, standing, lent), (number, None))
     check(what + ": what is left", all_numbers(problem, lent) + [standing], before)
 
@@ -164,8 +164,7 @@ def preview_refusal_1():
 @test
 def preview_refusal_2():
     """Both lists need n numbers, and every other buffer its own length."""
-    for name in ("standing", "coefficients", "rights", "lower", "upper", "goals", "tableau",
-                 "values", "strides"):
+    for name in ["standing"] + PROBLEM_LISTS + LENT_LISTS:
         for change in (-1, 1):
             problem, standing, lent = sound_problem(), [2, 2], marked_lent(2, 1)
             owner = lent if hasattr(lent, name) else problem
@@ -238,7 +237,8 @@ def preview_order_of_refusals():
     check("4 before 5", named(), 4)
     problem.rights[3] = 1000001
     check("3 before 4", named(), 3)
-    for name, buffer in (("the standing list", standing), ("the list after", lent.values)):
+    for name, buffer in (("the standing list", standing), ("the list after", lent.values),
+                         ("given", problem.given), ("ideals", problem.ideals)):
         buffer.append(0)
         check("2 before 3: " + name, named(), 2)
         del buffer[3:]

@@ -6,6 +6,7 @@ import engine
 import generate
 import listing
 import text
+from engine import PROBLEM_LISTS
 from tests.tools import check, make, solve, test
 
 SOUND = b"2\n1 9 1000\n1 9 0\n2\n0 4 2 1 1 2 1\n3 2 1 2 1\n"
@@ -22,8 +23,7 @@ def check_text(data, number):
 
 
 def buffers_of(deck):
-    return (deck.n, deck.m, deck.coefficients, deck.rights, deck.lower, deck.upper,
-            deck.goals)
+    return (deck.n, deck.m) + tuple(getattr(deck, name) for name in PROBLEM_LISTS)
 
 
 @test
@@ -31,7 +31,7 @@ def reader_fills_the_buffers():
     data = (b"2\n1 9 1000\n-3 9 0\n5\n0 4 2 1 1 2 -1\n1 -5 1 2 7\n2 6 1 1 -1000\n"
             b"3 12 2 1 1 2 1\n0 0 0\n")
     deck = text.Deck()
-    for name in ("coefficients", "rights", "lower", "upper", "goals"):
+    for name in PROBLEM_LISTS:
         buffer = getattr(deck, name)
         buffer[:] = [5] * len(buffer)
     got = text.read(data, deck)
@@ -45,11 +45,13 @@ def reader_fills_the_buffers():
     check("lower", deck.lower, [1, -3, 0, 0, 12] + [0] * 43)
     check("upper", deck.upper, [9, 9, 1000000, 1000000, 1000000] + [0] * 43)
     check("goals", deck.goals, [1000, 0, 0, 0, 0] + [0] * 43)
+    check("whether an ideal is set", deck.given, [0, 1, 0, 0, 0] + [0] * 43)
+    check("ideals", deck.ideals, [0, 1, 0, 0, 0] + [0] * 43)
 
 
 @test
 def reader_lengths():
-    for name in ("coefficients", "rights", "lower", "upper", "goals"):
+    for name in PROBLEM_LISTS:
         for change in (-1, 1):
             deck = text.Deck()
             buffer = getattr(deck, name)
@@ -130,6 +132,7 @@ def a_refused_text_leaves_the_deck():
         deck = text.Deck()
         deck.coefficients[7] = 5
         deck.goals[47] = 6
+        deck.given[0] = deck.ideals[47] = 7
         before = (deck.n, deck.m) + tuple(list(b) for b in buffers_of(deck)[2:])
         check("refused", isinstance(text.read(data, deck), int), True)
         check("deck as before", buffers_of(deck), before)
@@ -245,6 +248,7 @@ def random_texts():
               engine.first_cause(problem, listing.blank_lent(problem)), 0)
         check("the rest is 0",
               any(deck.coefficients[deck.n * deck.m:] + deck.rights[deck.m:]
-                  + deck.lower[deck.n:] + deck.upper[deck.n:] + deck.goals[deck.n:]), False)
+                  + deck.lower[deck.n:] + deck.upper[deck.n:] + deck.goals[deck.n:]
+                  + deck.given[deck.n:] + deck.ideals[deck.n:]), False)
         check("other runs of bytes 32 and 10 are the same text",
               buffers_of(text.read(b"\n ".join(data.split())[:32768])), buffers_of(deck))

@@ -4,9 +4,9 @@ it leaves, and which of two causes is named.
 
 import engine
 import generate
-from engine import FITTED, M, Lent
-from tests.tools import (all_numbers, chain, check, form_of, make, marked_lent, solve,
-                         sound_problem, test, with_limit)
+from engine import FITTED, M, PROBLEM_LISTS, Lent
+from tests.tools import (TABLEAU, VALUES, all_numbers, chain, check, form_of, make, marked_lent,
+                         solve, sound_problem, test, with_limit)
 
 
 def spoilt(name, index, value):
@@ -21,7 +21,7 @@ def check_refusal(what, call, problem, lent, number, tableau=None):
     as before if none is given)."""
     before = all_numbers(problem, lent)
     if tableau is not None:
-        before[5] = tableau
+        before[TABLEAU] = tableau
     run = engine.assign if call == "assign" else engine.cont
     answer = run(problem, lent)
     check("%s by %s" % (what, call), answer, (number, 0, 0))
@@ -45,7 +45,7 @@ def refusal_1():
 
 @test
 def refusal_2():
-    for name in ("coefficients", "rights", "lower", "upper", "goals"):
+    for name in PROBLEM_LISTS:
         for change in (-1, 1):
             problem = sound_problem()
             buffer = getattr(problem, name)
@@ -173,8 +173,13 @@ def order_of_refusals():
     check("4 before 5", engine.cont(problem, lent)[0], 4)
     problem.rights[3] = 1000001
     check("3 before 4", engine.cont(problem, lent)[0], 3)
+    for name in ("given", "ideals"):
+        getattr(problem, name).append(0)
+        check("2 before 3: " + name, engine.cont(problem, lent)[0], 2)
+        getattr(problem, name).pop()
     lent.strides.append(0)
     check("2 before 3", engine.cont(problem, lent)[0], 2)
+    problem.given.pop()
     problem.m = 49
     check("1 before 2", engine.cont(problem, lent)[0], 1)
     # without whole numbers and with a seating that would go beyond M
@@ -191,16 +196,17 @@ def random_cases_leave_what_the_table_says():
         before = all_numbers(case.problem, case.lent)
         answer = case.run()
         after = all_numbers(case.problem, case.lent)
-        check("problem buffers are only read", after[:5], before[:5])
+        check("problem buffers are only read", after[:TABLEAU], before[:TABLEAU])
         if answer[0] in (1, 2, 3, 4, 5, 6, 10):
             check("all as before", (answer[1:], after), ((0, 0), before))
         elif answer[0] == 7:
-            check("tableau all 0, lists as before", (answer[1:], after[5:]),
-                  ((0, 0), [[0] * len(before[5])] + before[6:]))
+            check("tableau all 0, lists as before", (answer[1:], after[TABLEAU:]),
+                  ((0, 0), [[0] * len(before[TABLEAU])] + before[VALUES:]))
         elif answer[0] in (8, 9):
-            check("tableau the form, lists as before", (case.call, answer[1:], after[5:]),
-                  ("assign", (0, 0), [form_of(case.problem)] + before[6:]))
+            check("tableau the form, lists as before",
+                  (case.call, answer[1:], after[TABLEAU:]),
+                  ("assign", (0, 0), [form_of(case.problem)] + before[VALUES:]))
         else:
-            check("tableau the form", after[5], form_of(case.problem))
+            check("tableau the form", after[TABLEAU], form_of(case.problem))
             check("values satisfy the rows",
-                  engine.satisfies_rows(case.problem, after[6]), True)
+                  engine.satisfies_rows(case.problem, after[VALUES]), True)

@@ -1,8 +1,10 @@
 """Tools of the tests: single checks, problems, calls, and problems of the generator."""
 
+import copy
+
 import engine
 import generate
-from engine import Lent, Problem
+from engine import LENT_LISTS, PROBLEM_LISTS, Lent, Problem, unset
 
 TESTS = []
 COUNTS = {"passed": 0, "failed": 0}
@@ -33,7 +35,14 @@ def make(n, rows, rights, bounds, goals=None, limit=10000):
     pairs = [bounds] * n if isinstance(bounds, tuple) else bounds
     return Problem(n, len(rows), [a for row in rows for a in row], list(rights),
                    [low for low, _ in pairs], [high for _, high in pairs],
-                   list(goals or [0] * n), limit)
+                   list(goals or [0] * n), *unset(n), limit)
+
+
+def with_ideals(problem, given, ideals):
+    """The same problem with these ideals handed in."""
+    again = copy.copy(problem)
+    again.given, again.ideals = list(given), list(ideals)
+    return again
 
 
 def marked_lent(n, m):
@@ -41,11 +50,15 @@ def marked_lent(n, m):
     return Lent([777] * (n * (m + n)), [-888] * n, [999] * n)
 
 
+# Where the tableau and the values stand in all_numbers: behind the problem's lists.
+TABLEAU = len(PROBLEM_LISTS)
+VALUES = TABLEAU + 1
+
+
 def all_numbers(problem, lent):
     """Copies of all buffers of a call."""
-    return [list(buffer) for buffer in
-            (problem.coefficients, problem.rights, problem.lower, problem.upper,
-             problem.goals, lent.tableau, lent.values, lent.strides)]
+    return ([list(getattr(problem, name)) for name in PROBLEM_LISTS]
+            + [list(getattr(lent, name)) for name in LENT_LISTS])
 
 
 def solve(problem):
@@ -83,8 +96,9 @@ def check_case(what, problem, answer, values=None, strides=None):
 
 def with_limit(problem, limit):
     """The same problem under another step limit."""
-    return Problem(problem.n, problem.m, problem.coefficients, problem.rights,
-                   problem.lower, problem.upper, problem.goals, limit)
+    again = copy.copy(problem)
+    again.limit = limit
+    return again
 
 
 def chain(n, bounds, goals=None, limit=10000):
@@ -100,13 +114,15 @@ def sound_problem():
 
 
 def random_problems(seed, count, families):
-    """Problems of some families of the generator, with the list hidden in them."""
+    """Problems of some families of the generator, with the list hidden in them, and with
+    ideals handed in for none, some or all columns."""
     for number in range(count):
         rng = generate.rng_for(seed, number)
         problem, hidden = rng.choice(families)(rng)
+        generate.hand_in(rng, problem)
         problem.limit = min(problem.limit, 200)
         yield rng, problem, hidden
 
 
 ORDINARY = [generate.small_problem, generate.small_problem, generate.middle_problem,
-            generate.wild_problem]
+            generate.wild_problem, generate.strided_problem]

@@ -1,5 +1,5 @@
 """What decks/README.md says of OUTSIDE and FITTED, held to the sample decks, and what
-README.md says of rows that are said otherwise.
+README.md says of rows that are said otherwise; of texts with plain curves that is less.
 
 Both words say that no single vector of the basis and no pair of them improves. That no
 list within the bounds exists, or no better one, they do not say; here all are tried.
@@ -15,7 +15,8 @@ import runs
 import text
 from engine import FITTED, OUTSIDE
 from tests.listings import DECKS
-from tests.tools import check, solve, test
+from tests.restated import set_ideals, solved
+from tests.tools import check, solve, test, with_ideals
 
 NEITHER = "no single vector of the basis and no pair of them improves"
 
@@ -169,3 +170,21 @@ def rows_said_otherwise():
     check("the equation", once, [b"1 3 1", b"2 3 1", b"3 6 1"])
     check("as at least and at most", curves_of(b"2 1 " + EQUATION + b"2 " + EQUATION),
           [b"1 2 1", b"2 3 1", b"3 5 1"])
+
+
+@test
+def texts_said_otherwise():
+    """Document 02, (ii): “Two restated problems must now have the same ideals too”. The
+    reader's ideals go by the rows of the text, so that other rows, which the same lists
+    satisfy, may set others: a sum of both rows brings curve 3 beside curve 1."""
+    curves = b"4 1 100 0 1 100 0 1 100 7000 -50 50 0 2 0 0 2 2 1 3 -1 0 0 3 1 1 "
+    first = listing.problem_of(text.read(curves + b"2 -1 4 -1"))
+    second = listing.problem_of(text.read(curves + b"3 -1 4 -1"))
+    check("starting lists and bases", solved(second), solved(first))
+    check("ideals", (set_ideals(first), set_ideals(second)),
+          ([None, 7, None, None], [7, 7, None, 7]))
+    (one, lent), (two, again) = solve(first), solve(second)
+    check("intervals", (lent.values, again.values), ([1, 7, 7, -6], [7, 7, 7, 0]))
+    check("strides", again.strides, lent.strides)
+    two, again = solve(with_ideals(second, first.given, first.ideals))
+    check("with the same ideals", (two, again.values), (one, lent.values))

@@ -43,6 +43,8 @@ macro_rules! engine {
             lower: *const i64, lower_count: usize,
             upper: *const i64, upper_count: usize,
             goals: *const i64, goals_count: usize,
+            given: *const i64, given_count: usize,
+            ideals: *const i64, ideals_count: usize,
             tableau: *mut i64, tableau_count: usize,
             values: *mut i64, values_count: usize,
             strides: *mut u64, strides_count: usize,
@@ -55,6 +57,8 @@ macro_rules! engine {
                 lower: from_raw_parts(lower, lower_count),
                 upper: from_raw_parts(upper, upper_count),
                 goals: from_raw_parts(goals, goals_count),
+                given: from_raw_parts(given, given_count),
+                ideals: from_raw_parts(ideals, ideals_count),
             };
             let mut lent = Lent {
                 tableau: from_raw_parts_mut(tableau, tableau_count),

@@ -29,6 +29,9 @@ pub struct Problem<'a> {
     pub lower: &'a [i64],
     pub upper: &'a [i64],
     pub goals: &'a [i64],
+    /// 0 where no ideal is handed in.
+    pub given: &'a [i64],
+    pub ideals: &'a [i64],
 }
 
 pub struct Lent<'a> {
@@ -60,6 +63,8 @@ fn wrong_length(p: &Problem, lent: &Lent) -> bool {
         || p.lower.len() != p.n
         || p.upper.len() != p.n
         || p.goals.len() != p.n
+        || p.given.len() != p.n
+        || p.ideals.len() != p.n
         || lent.tableau.len() != p.n * (p.m + p.n)
         || lent.values.len() != p.n
         || lent.strides.len() != p.n
@@ -101,9 +106,15 @@ fn goal_ideal(goal: i64) -> i64 {
     }
 }
 
-/// The ideal of column j, whose present value counts where it has no goal.
+/// The ideal of column j; where it has no goal, the one handed in, and otherwise its present value.
 pub fn ideal(p: &Problem, j: usize, present: i64) -> i64 {
-    let wanted = if p.goals[j] > 0 { goal_ideal(p.goals[j]) } else { present };
+    let wanted = if p.goals[j] > 0 {
+        goal_ideal(p.goals[j])
+    } else if p.given[j] != 0 {
+        p.ideals[j]
+    } else {
+        present
+    };
     wanted.clamp(p.lower[j], p.upper[j])
 }
 
