@@ -111,11 +111,12 @@ uint32_t koralimbu_version(void);
  *
  * The first seven are only read.
  *
- * Ideals. Before its first step a whole assignment seats the columns: it pulls them towards their ideals, as far as the rows let it. A column
- * with a goal has that of its goal, and what is handed in for it is not used. Without a goal it has the one that is handed in, brought into
- * its bounds; where none is, the value that it has then, brought into its bounds. No refusal looks at what given and ideals hold. A caller with
- * no ideals lends n zeros for given; what ideals then holds does not matter, only its count, so that one list of n zeros may be lent for both.
- * Continue seats nothing: only the counts of the two lists matter to it.
+ * Ideals. Before its first step a whole assignment seats the columns: it adds each vector of the basis as often as brings its lead, the first
+ * column that it changes, nearest to that column's ideal. A column that leads no vector follows from the rows, and its ideal changes nothing.
+ * A column with a goal has the ideal of its goal, and what is handed in for it is not used. Without a goal it has the one that is handed in,
+ * brought into its bounds; where none is, the value that it has then, brought into its bounds. No refusal looks at what given and ideals hold.
+ * A caller with no ideals lends n zeros for given; what ideals then holds does not matter, only its count, so that one list of n zeros may be
+ * lent for both. Continue seats nothing: only the counts of the two lists matter to it.
  *
  * What these two return, and what is then left:
  *

@@ -27,8 +27,8 @@
 //! # Ok::<(), koralimbu::Refusal>(())
 //! ```
 //!
-//! A curve without a goal starts from the mean of what its neighbours want, the curves with a goal that it shares a row with. That mean is its
-//! ideal, which the reader hands in; any other number can be handed in too, or none:
+//! The ideal of a curve without a goal is the mean of what its neighbours want, the curves with a goal that it shares a row with. The reader hands
+//! it in, and a curve that leads a vector of the basis starts from it; any other number can be handed in too, or none:
 //!
 //! ```
 //! use koralimbu::{solve, Columns, Deck, Problem};
@@ -80,10 +80,11 @@ pub struct Columns<'a> {
     pub goals: &'a [i64],
     /// What is handed in for each column, any number; `None` for nothing.
     ///
-    /// Before its first step a whole assignment seats the columns: it pulls them towards their ideals, as far as the rows let it. A column with a
-    /// goal has that of its goal, and what is handed in for it is not used. Without a goal it has the number that is handed in, brought into its
-    /// bounds; where none is, the value that it has then, brought into its bounds. So `None` is not `Some(0)`. Continue and the preview seat
-    /// nothing: to them only the length of this list matters.
+    /// Before its first step a whole assignment seats the columns: it adds each vector of the basis as often as brings its lead, the first column
+    /// that it changes, nearest to that column's ideal. A column that leads no vector follows from the rows, and its ideal changes nothing. A column
+    /// with a goal has the ideal of its goal, and what is handed in for it is not used. Without a goal it has the number that is handed in, brought
+    /// into its bounds; where none is, the value that it has then, brought into its bounds. So `None` is not `Some(0)`. Continue and the preview
+    /// seat nothing: to them only the length of this list matters.
     pub ideals: &'a [Option<i64>],
 }
 

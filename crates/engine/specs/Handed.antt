@@ -4,7 +4,8 @@
 --   broughtIn lo hi w   what is handed in, brought into the bounds; nothing stays nothing, since "unset" is no number
 --   SameUse P Q      at each column without a goal it comes to the same for both
 --   IdealsUsed       then whole assignments do the same
---   IdealsUnread     Continue and the preview do the same with whatever ideals
+--   Unread P Q       Continue and the preview do the same for both
+--   IdealsUnread     so it is with whatever ideals
 -- The theorems are `ideals-used` and `ideals-unread`, in proofs/Handed.
 -- Assumes nothing.
 use mathlib.Core.Path.{_≡_}

@@ -1,10 +1,10 @@
--- Document 02, (ii): the reader's ideals clause by clause, with no test in it.
+-- Document 02, (ii): the reader's ideals clause by clause, of columns and rows, with no search over them.
 --   SharedRow S j h   "a nonzero coefficient in some row with it": such a row of the columns j and h
 --   Neighbour S j h   h is one of "all intervals with a goal that have a nonzero coefficient in some row with it", with j
 --   Plain S j         "such an interval": j is one, without a goal
 --   Apart c l         "each counted once": the columns of the list l are c or later, and each is later than the one before
 --   Among h l         h is one of them
---   left S l x        what is left of the sum of their ideals once x is taken away for each
+--   remainder S l x   what is left of the sum of their ideals once x is taken away for each
 --   Mean S j x        x is "the mean, rounded down, of the ideals of all" neighbours of j
 --   HandsMean S j     the reader hands in that mean for column j
 --   ReaderRule S j    what the reader hands in for column j
@@ -46,16 +46,16 @@ Among h [] = ⊥
 Among h (k ∷ l) = (h ≡ k) ⊎ Among h l
 
 -- ---- "the mean, rounded down"
-abbrev pub left : Stated → List ℕ → ℤ → ℤ
-left S l x = total (map (idealOf S) l) +ℤ negℤ x *ℤ pos (length l)
+abbrev pub remainder : Stated → List ℕ → ℤ → ℤ
+remainder S l x = total (map (idealOf S) l) +ℤ negℤ x *ℤ pos (length l)
 
 pub record Mean (S : Stated) (j : ℕ) (x : ℤ) : Type 0 where
   pub neighbours : List ℕ
   pub all : (h : ℕ) → Neighbour S j h ↔ Among h neighbours
   pub once : Apart 0 neighbours
   -- what is left is not below 0, and less than there are neighbours
-  pub low : pos 0 ≤ℤ left S neighbours x
-  pub high : left S neighbours x <ℤ pos (length neighbours)
+  pub low : pos 0 ≤ℤ remainder S neighbours x
+  pub high : remainder S neighbours x <ℤ pos (length neighbours)
 
 pub record HandsMean (S : Stated) (j : ℕ) : Type 0 where
   pub number : ℤ
