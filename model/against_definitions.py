@@ -5,12 +5,12 @@
 The definitions of crates/*/specs compute. This writes a crate of one equation
 for each case below target/against, with the model's answer on its right side,
 and has the checker compute the left sides: whole assignments and Continue with
-every lent buffer afterwards, with ideals handed in for none, some or all columns, texts
-with the listing's bytes, the runs of both calls with what falls at a step (document 02,
-(xiii)), previews with what they tell and leave (document 02, (i)), many of which show a
-step, and the two lists of ideals that the reader hands in for what texts state (document
-02, (ii)), many of which set one. Cases are kept small, since the checker computes
-slowly. The last line is 'N passed, M failed'.
+every lent buffer afterwards, texts with the listing's bytes, the runs of both calls with
+what falls at a step (document 02, (xiii)), previews with what they tell and leave
+(document 02, (i)), many of which show a step, and the two lists of ideals that the reader
+hands in for what texts state (document 02, (ii)); ideals play a part in half of the calls
+and a third of the listed texts. Cases are kept small, since the checker computes slowly.
+The last line is 'N passed, M failed'.
 """
 
 import os
@@ -22,14 +22,16 @@ from fractions import Fraction
 import needs
 import runs
 from engine import PROBLEM_LISTS, preview, ratio
-from generate import preview_case, problem_case, rng_for, text_case
-from listing import listing
+from generate import (Case, beside_deck, join, preview_case, problem_case, rng_for,
+                      text_case)
+from listing import blank_lent, listing, problem_of
 from needs import ROOT
 from text import read
 
 SCRATCH = os.path.join(ROOT, "target", "against")
 
 MOST_NUMBERS = 60
+MOST_STATED = 150
 MOST_STEPS = 12
 MOST_BYTES = 240
 MOST_DIGITS = 5
@@ -88,13 +90,21 @@ def seen(number, step):
 
 # ------------------------------------------------------------------- the cases
 
-def problem_equation(rng):
-    """A call on buffers as an equation, or None where it is too large."""
+def is_large(problem):
+    """Whether its tableau is too large to compute."""
+    return problem.n * (problem.m + problem.n) > MOST_NUMBERS
+
+
+def problem_equation(rng, by_ideals=False):
+    """A call on buffers as an equation, or None where it is too large, or where ideals are
+    to play a part and play none."""
     case = problem_case(rng)
     problem = case.problem
-    if problem.n * (problem.m + problem.n) > MOST_NUMBERS:
+    if is_large(problem):
         return None
     problem.limit = min(problem.limit, MOST_STEPS) if problem.limit <= 65535 else problem.limit
+    if by_ideals and not case.moved_by_ideals():
+        return None
     before = "(record { %s })" % buffers(case.lent)
     outcome, bounds, goals = case.run()
     return ("%s %s %s ≡ record { answer = %s; %s }"
@@ -102,14 +112,28 @@ def problem_equation(rng):
                buffers(case.lent)))
 
 
-def text_equation(rng):
-    """A text and its listing as an equation, or None where it is too large."""
+def listed_by_ideals(deck):
+    """Whether the ideals that the reader hands in play a part in a read text's listing."""
+    problem = problem_of(deck)
+    return Case("assign", problem, blank_lent(problem)).moved_by_ideals()
+
+
+def text_equation(rng, is_read=False, by_ideals=False):
+    """A text and its listing as an equation, or None where it is too large, is to be read
+    and is refused, or where ideals are to play a part and play none."""
     data = text_case(rng)
+    deck = read(data)
+    refused = isinstance(deck, int)
+    if len(data) > MOST_BYTES or not refused and is_large(deck):
+        return None
+    if is_read and refused or by_ideals and not listed_by_ideals(deck):
+        return None
     out = listing(data)
     first = out.split(b"\n")[0].split(b" ")
     many = len(first) == 3 and int(first[1]) + int(first[2]) > MOST_STEPS
-    wide = any(len(word) > MOST_DIGITS for word in out.split())
-    if len(data) > MOST_BYTES or many or wide:
+    # the word in front is no number
+    wide = any(len(word) > MOST_DIGITS for word in out.split()[1:])
+    if many or wide:
         return None
     return "printed %s ≡ %s" % (naturals(data), naturals(out))
 
@@ -125,7 +149,7 @@ def run_equation(rng):
     equation; None where it is too large, refused or without a step."""
     case = problem_case(rng)
     problem = case.problem
-    if problem.n * (problem.m + problem.n) > MOST_NUMBERS or problem.limit > 65535:
+    if is_large(problem) or problem.limit > 65535:
         return None
     limit, problem.limit = min(problem.limit, MOST_STEPS), 0
     before = "(record { %s })" % buffers(case.lent)
@@ -155,7 +179,7 @@ def preview_equation(rng):
     for one."""
     wanted = rng.random() < 0.75
     problem, standing, lent = preview_case(rng)
-    if problem.n * (problem.m + problem.n) > MOST_NUMBERS:
+    if is_large(problem):
         return None
     before = "(record { %s })" % buffers(lent)
     number, step = preview(problem, standing, lent)
@@ -168,12 +192,10 @@ def preview_equation(rng):
 
 def ideals_equation(rng):
     """The two lists of ideals of a read text as an equation, or None where the text is
-    refused or too large, or sets none in a draw for one."""
-    set_one = rng.random() < 0.75
-    deck = read(text_case(rng))
-    if isinstance(deck, int) or deck.n * (deck.m + deck.n) > MOST_NUMBERS:
-        return None
-    if set_one and not any(deck.given):
+    refused or too large."""
+    beside = rng.random() < 0.7
+    deck = read(join(beside_deck(rng).tokens()) if beside else text_case(rng))
+    if isinstance(deck, int) or deck.n * (deck.m + deck.n) > MOST_STATED:
         return None
     n, m = deck.n, deck.m
     stated = ("(statedBy %d %d %d %s %s %s %s)"
@@ -183,16 +205,31 @@ def ideals_equation(rng):
             % (stated, n, integers(deck.given[:n]), stated, n, integers(deck.ideals[:n])))
 
 
-def some(make, count, seed):
-    """The first count cases that are small enough."""
+def some(make, count, seed, **wanted):
+    """The first count cases that are small enough, and as they are wanted."""
     found = []
     number = 0
     while len(found) < count:
         number += 1
-        equation = make(rng_for(seed, number))
+        equation = make(rng_for(seed, number), **wanted)
         if equation is not None:
             found.append(equation)
     return found
+
+
+def problem_equations(count, seed):
+    """Of calls; ideals play a part in half of them."""
+    return (some(problem_equation, count - count // 2, seed)
+            + some(problem_equation, count // 2, seed + 1, by_ideals=True))
+
+
+def text_equations(count, seed):
+    """Of texts: a third are any, many of them refused, a third are read, and a third are
+    read and ideals play a part in them."""
+    third = count // 3
+    return (some(text_equation, count - 2 * third, seed)
+            + some(text_equation, third, seed + 1, is_read=True)
+            + some(text_equation, third, seed + 2, is_read=True, by_ideals=True))
 
 
 # ------------------------------------------------------------- the scratch crate
@@ -295,8 +332,8 @@ def write_crate(equations):
 def main(arguments):
     counts = needs.numbers(arguments, [60, 60, 1, 20, 30, 40], __doc__)
     rt = needs.rt()
-    equations = some(problem_equation, counts[0], counts[2])
-    equations += some(text_equation, counts[1], counts[2])
+    equations = problem_equations(counts[0], counts[2])
+    equations += text_equations(counts[1], counts[2])
     equations += some(run_equation, counts[3], counts[2])
     equations += some(preview_equation, counts[4], counts[2])
     equations += some(ideals_equation, counts[5], counts[2])

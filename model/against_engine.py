@@ -241,20 +241,6 @@ def compare_previews(tally, functions, count, seed):
         tally.require("a preview of the kind: " + kind, met[kind] > 0)
 
 
-def left_by_model(case, given):
-    """What the model answers and leaves, on copies, with these marks for the ideals."""
-    problem = copy.copy(case.problem)
-    problem.given = given
-    lent = Lent(*[list(getattr(case.lent, name)) for name in LENT_LISTS])
-    return Case(case.call, problem, lent).run(), lent.values
-
-
-def moved_by_ideals(case):
-    """Whether the ideals that are handed in change what a call answers or leaves."""
-    given = case.problem.given
-    return any(given) and left_by_model(case, given) != left_by_model(case, [0] * len(given))
-
-
 def compare_calls(tally, functions, count, seed):
     """Whole assignments and Continues of random problems."""
     left_out = moved = 0
@@ -268,7 +254,7 @@ def compare_calls(tally, functions, count, seed):
             continue
         what = "case %d of seed %d: %s, n %d, m %d, limit %d" % (
             number, seed, case.call, problem.n, problem.m, problem.limit)
-        moved += moved_by_ideals(case)
+        moved += case.moved_by_ideals()
         got = engine_call(functions, case, report)
         tally.compare(what, got, model_call(case, report))
     print("%d left out: a step limit beyond 32 bits" % left_out)

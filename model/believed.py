@@ -20,11 +20,13 @@ ENTRIES = ["engine/src/lib.rt", "engine/src/preview.rt", "deck/src/lib.rt", "sol
 # The files of statements that docs/PROMISES.md cites, and in files of more than statements these.
 STATEMENTS = {
     "engine/specs/Demand.antt": ["Demand3"],
+    "engine/specs/Handed.antt": ["IdealsUsed", "IdealsUnread"],
     "engine/specs/Outcomes.antt": ["KeepsRows", "VerdictMeans", "NoneExactlyWhen"],
     "engine/specs/Stride.antt": ["AssignStrides", "ContinueStrides"],
     "engine/specs/Preview.antt": ["PreviewContinue", "PreviewRoom", "PreviewStep", "PreviewRest", "PreviewLimit"],
     "whole/specs/Divisor.antt": ["DivisorGreatest"],
     "settling/specs/Strides.antt": ["StrideGreatest"],
+    "neighbours/specs/Rule.antt": ["ReadersRule"],
     "solve/specs/Cases.antt": ["DeckCases"],
     "solve/specs/Program.antt": ["ListedWhole"],
     "runs/specs/CallRuns.antt": ["NoListTwice", "assignRun", "continueRun"],

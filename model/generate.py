@@ -32,6 +32,7 @@ bytes; problem_case(rng) and text_case(rng) make one. preview_case(rng) makes th
 problem, the standing list and the lent buffers of a preview.
 """
 
+import copy
 import os
 import random
 import sys
@@ -66,6 +67,19 @@ class Case:
     def run(self):
         """Runs the model on the lent buffers and returns its answer."""
         return (assign if self.call == "assign" else cont)(self.problem, self.lent)
+
+    def left_with(self, given):
+        """What the model answers and leaves, on copies, with these marks of the ideals."""
+        problem = copy.copy(self.problem)
+        problem.given = given
+        lent = Lent(*[list(getattr(self.lent, name)) for name in LENT_LISTS])
+        return Case(self.call, problem, lent).run(), lent.values
+
+    def moved_by_ideals(self):
+        """Whether the ideals that are handed in play a part in what the call answers or
+        leaves."""
+        given = self.problem.given
+        return any(given) and self.left_with(given) != self.left_with([0] * len(given))
 
 
 def noise(rng, length, smallest=SMALLEST, biggest=BIGGEST):
