@@ -1,4 +1,4 @@
--- What calls answer, in document 01's numbers.
+-- What calls answer, in document 01's numbers and those that document 02 adds.
 --   refusalNumber r   the number of the table "Turned back"
 --   answerNumber a    that of a refusal; 0 for a verdict
 --   answerCounts a    the step counts of the two parts; with a refusal "number, counts 0"
@@ -9,13 +9,13 @@ use mathlib.Core.Bool.{Bool, true, false}
 use Prim.Native.Nat.{ℕ}
 use Rattle.problem.specs.declared.Refusal.{Refusal}
 use Rattle.problem.specs.declared.Refusal.the-variants.{Size, Length, Coefficient, Bound, Goal, Limit}
-use Rattle.problem.specs.declared.Refusal.the-variants.{Elimination, NoWholeNumbers, Seating, Standing, Layout, Term}
+use Rattle.problem.specs.declared.Refusal.the-variants.{Elimination, NoWholeNumbers, Seating, Standing, Layout, Term, Volume}
 use Rattle.problem.specs.declared.Counts.{Counts}
 use Rattle.problem.specs.declared.Answer.{Answer}
 use Rattle.problem.specs.declared.Answer.the-variants.{Fitted, Outside, Spent, Refused}
 
 abbrev pub refusalNumber : Refusal → ℕ
--- "n or m outside"
+-- "n or m outside"; document 02, (iii): "a count of paths that makes a 49th row"
 refusalNumber Size = 1
 -- "a lent length not exactly what n and m need"
 refusalNumber Length = 2
@@ -39,6 +39,8 @@ refusalNumber Standing = 10
 refusalNumber Layout = 11
 -- "kind, term count, index or zero coefficient wrong, or the row's kind makes a 49th column"
 refusalNumber Term = 12
+-- document 02, (iii): "a negative count of volumes, a count of paths or of a path's intervals below 1, or an index outside or twice in one path"
+refusalNumber Volume = 13
 
 abbrev pub noSteps : Counts
 noSteps = record { bounds = 0; goals = 0 }

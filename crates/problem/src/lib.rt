@@ -101,6 +101,7 @@ pub enum Refusal {
     Standing,
     Layout,
     Term,
+    Volume,
 }
 
 // The steps of the bounds part and of the goals part.
@@ -162,6 +163,7 @@ impl Refusal {
             Refusal::Standing => 10,
             Refusal::Layout => 11,
             Refusal::Term => 12,
+            Refusal::Volume => 13,
         }
     }
 }

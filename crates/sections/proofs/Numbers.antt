@@ -1,7 +1,7 @@
 -- Laws of numbers read in a range, and of what a range says of them.
 --   same-ok, ok-not-no                equal outcomes were read alike, and none of them is a refusal
---   within-number, -bad, -end         a number at a place, by the token there
---   within-in, abs-between, abs-within, count-in   what a range says of the number that was read
+--   number-token, -bad, -end          a number at a place, by the token there
+--   within-in, abs-between, abs-within, count-in, least-in   what a range or a least number says of the number that was read
 --   coefficient-zero, -read, -no      a coefficient
 -- Assumes nothing.
 use mathlib.Core.Path.{_≡_, refl, sym, subst}
@@ -20,7 +20,7 @@ use Rattle.text.specs.Positions.{nextAt}
 use Rattle.problem.specs.declared.Refusal.{Refusal}
 use Rattle.problem.specs.declared.Refusal.the-variants.{Layout, Coefficient, Term as WrongTerm}
 use Rattle.problem.specs.Limits.{maxCoefficient}
-use Rattle.sections.specs.Rules.{ok, no, inside, onNext, within}
+use Rattle.sections.specs.Rules.{Outcome, ok, no, then, inside, number, within, least}
 use Rattle.sections.specs.Sections.{spanning, coefficient}
 
 -- ---- outcomes
@@ -30,16 +30,16 @@ same-ok h = cc
 pub ok-not-no : {A : Type 0} {a : A} {p : ℕ} {why : Refusal} → no why ≡ ok a p → ⊥
 ok-not-no h = let z : _≡_ {A = ℕ} 0 1 = cc in omega arith
 
--- ---- a number in its range, at a place
-module _ (s : List ℕ) (at : ℕ) (a b : ℤ) (why : Refusal) where
-  pub within-number : (v : ℤ) (e : ℕ) → nextAt s at ≡ Found (Number v) e → within s a b why at ≡ inside a b why v e
-  within-number v e h = rw h
+-- ---- a number at a place, by the token there
+module _ (s : List ℕ) (at : ℕ) where
+  pub number-token : (v : ℤ) (e : ℕ) → nextAt s at ≡ Found (Number v) e → number s at ≡ ok v e
+  number-token v e h = rw h
 
-  pub within-bad : (e : ℕ) → nextAt s at ≡ Found Bad e → within s a b why at ≡ no Layout
-  within-bad e h = rw h
+  pub number-bad : (e : ℕ) → nextAt s at ≡ Found Bad e → number s at ≡ no Layout
+  number-bad e h = rw h
 
-  pub within-end : nextAt s at ≡ End → within s a b why at ≡ no Layout
-  within-end h = rw h
+  pub number-end : nextAt s at ≡ End → number s at ≡ no Layout
+  number-end h = rw h
 
 -- ---- what a range says of the number that was read
 module _ (a b : ℤ) (why : Refusal) (v : ℤ) (q : ℕ) where
@@ -49,13 +49,12 @@ module _ (a b : ℤ) (why : Refusal) (v : ℤ) (q : ℕ) where
   both true false w p e f h = absurd (ok-not-no h)
   both false u w p e f h = absurd (ok-not-no h)
 
-  next-in : (n : Next) → onNext a b why n ≡ ok v q → (leZ a v ≡ true) × (leZ v b ≡ true)
-  next-in (Found (Number w) p) h = both (leZ a w) (leZ w b) w p refl refl h
-  next-in (Found Bad p) h = absurd (ok-not-no h)
-  next-in End h = absurd (ok-not-no h)
+  number-in : (o : Outcome ℤ) → then o (λ w p. inside a b why w p) ≡ ok v q → (leZ a v ≡ true) × (leZ v b ≡ true)
+  number-in (ok w p) h = both (leZ a w) (leZ w b) w p refl refl h
+  number-in (no other) h = absurd (ok-not-no h)
 
   pub within-in : (s : List ℕ) (at : ℕ) → within s a b why at ≡ ok v q → (leZ a v ≡ true) × (leZ v b ≡ true)
-  within-in s at h = next-in (nextAt s at) h
+  within-in s at h = number-in (number s at) h
 
 pub abs-between : (a b : ℕ) (v : ℤ) → leZ (pos a) v ≡ true → leZ v (pos b) ≡ true → (a ≤ natAbs v) × (natAbs v ≤ b)
 abs-between a b (pos n) h k = (leb-true a n h, leb-true n b k)
@@ -71,6 +70,22 @@ abs-within (negsuc m) k (negsuc n) l h e = omega (arith, leb-true n m h)
 pub count-in : (s : List ℕ) (lo hi : ℕ) (why : Refusal) (v : ℤ) (p q : ℕ) → within s (pos lo) (pos hi) why p ≡ ok v q
     → (lo ≤ natAbs v) × (natAbs v ≤ hi)
 count-in s lo hi why v p q h = let w = within-in (pos lo) (pos hi) why v q s p h in abs-between lo hi v (w .0) (w .1)
+
+-- a count with no upper end
+pub least-in : (s : List ℕ) (lo : ℕ) (why : Refusal) (v : ℤ) (p q : ℕ) → least s (pos lo) why p ≡ ok v q → lo ≤ natAbs v
+least-in s lo why v p q h = go (number s p) h
+  where
+    above : (w : ℤ) → leZ (pos lo) w ≡ true → lo ≤ natAbs w
+    above (pos n) e = leb-true lo n e
+    above (negsuc n) e = absurd (subst T (sym e) tt)
+
+    by : (t : Bool) (w : ℤ) (r : ℕ) → leZ (pos lo) w ≡ t → cond t (ok w r) (no why) ≡ ok v q → lo ≤ natAbs v
+    by true w r e f = subst (λ (x : ℤ). lo ≤ natAbs x) (same-ok f) (above w e)
+    by false w r e f = absurd (ok-not-no f)
+
+    go : (o : Outcome ℤ) → then o (λ w r. cond (leZ (pos lo) w) (ok w r) (no why)) ≡ ok v q → lo ≤ natAbs v
+    go (ok w r) f = by (leZ (pos lo) w) w r refl f
+    go (no other) f = absurd (ok-not-no f)
 
 -- ---- a coefficient
 module _ (s : List ℕ) (p q : ℕ) (v : ℤ) where

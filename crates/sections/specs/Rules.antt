@@ -3,7 +3,9 @@
 --   Outcome A              something read, with the place after it in the text; or the refusal
 --   then                   one after the other: the first refusal decides
 --   inside lo hi why v e   the number v, with the place e after it, which is lo to hi or else refused
---   within s lo hi why at  the next number of the text s at or after a place, which is lo to hi or else refused; onNext is that of a token
+--   number s at            the next number of the text s at or after a place; onNumber is that of a token
+--   within s lo hi why at  the next number, which is lo to hi or else refused
+--   least s lo why at      the next number, which is lo or more or else refused
 --   nonzero why            what was read is not 0 or else refused
 --   closed s a at          no number or other run is left; onEnd is that of a token
 -- Assumes nothing.
@@ -11,6 +13,7 @@ use mathlib.Core.Bool.{cond}
 use mathlib.Core.List.{List}
 use Prim.Native.Nat.{ℕ}
 use lib.IntN.{ℤ}
+use lib.Signed.{leZ}
 use Rattle.whole.specs.Tests.{isZero, inRange}
 use Rattle.text.specs.Positions.{nextAt}
 use Rattle.text.specs.declared.Token.the-variants.{Number, Bad}
@@ -30,13 +33,19 @@ then (no why) f = no why
 abbrev pub inside : ℤ → ℤ → Refusal → ℤ → ℕ → Outcome ℤ
 inside lo hi why v e = cond (inRange lo hi v) (ok v e) (no why)
 
-abbrev pub onNext : ℤ → ℤ → Refusal → Next → Outcome ℤ
-onNext lo hi why (Found (Number v) e) = inside lo hi why v e
-onNext lo hi why (Found Bad e) = no Layout
-onNext lo hi why End = no Layout
+abbrev pub onNumber : Next → Outcome ℤ
+onNumber (Found (Number v) e) = ok v e
+onNumber (Found Bad e) = no Layout
+onNumber End = no Layout
+
+abbrev pub number : List ℕ → ℕ → Outcome ℤ
+number s at = onNumber (nextAt s at)
 
 abbrev pub within : List ℕ → ℤ → ℤ → Refusal → ℕ → Outcome ℤ
-within s lo hi why at = onNext lo hi why (nextAt s at)
+within s lo hi why at = then (number s at) (λ v e. inside lo hi why v e)
+
+abbrev pub least : List ℕ → ℤ → Refusal → ℕ → Outcome ℤ
+least s lo why at = then (number s at) (λ v e. cond (leZ lo v) (ok v e) (no why))
 
 abbrev pub nonzero : Refusal → Outcome ℤ → Outcome ℤ
 nonzero why o = then o (λ v at. cond (isZero v) (no why) (ok v at))

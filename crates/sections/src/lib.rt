@@ -2,7 +2,7 @@
 mod columns;
 pub mod intervals;
 pub mod rows;
-mod rules;
+pub mod rules;
 
 use problem::Problem;
 use problem::Refusal;
@@ -79,7 +79,7 @@ pub enum Section {
 }
 
 // A number and the place after it.
-enum Got {
+pub enum Got {
     Value(i64, usize),
     Refused(Refusal),
 }

@@ -1,72 +1,41 @@
--- `sections::rules::within` meets its contract: the next token is the first of those that are left. Assumes nothing.
-use mathlib.Core.Path.{_≡_, sym, _∙_, ap}
-use borrow.Author.Needs.{needs}
 use lib.IntN.{ℤ}
 use mir.Syntax.{w64}
 use mir.Val.{toZ, ofZ}
+-- `sections::rules::within` meets its contract: the next number, held to its range. Assumes nothing.
+use mathlib.Core.Path.{_≡_, sym, _∙_, ap}
+use borrow.Author.Needs.{needs}
 use mir.Facts.{toZ-ofZ}
-use Rattle.text.specs.declared.Next.the-variants.{Found}
-use Rattle.sections.proofs.Numbers.{within-number, within-bad, within-end}
+use Rattle.sections.specs.Rules.{then, inside}
+use Rattle.sections.specs.SectionsRead.{gotOf}
 use Rattle.sections.proofs.rules.within.Statement.{statement}
 use Rattle.sections.proofs.rules.within.Tie as tie
 
-next-token-requires : tie.Need-next-token-requires
-next-token-requires c κs = search needs
+next-number-requires : tie.Need-next-number-requires
+next-number-requires c κs = search needs
 
-enum-known-n : tie.Need-enum-known-n
-enum-known-n c = search needs
-
-enum-known-t : tie.Need-enum-known-t
-enum-known-t c = search needs
+enum-known-g : tie.Need-enum-known-g
+enum-known-g c = search needs
 
 in-range-requires : tie.Need-in-range-requires
 in-range-requires c κs = search needs
 
-enum-told : tie.Need-enum-told
-enum-told c = search needs
-
-enum-told-2 : tie.Need-enum-told-2
-enum-told-2 c = search needs
+enum-known-g-2 : tie.Need-enum-known-g-2
+enum-known-g-2 c = search needs
 
 returns : tie.Need-returns
 returns c =
-    let after-n = c .before .before .before .before .before in
-    let after-next-token = after-n .before .before in
-    let start = after-next-token .before .before in
-    let x = start .args in
-    let s = x .s .now in
-    let n = after-n .n .given in
-    let t = c .before .before .t .given in
-    let v : ℤ = t .0 .0 in
-    let b : toZ w64 (ofZ w64 v) ≡ v = search needs in
-    within-number s (x .at) (x .low) (x .high) (x .why) v (n .0 .1 .0)
-    (sym (after-next-token .next-token .ensures) ∙ (n .1 ∙ ap (λ (u : _). Found u (n .0 .1 .0)) (t .1))) ∙
-    (rw (b, toZ-ofZ (start .fits .low), toZ-ofZ (start .fits .high)) at (c .in-range .ensures))
+    let x = c .before .before .before .before .before .before .args in
+    let b : toZ w64 (ofZ w64 (c .before .before .g .given .0 .0)) ≡ c .before .before .g .given .0 .0 = search needs in
+    ap (λ o. then o (λ v e. inside (x .low) (x .high) (x .why) v e)) (c .before .before .before .before .next-number .ensures ∙ ap gotOf (c .before .before .g .given .1)) ∙
+    (rw (b, toZ-ofZ (c .before .before .before .before .before .before .fits .low),
+    toZ-ofZ (c .before .before .before .before .before .before .fits .high)) at (c .in-range .ensures))
 
 returns-2 : tie.Need-returns-2
 returns-2 c =
-    let after-next-token = c .before .before .before .before .before in
-    let start = after-next-token .before .before in
-    let x = start .args in
-    let n = c .before .before .before .n .given in
-    within-bad (x .s .now) (x .at) (x .low) (x .high) (x .why) (n .0 .1 .0)
-    (sym (after-next-token .next-token .ensures) ∙ (n .1 ∙ ap (λ (u : _). Found u (n .0 .1 .0)) (c .enum-told .given .1)))
-
-returns-3 : tie.Need-returns-3
-returns-3 c =
-    let x = c .before .before .before .before .args in
-    within-end (x .s .now) (x .at) (x .low) (x .high) (x .why) (sym (c .before .before .next-token .ensures) ∙ c .enum-told2 .given .1)
+    let x = c .before .before .before .before .before .args in
+    ap (λ o. then o (λ v e. inside (x .low) (x .high) (x .why) v e)) (c .before .before .before .next-number .ensures ∙ ap gotOf (c .before .g2 .given .1))
 
 pub within-spec : {M : Type 1} → statement M
 within-spec =
     tie.close
-    (tie.spec
-    next-token-requires
-    enum-known-n
-    enum-known-t
-    in-range-requires
-    enum-told
-    enum-told-2
-    returns
-    returns-2
-    returns-3)
+    (tie.spec next-number-requires enum-known-g in-range-requires enum-known-g-2 returns returns-2)

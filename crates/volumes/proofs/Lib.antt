@@ -1,0 +1,1 @@
+-- The root of the laws that the proofs cite.
