@@ -1,7 +1,8 @@
--- Document 01, "Continue, text, listing": the problem that a text states, with the ideals of document 02, (ii).
---   Deck            the intervals and the lines of a text
+-- Document 01, "Continue, text, listing": the problem that a text states, with the ideals of document 02, (ii), and the volumes of (iii).
+--   Deck            the intervals, the lines and the volumes of a text
 --   deck s          the deck of a text's sections, one after the other, and nothing behind them
 --   readDeck s      the deck that the text s states, or the refusal of its first place that breaks a rule
+--   linesOf d       the rows: the lines, and "after all rows so far" those that the volumes add
 --   columnsOf d     the columns: the intervals, then the y of each row that has one; countOf d, how many
 --   coefficientsOf, lowers, uppers, goals d   the lists that the deck states, of just the lengths that n and m need
 --   stated d        what it states of its rows and columns
@@ -18,31 +19,38 @@ use Rattle.problem.specs.declared.Refusal.the-variants.{Layout}
 use Rattle.neighbours.specs.Neighbours.{Stated, statedBy, givenOf, idealsOf}
 use Rattle.sections.specs.Rules.{Outcome, no, then, closed}
 use Rattle.sections.specs.Sections.{maxText, Line, intervalSection, rowSection}
+use Rattle.volumes.specs.Volumes.{Volume, volumeSection}
+use Rattle.volumes.specs.PathLines.{sweptLines}
 use Rattle.sections.specs.StatedColumns.{slackColumns, coefficientRows, lowerOf, upperOf, goalOf, rightOf}
 use Rattle.sections.specs.declared.Interval.{Interval}
 
 pub record Deck : Type 0 where
   pub intervals : List Interval
   pub lines : List Line
+  pub volumes : List Volume
 
 abbrev pub deck : List ℕ → Outcome Deck
 deck s =
     then (intervalSection s 0) (λ is at.
     then (rowSection s (length is) at) (λ ls at.
-    closed s (record { intervals = is; lines = ls }) at))
+    then (volumeSection s (length is) (length ls) at) (λ vs at.
+    closed s (record { intervals = is; lines = ls; volumes = vs }) at)))
 
 -- "a text over 32,768 bytes is 11"
 unfoldable pub readDeck : List ℕ → Outcome Deck
 readDeck s = cond (ltb maxText (length s)) (no Layout) (deck s)
 
+abbrev pub linesOf : Deck → List Line
+linesOf d = d .lines ++ sweptLines (d .volumes)
+
 abbrev pub columnsOf : Deck → List Interval
-columnsOf d = d .intervals ++ slackColumns (d .lines)
+columnsOf d = d .intervals ++ slackColumns (linesOf d)
 
 abbrev pub countOf : Deck → ℕ
 countOf d = length (columnsOf d)
 
 abbrev pub coefficientsOf : Deck → List ℤ
-coefficientsOf d = coefficientRows (countOf d) (length (d .intervals)) (d .lines)
+coefficientsOf d = coefficientRows (countOf d) (length (d .intervals)) (linesOf d)
 
 abbrev pub lowers : Deck → List ℤ
 lowers d = map lowerOf (columnsOf d)
@@ -54,13 +62,13 @@ abbrev pub goals : Deck → List ℤ
 goals d = map goalOf (columnsOf d)
 
 abbrev pub stated : Deck → Stated
-stated d = statedBy (countOf d) (length (d .lines)) (length (d .intervals)) (coefficientsOf d) (lowers d) (uppers d) (goals d)
+stated d = statedBy (countOf d) (length (linesOf d)) (length (d .intervals)) (coefficientsOf d) (lowers d) (uppers d) (goals d)
 
 unfoldable pub posed : ℕ → Deck → Posed
 posed limit d = record {
-  problem = record { columns = countOf d; rows = length (d .lines); limit = limit };
+  problem = record { columns = countOf d; rows = length (linesOf d); limit = limit };
   coefficients = coefficientsOf d;
-  rights = map rightOf (d .lines);
+  rights = map rightOf (linesOf d);
   lower = lowers d;
   upper = uppers d;
   goals = goals d;

@@ -1,3 +1,4 @@
 -- The root of the definitions.
 pub mod Program
 pub mod Cases
+pub mod Swept

@@ -1,5 +1,6 @@
 -- What the functions of the section of volumes answer, as outcomes, and what they leave in the buffers that they are lent.
 --   countGotOf               a count that was read, as an outcome
+--   Named n p                each index of the path p names one of n intervals; EachNamed, so it is on each path
 --   marksOf p                the marks of the path p, a line of the largest size: 1 for each of its intervals, 0 for the others
 --   Marks v                  a line of the largest size of 0 and 1 alone
 --   PathRead                 a path, as an outcome, with its marks where it was not refused: PathStored
@@ -11,7 +12,7 @@
 --   SectionRead              the same, where what a refused section left is open
 -- Assumes nothing.
 use mathlib.Core.Path.{_≡_}
-use mathlib.Core.List.{List, [], _++_, map}
+use mathlib.Core.List.{List, [], _∷_, _++_, map}
 use Prim.Native.Nat.{ℕ, _+_, _*_, _≤_}
 use lib.IntN.{ℤ, pos, natAbs}
 use lib.ListN.{length}
@@ -37,6 +38,14 @@ countGotOf (got.Value v e) = ok (natAbs v) e
 countGotOf (got.Refused why) = no why
 
 -- ---- a path
+abbrev pub Named : ℕ → SweepPath → Type 0
+Named n [] = Unit {0}
+Named n (j ∷ p) = ((1 ≤ j) × (j ≤ n)) × Named n p
+
+abbrev pub EachNamed : ℕ → List SweepPath → Type 0
+EachNamed n [] = Unit {0}
+EachNamed n (p ∷ ps) = Named n p × EachNamed n ps
+
 abbrev pub marksOf : SweepPath → List ℤ
 marksOf p = placed (termsOf (pos 1) p) (blank deckColumns)
 
@@ -47,6 +56,7 @@ pub record Marks (v : List ℤ) : Type 0 where
 pub record PathStored (o : Outcome SweepPath) (e : ℕ) (v : List ℤ) : Type 0 where
   pub path : SweepPath
   pub read : o ≡ ok path e
+  pub named : Named deckColumns path
   pub marks : v ≡ marksOf path
 
 abbrev pub PathRead : Outcome SweepPath → Step → List ℤ → Type 0
@@ -61,6 +71,7 @@ laterRow f p = minus f (marksOf p)
 pub record LaterStored (o : Outcome SweepPath) (c d : Cursor) (f t₀ t : List ℤ) : Type 0 where
   pub path : SweepPath
   pub read : o ≡ ok path (d .at)
+  pub named : Named deckColumns path
   pub intervals : d .intervals ≡ c .intervals
   pub columns : d .columns ≡ c .columns
   pub rows : d .rows ≡ c .rows + 1
@@ -73,6 +84,7 @@ LaterRead o c (section.Refused why) f t₀ t = o ≡ no why
 -- o: by the paths before them
 pub record PathsStored (o : Volume → Outcome Volume) (c d : Cursor) (f t₀ t : List ℤ) : Type 0 where
   pub later : List SweepPath
+  pub named : EachNamed deckColumns later
   pub read : (done : Volume) → o done ≡ ok (done ++ later) (d .at)
   pub intervals : d .intervals ≡ c .intervals
   pub columns : d .columns ≡ c .columns
