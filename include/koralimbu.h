@@ -22,7 +22,7 @@ extern "C" {
 /* The version, which rises with each change of a call or of the text; docs/CHANGES.md has the list. A header and an archive of different
  * versions must not be used together: a program compares KORALIMBU_VERSION with koralimbu_version() once, at its start. */
 #define KORALIMBU_VERSION_MAJOR 0
-#define KORALIMBU_VERSION_MINOR 4
+#define KORALIMBU_VERSION_MINOR 5
 #define KORALIMBU_VERSION_PATCH 0
 #define KORALIMBU_VERSION (KORALIMBU_VERSION_MAJOR * 1000000 + KORALIMBU_VERSION_MINOR * 1000 + KORALIMBU_VERSION_PATCH)
 
