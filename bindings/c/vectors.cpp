@@ -78,7 +78,7 @@ static uint32_t read_text(const std::vector<uint8_t> &text, std::vector<int64_t>
 }
 
 static void read_texts() {
-    static const char deck[] = "2 1 9 0 1 9 7000 1 0 0 2 1 1 2 -1";
+    static const char deck[] = "2 1 9 0 1 9 7000 1 0 0 2 1 1 2 -1 0";
     std::vector<int64_t> given(KORALIMBU_DECK_COLUMNS), ideals(KORALIMBU_DECK_COLUMNS), none;
     expect("an empty text", read_text({}, given, ideals), KORALIMBU_REFUSED_LAYOUT);
     expect("a text and no room for ideals", read_text({}, none, none), KORALIMBU_REFUSED_LENGTH);
