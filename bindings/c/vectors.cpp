@@ -85,6 +85,10 @@ static void read_texts() {
     expect("a text", read_text(std::vector<uint8_t>(deck, deck + sizeof deck - 1), given, ideals), KORALIMBU_ACCEPTED);
     expect("a plain curve's ideal", given[0] == 1 && ideals[0] == 7, true);
     expect("no other ideal", given[1] == 0 && ideals[1] == 0, true);
+    static const char swept[] = "2 1 9 5000 1 9 0 0 1 2 1 1 1 2", twice[] = "2 1 9 5000 1 9 0 0 1 2 1 1 2 2 2";
+    expect("a swept volume", read_text(std::vector<uint8_t>(swept, swept + sizeof swept - 1), given, ideals), KORALIMBU_ACCEPTED);
+    expect("an ideal along a path", given[1] == 1 && ideals[1] == 5, true);
+    expect("a curve twice in a path", read_text(std::vector<uint8_t>(twice, twice + sizeof twice - 1), given, ideals), KORALIMBU_REFUSED_VOLUME);
 }
 
 int main() {
