@@ -30,24 +30,25 @@ CHAIN = "0 0 2 %d 1000 %d -1\n"
 # Document 01's deck cases under the program's limit of 10,000 steps. A case that gives
 # no bounds has wide ones here.
 DECK_CASES = [
-    ("1\n-100 100 0\n1\n0 1 1 1 2\n", "NONE\n"),
-    ("1\n1 9 0\n1\n0 2 1 1 2\n", "FITTED 0 0\n1 1 0\n"),
-    ("2\n-100 100 0\n-100 100 0\n2\n0 1 2 1 1 2 1\n0 0 2 1 1 2 -1\n", "NONE\n"),
-    ("1\n-100 100 0\n2\n0 1 1 1 1\n0 2 1 1 1\n", "NONE\n"),
-    ("1\n3 5 0\n0\n", "FITTED 0 0\n1 3 1\n"),
-    ("1\n1 1000000 400\n0\n", "FITTED 0 0\n1 1 1\n"),
-    ("1\n1 1000000 1414\n0\n", "FITTED 0 0\n1 1 1\n"),
-    ("1\n1 1000000 1415\n0\n", "FITTED 0 0\n1 2 1\n"),
-    ("1\n1 1000000 2449\n0\n", "FITTED 0 0\n1 2 1\n"),
-    ("1\n1 1000000 2450\n0\n", "FITTED 0 0\n1 3 1\n"),
-    ("2\n1 100 2500\n1 100 4000\n1\n0 0 2 1 3 2 -2\n", "FITTED 0 1\n1 2 2\n2 3 3\n"),
-    ("2\n1 1 0\n1 10 0\n1\n0 0 2 1 1 2 -2\n", "OUTSIDE 0 0\n1 2 2\n2 1 1\n"),
-    ("2\n1 10 0\n5 10 0\n1\n0 0 2 1 1 2 -1\n", "FITTED 4 0\n1 5 1\n2 5 1\n"),
-    ("4\n" + "0 10 0\n" * 4 + "3\n" + "".join(CHAIN % (k, k + 1) for k in (1, 2, 3)),
+    ("1\n-100 100 0\n1\n0 1 1 1 2\n0\n", "NONE\n"),
+    ("1\n1 9 0\n1\n0 2 1 1 2\n0\n", "FITTED 0 0\n1 1 0\n"),
+    ("2\n-100 100 0\n-100 100 0\n2\n0 1 2 1 1 2 1\n0 0 2 1 1 2 -1\n0\n", "NONE\n"),
+    ("1\n-100 100 0\n2\n0 1 1 1 1\n0 2 1 1 1\n0\n", "NONE\n"),
+    ("1\n3 5 0\n0\n0\n", "FITTED 0 0\n1 3 1\n"),
+    ("1\n1 1000000 400\n0\n0\n", "FITTED 0 0\n1 1 1\n"),
+    ("1\n1 1000000 1414\n0\n0\n", "FITTED 0 0\n1 1 1\n"),
+    ("1\n1 1000000 1415\n0\n0\n", "FITTED 0 0\n1 2 1\n"),
+    ("1\n1 1000000 2449\n0\n0\n", "FITTED 0 0\n1 2 1\n"),
+    ("1\n1 1000000 2450\n0\n0\n", "FITTED 0 0\n1 3 1\n"),
+    ("2\n1 100 2500\n1 100 4000\n1\n0 0 2 1 3 2 -2\n0\n", "FITTED 0 1\n1 2 2\n2 3 3\n"),
+    ("2\n1 1 0\n1 10 0\n1\n0 0 2 1 1 2 -2\n0\n", "OUTSIDE 0 0\n1 2 2\n2 1 1\n"),
+    ("2\n1 10 0\n5 10 0\n1\n0 0 2 1 1 2 -1\n0\n", "FITTED 4 0\n1 5 1\n2 5 1\n"),
+    ("4\n" + "0 10 0\n" * 4 + "3\n" + "".join(CHAIN % (k, k + 1) for k in (1, 2, 3)) + "0\n",
      "FITTED 0 0\n1 0 1\n2 0 1000\n3 0 1000000\n4 0 1000000000\n"),
-    ("5\n" + "0 10 0\n" * 5 + "4\n" + "".join(CHAIN % (k, k + 1) for k in (1, 2, 3, 4)),
+    ("5\n" + "0 10 0\n" * 5 + "4\n" + "".join(CHAIN % (k, k + 1) for k in (1, 2, 3, 4)) + "0\n",
      "REFUSED 7\n"),
-    ("3\n1 1000000 1000000000\n1 1000000 0\n1 1000000 0\n2\n" + CHAIN % (1, 2) + CHAIN % (2, 3),
+    ("3\n1 1000000 1000000000\n1 1000000 0\n1 1000000 0\n2\n" + CHAIN % (1, 2) + CHAIN % (2, 3)
+     + "0\n",
      "REFUSED 9\n"),
 ]
 
@@ -56,29 +57,29 @@ DECK_CASES = [
 BESIDE = "1 0 3 1 1 2 1 3 1\n"
 NEIGHBOUR_CASES = [
     # “the mean, rounded down”: 4 and 7 have 5
-    ("3\n1 100 0\n1 100 4000\n1 100 7000\n1\n" + BESIDE,
+    ("3\n1 100 0\n1 100 4000\n1 100 7000\n1\n" + BESIDE + "0\n",
      "FITTED 0 0\n1 5 1\n2 4 1\n3 7 1\n4 16 1\n"),
     # “each counted once”: 4, in two rows, and 10 have 7
-    ("3\n1 100 0\n1 100 4000\n1 100 10000\n2\n" + BESIDE + "1 0 2 1 1 2 1\n",
+    ("3\n1 100 0\n1 100 4000\n1 100 10000\n2\n" + BESIDE + "1 0 2 1 1 2 1\n0\n",
      "FITTED 0 0\n1 7 1\n2 4 1\n3 10 1\n4 21 1\n5 11 1\n"),
     # an ideal is in its bounds: 5, for a goal of 9, and 7 have 6
-    ("3\n1 100 0\n1 5 9000\n1 100 7000\n1\n" + BESIDE,
+    ("3\n1 100 0\n1 5 9000\n1 100 7000\n1\n" + BESIDE + "0\n",
      "FITTED 0 0\n1 6 1\n2 5 1\n3 7 1\n4 18 1\n"),
     # “brought into the bounds”: 5 is above 1..3, and below 20..30
-    ("3\n1 3 0\n1 100 4000\n1 100 7000\n1\n" + BESIDE,
+    ("3\n1 3 0\n1 100 4000\n1 100 7000\n1\n" + BESIDE + "0\n",
      "FITTED 0 0\n1 3 1\n2 4 1\n3 7 1\n4 14 1\n"),
-    ("3\n20 30 0\n1 100 4000\n1 100 7000\n1\n" + BESIDE,
+    ("3\n20 30 0\n1 100 4000\n1 100 7000\n1\n" + BESIDE + "0\n",
      "FITTED 0 0\n1 20 1\n2 4 1\n3 7 1\n4 31 1\n"),
     # “intervals with a goal”: the second plain curve does not count for the first
-    ("3\n1 100 0\n50 100 0\n1 100 7000\n1\n" + BESIDE,
+    ("3\n1 100 0\n50 100 0\n1 100 7000\n1\n" + BESIDE + "0\n",
      "FITTED 0 0\n1 7 1\n2 50 1\n3 7 1\n4 64 1\n"),
     # “in some row with it”: the third curve is in no row with the first
-    ("3\n1 100 0\n1 100 4000\n1 100 9000\n2\n1 0 2 1 1 2 1\n1 0 2 2 1 3 1\n",
+    ("3\n1 100 0\n1 100 4000\n1 100 9000\n2\n1 0 2 1 1 2 1\n1 0 2 2 1 3 1\n0\n",
      "FITTED 0 0\n1 4 1\n2 4 1\n3 9 1\n4 8 1\n5 13 1\n"),
     # “unset if there are none”: plain curves alone stay where the rows put them
-    ("3\n-9 9 0\n-9 9 0\n1 100 7000\n1\n0 13 2 1 1 2 -5\n",
+    ("3\n-9 9 0\n-9 9 0\n1 100 7000\n1\n0 13 2 1 1 2 -5\n0\n",
      "FITTED 0 0\n1 3 5\n2 -2 1\n3 7 1\n"),
-    ("2\n3 9 0\n1 100 7000\n0\n", "FITTED 0 0\n1 3 1\n2 7 1\n"),
+    ("2\n3 9 0\n1 100 7000\n0\n0\n", "FITTED 0 0\n1 3 1\n2 7 1\n"),
 ]
 
 

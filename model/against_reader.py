@@ -104,7 +104,8 @@ def full_deck(plain):
                  + without * (plain // 2))
     terms = b"".join(b" %d -1000" % index for index in range(1, MAX_COLUMNS + 1))
     return (b"%d\n" % MAX_COLUMNS + intervals
-            + b"%d\n" % MAX_ROWS + (b"0 -1000000 %d" % MAX_COLUMNS + terms + b"\n") * MAX_ROWS)
+            + b"%d\n" % MAX_ROWS + (b"0 -1000000 %d" % MAX_COLUMNS + terms + b"\n") * MAX_ROWS
+            + b"0\n")
 
 
 def full_texts():

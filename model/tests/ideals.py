@@ -35,7 +35,7 @@ def row(*indices, kind=0, coefficient=1):
 
 
 def text_of(intervals, rows):
-    lines = [(len(intervals),)] + intervals + [(len(rows),)] + rows
+    lines = [(len(intervals),)] + intervals + [(len(rows),)] + rows + [(0,)]
     return "\n".join(" ".join(map(str, line)) for line in lines).encode()
 
 

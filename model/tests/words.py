@@ -145,7 +145,7 @@ def words_lists_within():
             (text.AT_LEAST, 3, [[1, 2, 0], [2, 1, 0], [2, 2, 1]]),
             (text.AT_MOST, 3, [[1, 1, 1], [1, 2, 0], [2, 1, 0]]),
             (text.EVEN, 2, [[2, 2, 2]])):
-        data = b"2 1 2 0 1 2 0 1 %d %d 2 1 1 2 1" % (kind, number)
+        data = b"2 1 2 0 1 2 0 1 %d %d 2 1 1 2 1 0" % (kind, number)
         problem = listing.problem_of(text.read(data))
         check("lists within, kind %d" % kind, lists_within(problem, 2), wanted)
 
@@ -156,7 +156,7 @@ EQUATION = b"0 3 1 1 2 1 3 -1 "
 
 def curves_of(rows):
     """The curves' lines of a listing: their intervals and strides."""
-    return listing.listing(CURVES + rows).splitlines()[1:4]
+    return listing.listing(CURVES + rows + b"0").splitlines()[1:4]
 
 
 @test
@@ -178,8 +178,8 @@ def texts_said_otherwise():
     reader's ideals go by the rows of the text, so that other rows, which the same lists
     satisfy, may set others: a sum of both rows brings curve 3 beside curve 1."""
     curves = b"4 1 100 0 1 100 0 1 100 7000 -50 50 0 2 0 0 2 2 1 3 -1 0 0 3 1 1 "
-    first = listing.problem_of(text.read(curves + b"2 -1 4 -1"))
-    second = listing.problem_of(text.read(curves + b"3 -1 4 -1"))
+    first = listing.problem_of(text.read(curves + b"2 -1 4 -1 0"))
+    second = listing.problem_of(text.read(curves + b"3 -1 4 -1 0"))
     check("starting lists and bases", solved(second), solved(first))
     check("ideals", (set_ideals(first), set_ideals(second)),
           ([None, 7, None, None], [7, 7, None, 7]))
