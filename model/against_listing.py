@@ -3,9 +3,11 @@
     python3 model/against_listing.py [COUNT SEED]
 
 Builds the program, and runs it on document 01's deck cases, decks of plain curves
-beside others (document 02, (ii)), the sample decks, texts at and past the longest, and
-COUNT texts of generate.py: as laid out, damaged, truncated and binary. Each listing must be the expected one or the model's, and the
-program must end with status 0 and write nothing else. Then it is tried at its edges
+beside others (document 02, (ii)) and of swept volumes (document 02, (iii)), the sample
+decks, texts at and past the longest, and COUNT texts of generate.py: as laid out, damaged,
+truncated and binary. Each listing must be the expected one or the model's, and the
+program must end with status 0 and write nothing else. How many texts show what of volumes
+is printed; there must be some of each kind. Then the program is tried at its edges
 (edges.py): standard files that cannot be read or written, a terminal, an argument,
 texts that come in pieces. The last line is 'N passed, M failed'.
 """
@@ -17,7 +19,7 @@ import sys
 
 import edges
 import needs
-from generate import rng_for, text_case
+from generate import rng_for, text_case, volumes_met
 from listing import listing
 from needs import ROOT
 from text import MAX_TEXT
@@ -83,12 +85,54 @@ NEIGHBOUR_CASES = [
 ]
 
 
+# Document 02, (iii), by hand. Three curves, and a text of one curve and its y.
+THREE = "3\n1 100 4000\n1 100 3000\n1 100 7000\n0\n"
+ONE = "1\n1 9 0\n1\n1 0 1 1 1\n"
+VOLUME_CASES = [
+    # “Path 1 less path k equals 0”: 4 and 6 wanted, 5 and 5 had
+    ("2\n1 100 4000\n1 100 6000\n0\n1\n2\n1 1\n1 2\n", "FITTED 0 1\n1 5 1\n2 5 1\n"),
+    # “their indices in any order”: 4 and 3 have 7 together
+    (THREE + "1\n2\n2 2 1\n1 3\n", "FITTED 0 0\n1 4 1\n2 3 1\n3 7 1\n"),
+    # “An interval on both paths cancels”: the second curve is free
+    ("3\n1 100 4000\n1 100 2000\n1 100 4000\n0\n1\n2\n2 1 2\n2 2 3\n",
+     "FITTED 0 0\n1 4 1\n2 2 1\n3 4 1\n"),
+    # “for each later path”: two equal paths have an empty row, one path has none
+    (THREE + "2\n2\n3 1 2 3\n3 3 1 2\n1\n2 3 2\n", "FITTED 0 0\n1 4 1\n2 3 1\n3 7 1\n"),
+    # “after all rows so far”: a row has curve 1 at 2, a volume curve 2 too, another curve 3
+    ("3\n1 9 0\n1 9 0\n1 9 0\n1\n0 2 1 1 1\n2\n2\n1 1\n1 2\n2\n1 3\n1 2\n",
+     "FITTED 0 0\n1 2 0\n2 2 0\n3 2 0\n"),
+    # a y before it: the paths name intervals 1 and 2, and column 3 is the y
+    ("2\n1 9 3000\n1 9 0\n1\n1 0 1 1 1\n1\n2\n1 2\n1 1\n",
+     "FITTED 0 0\n1 3 1\n2 3 1\n3 3 1\n"),
+    # rows and paths without a list together
+    ("2\n1 9 0\n1 9 0\n2\n0 1 1 1 1\n0 2 1 2 1\n1\n2\n1 1\n1 2\n", "NONE\n"),
+    # “in some row with it”: the plain curve starts from 6, by the row of a path
+    ("2\n1 100 0\n1 100 6000\n0\n1\n2\n1 1\n1 2\n", "FITTED 0 0\n1 6 1\n2 6 1\n"),
+    # 49 paths make 48 rows; “a count of paths that makes a 49th row is 1”
+    ("2\n1 9 3000\n1 9 3000\n0\n1\n49\n" + "1 1\n" + "1 2\n1 1\n" * 24,
+     "FITTED 0 0\n1 3 1\n2 3 1\n"),
+    ("2\n1 9 3000\n1 9 3000\n0\n1\n50\n" + "1 1\n1 2\n" * 25, "REFUSED 1\n"),
+    (ONE + "2\n48\n" + "1 1\n" * 48 + "2\n1 1\n1 1\n", "REFUSED 1\n"),
+    # 13: a count of volumes, of paths, of intervals, an index of a y, an index twice
+    (ONE + "-1\n", "REFUSED 13\n"),
+    (ONE + "1\n0\n", "REFUSED 13\n"),
+    (ONE + "1\n1\n0\n", "REFUSED 13\n"),
+    (ONE + "1\n2\n1 1\n1 2\n", "REFUSED 13\n"),
+    (THREE + "1\n1\n3 2 1 2\n", "REFUSED 13\n"),
+    # too large a count: an index comes twice, or the text ends
+    (ONE + "1\n1\n9999999999 1 1\n", "REFUSED 13\n"),
+    (ONE + "9999999999\n1\n1 1\n", "REFUSED 11\n"),
+    # “Older texts gain a closing 0.”
+    ("1\n3 5 0\n0\n", "REFUSED 11\n"),
+]
+
+
 def by_hand():
     """What a case is, its deck, and its listing, by document 01 and by document 02."""
-    for number, (deck, wanted) in enumerate(DECK_CASES, 1):
-        yield "deck case %d" % number, deck.encode(), wanted.encode()
-    for number, (deck, wanted) in enumerate(NEIGHBOUR_CASES, 1):
-        yield "neighbour case %d" % number, deck.encode(), wanted.encode()
+    for what, some in (("deck", DECK_CASES), ("neighbour", NEIGHBOUR_CASES),
+                       ("volume", VOLUME_CASES)):
+        for number, (deck, wanted) in enumerate(some, 1):
+            yield "%s case %d" % (what, number), deck.encode(), wanted.encode()
 
 
 def samples():
@@ -137,6 +181,11 @@ def main(arguments):
         sys.exit("rt check listing failed")
     needs.built(PROGRAM, "rt check listing")
     passed = failed = 0
+    met = volumes_met(data for _, data, _ in cases(count, seed))
+    print("texts: " + ", ".join("%s %d" % pair for pair in met.items()))
+    for kind in (kind for kind in met if met[kind] == 0):
+        failed += 1
+        print("no text shows of volumes: " + kind)
     for what, got, wanted in listed(count, seed):
         if got == wanted:
             passed += 1

@@ -30,7 +30,7 @@ is beyond 64 signed bits, so a caller with unsigned counts can take every case.
 To import: problems(count, seed) yields Case objects, texts(count, seed) yields
 bytes; problem_case(rng) and text_case(rng) make one. preview_case(rng) makes the
 problem, the standing list and the lent buffers of a preview. volume_kinds(data) tells
-what a text shows of volumes.
+what a text shows of volumes, and volumes_met(texts) counts that.
 """
 
 import copy
@@ -800,10 +800,10 @@ def hold_deck(rng):
         posts += paths
         rng.shuffle(paths)
         sketch.volume(paths)
-    if rng.random() < 0.5:
+    if rng.random() < 0.6:
         # a row of the text over a post, beside those of the volumes
         across = sketch.curve(random_goal(rng))
-        loose_row(rng, sketch, [0, 1, 3], [(i, 1) for i in posts[0]] + [(across, -1)])
+        loose_row(rng, sketch, [0, 1, 2, 3], [(i, 1) for i in posts[0]] + [(across, -1)])
     return sketch
 
 
@@ -955,7 +955,7 @@ def place(rng, lines):
 
 def damage_tokens(rng, lines, sections):
     """Changes the numbers of a text, whose sections have the same lines."""
-    if rng.random() < (0.45 if len(sections[2]) > 1 else 0.15):
+    if rng.random() < (0.6 if len(sections[2]) > 1 else 0.15):
         damage_volumes(rng, sections)
         return
     i, j = place(rng, lines)
@@ -1004,7 +1004,7 @@ def damage_volumes(rng, sections):
     # a line of one number is a count of paths, for a path has at least its count and an index
     counts = [line for line in volumes[1:] if len(line) == 1]
     paths = [line for line in volumes[1:] if len(line) > 1]
-    what = rng.randrange(9)
+    what = rng.randrange(12)
     if not volumes:
         return
     if what == 0:
@@ -1017,7 +1017,7 @@ def damage_volumes(rng, sections):
     elif what == 3:
         line = rng.choice(volumes)
         line[rng.randrange(len(line))] = rng.choice(BAD_RUNS)
-    elif what in (4, 5) and counts:
+    elif what in (4, 5, 6) and counts:
         rows = len(sections[1]) - 1
         rng.choice(counts)[0] = rng.choice(
             [b"0", b"0", b"-1", b"-9999999999", b"1", b"2", b"%d" % (MAX_ROWS + 1 - rows),
@@ -1039,9 +1039,10 @@ def damage_path(rng, path, sections):
         path.insert(rng.randint(1, len(path)), rng.choice(path[1:]))
         path[0] = b"%d" % (len(path) - 1)
     else:
+        # the column of a y, where there is one
+        y = b"%d" % (intervals + rng.randint(1, max(slacks, 1)))
         path[rng.randrange(1, len(path))] = rng.choice(
-            [b"0", b"-1", b"%d" % (intervals + 1), b"%d" % (intervals + max(slacks, 1)), b"49",
-             b"9999999999", path[1], path[-1]])
+            [b"0", b"-1", y, y, y, y, b"49", b"9999999999", path[1], path[-1]])
 
 
 def damage_bytes(rng, data):
@@ -1176,6 +1177,15 @@ def volume_kinds(data):
         return [] if start is None else [
             kind_refused(numbers.runs[start:numbers.taken], intervals, refused.number)]
     return kinds_read(columns, intervals, rows, volumes)
+
+
+def volumes_met(texts):
+    """How many of the texts show each of VOLUME_KINDS."""
+    met = dict.fromkeys(VOLUME_KINDS, 0)
+    for data in texts:
+        for kind in volume_kinds(data):
+            met[kind] += 1
+    return met
 
 
 # -------------------------------------------------------------------- command line
