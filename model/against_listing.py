@@ -121,6 +121,7 @@ VOLUME_CASES = [
     (THREE + "1\n1\n3 2 1 2\n", "REFUSED 13\n"),
     # too large a count: an index comes twice, or the text ends
     (ONE + "1\n1\n9999999999 1 1\n", "REFUSED 13\n"),
+    (ONE + "1\n1\n2 1\n", "REFUSED 11\n"),
     (ONE + "9999999999\n1\n1 1\n", "REFUSED 11\n"),
     # “Older texts gain a closing 0.”
     ("1\n3 5 0\n0\n", "REFUSED 11\n"),

@@ -195,19 +195,25 @@ def sums_agree(volumes, values):
                for paths in volumes)
 
 
+def satisfying(rng, problem, count):
+    """Random lists that satisfy a problem's rows; none past the elimination limit."""
+    try:
+        found = solved(problem)
+    except engine.Beyond:
+        found = "none"
+    for _ in range(0 if found == "none" else count):
+        values, basis = found
+        for vector in basis:
+            times = rng.choice([0, 1, -1, rng.randint(-9, 9)])
+            values = [v + times * a for v, a in zip(values, vector)]
+        yield values
+
+
 def lists_for(rng, problems, n):
-    """Lists that satisfy the rows of some of these problems, some of them spoilt, and any."""
+    """Lists that satisfy the rows of one of these problems, the same spoilt, and any."""
     found = [[rng.randint(-9, 9) for _ in range(n)], [0] * n]
     for problem in problems:
-        try:
-            start, basis = solved(problem)
-        except (engine.Beyond, ValueError):
-            continue
-        for _ in range(4):
-            values = start
-            for vector in basis:
-                times = rng.choice([0, 1, -1, rng.randint(-9, 9)])
-                values = [v + times * a for v, a in zip(values, vector)]
+        for values in satisfying(rng, problem, 4):
             found.append(values)
             j = rng.randrange(n)
             found.append(values[:j] + [values[j] + rng.choice([-1, 1])] + values[j + 1:])
@@ -222,11 +228,12 @@ def property_volumes_satisfied():
     for rng, sketch in random_sketches(53, 400):
         old = listing.problem_of(deck_of(without_volumes(sketch)))
         enlarged = listing.problem_of(deck_of(sketch))
-        paths_alone = Sketch()
-        paths_alone.intervals, paths_alone.volumes = sketch.intervals, sketch.volumes
         tried = [old, enlarged]
-        if enlarged.n == len(sketch.intervals):
-            tried.append(listing.problem_of(deck_of(paths_alone)))
+        if old.n == len(sketch.intervals):
+            # without a y, lists of the paths alone are lists to try too
+            alone = Sketch()
+            alone.intervals, alone.volumes = sketch.intervals, sketch.volumes
+            tried.append(listing.problem_of(deck_of(alone)))
         for values in lists_for(rng, tried, old.n):
             kind = (engine.satisfies_rows(old, values), sums_agree(sketch.volumes, values))
             met[kind] = met.get(kind, 0) + bool(sketch.volumes)
