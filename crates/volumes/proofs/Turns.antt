@@ -1,23 +1,26 @@
 -- Laws of the section of volumes, one for each way through the code: what was read, or at which number it was refused.
 --   index-read, -twice, -no             an index; indices-more, -stop, -end, so many of them
 --   path-read, -no                      a path; paths-more, -stop, -end, so many of them
---   count-room, -full, -no                a count of paths
+--   count-room, -full, -no, -in           a count of paths
 --   volume-read, -no                    a volume; volumes-more, -stop, -end, so many of them
 --   section-read, -no                   the section, with its count
 -- Assumes nothing.
-use mathlib.Core.Path.{_≡_, refl}
-use mathlib.Core.Bool.{true, false}
+use mathlib.Core.Path.{_≡_, refl, subst}
+use mathlib.Core.Bool.{Bool, true, false, cond}
 use mathlib.Core.List.{List, [], _∷_, _++_}
 use Prim.Native.Nat.{ℕ, zero, suc, _+_, _-_, _≤_, _<_}
 use native.Mathlib.Omega.{arith}
-use borrow.Author.Tests.{lt-ltb, le-ltb}
+use borrow.Author.Tests.{ltb-false, lt-ltb, le-ltb}
+use lib.Dec.{ltb}
 use lib.IntN.{ℤ, pos, natAbs}
 use lib.ListN.{length}
 use Rattle.problem.specs.declared.Refusal.{Refusal}
 use Rattle.problem.specs.declared.Refusal.the-variants.{Size, Volume as WrongVolume}
-use Rattle.sections.specs.Rules.{ok, no, within, least}
+use Rattle.sections.specs.Rules.{Outcome, ok, no, then, within, least}
 use Rattle.sections.specs.Sections.{deckRows}
-use Rattle.volumes.specs.Volumes.{SweepPath, Volume, isOn, index, indices, path, paths, laterPaths, pathCount, volume, volumes, volumeSection}
+use Rattle.sections.proofs.Numbers.{same-ok, ok-not-no, least-in}
+use Rattle.volumes.specs.Volumes.{SweepPath, Volume, isOn, index, indices, path, paths, laterPaths}
+use Rattle.volumes.specs.Volumes.{withRows, pathCount, volume, volumes, volumeSection}
 
 -- ---- a path
 module _ (s : List ℕ) (count : ℕ) (done : SweepPath) (at e : ℕ) where
@@ -78,6 +81,21 @@ module _ (s : List ℕ) (rows at e : ℕ) where
 
   pub count-no : (why : Refusal) → least s (pos 1) WrongVolume at ≡ no why → pathCount s rows at ≡ no why
   count-no why p = rw p
+
+-- a count of paths that was read is no less than 1, and its rows have room
+pub count-in : (s : List ℕ) (rows at k e : ℕ) → pathCount s rows at ≡ ok k e → (1 ≤ k) × (rows + laterPaths k ≤ deckRows)
+count-in s rows at k e h = go (least s (pos 1) WrongVolume at) refl h
+  where
+    by : (j : ℕ) (p : ℕ) (t : Bool) → 1 ≤ j → ltb deckRows (rows + laterPaths j) ≡ t → cond t (no Size) (ok j p) ≡ ok k e
+        → (1 ≤ k) × (rows + laterPaths k ≤ deckRows)
+    by j p true l f g = absurd (ok-not-no g)
+    by j p false l f g =
+        subst (λ (i : ℕ). (1 ≤ i) × (rows + laterPaths i ≤ deckRows)) (same-ok g) (l, ltb-false deckRows (rows + laterPaths j) f)
+
+    go : (o : Outcome ℤ) → least s (pos 1) WrongVolume at ≡ o → then o (λ v p. withRows rows (natAbs v) p) ≡ ok k e
+        → (1 ≤ k) × (rows + laterPaths k ≤ deckRows)
+    go (ok v p) f g = by (natAbs v) p (ltb deckRows (rows + laterPaths (natAbs v))) (least-in s 1 WrongVolume v at p f) refl g
+    go (no why) f g = absurd (ok-not-no g)
 
 module _ (s : List ℕ) (count rows at e : ℕ) where
   pub volume-read : (k : ℕ) → pathCount s rows at ≡ ok k e → volume s count rows at ≡ paths s k count [] e

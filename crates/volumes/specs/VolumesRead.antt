@@ -89,6 +89,7 @@ pub record PathsStored (o : Volume → Outcome Volume) (c d : Cursor) (f t₀ t 
   pub intervals : d .intervals ≡ c .intervals
   pub columns : d .columns ≡ c .columns
   pub rows : d .rows ≡ c .rows + length later
+  pub few : d .rows ≤ deckRows
   pub table-is : t ≡ overwritten t₀ (c .rows * deckColumns) (flat (map (laterRow f) later))
 
 abbrev pub PathsRead : (Volume → Outcome Volume) → Cursor → Section → (f t₀ t : List ℤ) → Type 0

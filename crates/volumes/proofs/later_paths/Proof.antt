@@ -151,6 +151,7 @@ returns-2 c =
       intervals = l .inv .intervals;
       columns = l .inv .columns;
       rows = l .inv .many;
+      few = omega (arith, l .inv .small, c .before .before .before .before .pre .0 .2);
       table-is = l .inv .table-is;
     }
 
