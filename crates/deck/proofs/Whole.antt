@@ -1,8 +1,9 @@
 -- A whole text: what its sections left in the tables is the deck that they state, and what the call then leaves.
 --   IntervalsFound, intervals-found, -refused   what the section of intervals answered; few-intervals, which are not too many
 --   RowsFound, rows-found, -refused             what the section of rows answered
+--   VolumesFound, volumes-found, -refused       what the section of volumes answered
 --   left-some, left-none                        what is left of the text
---   deck-intervals, deck-rows, left-over        a deck whose sections are refused, or that something is left behind
+--   deck-intervals, -rows, -volumes, left-over  a deck whose sections are refused, or that something is left behind
 --   deck-within                                 the intervals of a deck that is read lie within the limits
 --   stored                                      a deck that is read, in the tables
 --   read-short, -long, -is, -not                the call by what it meets
@@ -42,7 +43,7 @@ use Rattle.sections.specs.declared.Interval.{Interval}
 use Rattle.sections.specs.declared.Cursor.{Cursor}
 use Rattle.sections.specs.declared.Section.{Section}
 use Rattle.sections.specs.declared.Section.the-variants as section
-use Rattle.deck.specs.Posing.{Deck, deck, readDeck, columnsOf, countOf, coefficientsOf, lowers, uppers, goals, stated, posed}
+use Rattle.deck.specs.Posing.{Deck, deck, readDeck, columnsOf, linesOf, countOf, coefficientsOf, lowers, uppers, goals, stated, posed}
 use Rattle.deck.specs.Reader.{DeckBuffers, deckBuffers, readDone, lengthsFit, turnedBack, accepted, read}
 use Rattle.deck.specs.ReaderTables.{noneLeft, DeckStored, compacted, picked}
 use Rattle.deck.specs.declared.Reading.the-variants.{Read}
@@ -122,6 +123,32 @@ module _ (n : ℕ) (k₀ : List ℤ) (k b t : List ℤ) where
   rows-refused (ok ls e) why h = never (ap (λ (x : RowsDone). isRead (x .section)) h)
   rows-refused (no w) why h = ap no (sym (ap (λ (x : RowsDone). reason (x .section)) h))
 
+pub record VolumesFound (c : Cursor) (t₀ : List ℤ) (o : Outcome (List Volume)) (d : Cursor) (t : List ℤ) : Type 0 where
+  pub vs : List Volume
+  pub read : o ≡ ok vs (d .at)
+  pub intervals : d .intervals ≡ c .intervals
+  pub columns : d .columns ≡ c .columns
+  pub rows : d .rows ≡ c .rows + length (sweptLines vs)
+  pub table-is : t ≡ overwritten t₀ (c .rows * deckColumns) (coefficientRows deckColumns (c .columns) (sweptLines vs))
+
+module _ (c : Cursor) (t₀ t : List ℤ) where
+  pub volumes-found : (o : Outcome (List Volume)) (d : Cursor) → volumesDone (section.Read d) t ≡ volumesLeft c t₀ o → VolumesFound c t₀ o d t
+  volumes-found (ok vs e) d h =
+      let f : d ≡ cursor e (c .intervals) (c .columns) (c .rows + length (sweptLines vs)) = ap (λ (x : VolumesDone). cursorOf (x .section)) h in
+      record {
+        vs = vs;
+        read = ap (λ (x : Cursor). ok vs (x .at)) (sym f);
+        intervals = ap (λ (x : Cursor). x .intervals) f;
+        columns = ap (λ (x : Cursor). x .columns) f;
+        rows = ap (λ (x : Cursor). x .rows) f;
+        table-is = ap (λ (x : VolumesDone). x .table) h;
+      }
+  volumes-found (no why) d h = never (sym (ap (λ (x : VolumesDone). isRead (x .section)) h))
+
+  pub volumes-refused : (o : Outcome (List Volume)) (why : Refusal) → volumesDone (section.Refused why) t ≡ volumesLeft c t₀ o → o ≡ no why
+  volumes-refused (ok vs e) why h = never (ap (λ (x : VolumesDone). isRead (x .section)) h)
+  volumes-refused (no w) why h = ap no (sym (ap (λ (x : VolumesDone). reason (x .section)) h))
+
 -- ---- what is left of the text
 module _ (s : List ℕ) (at : ℕ) where
   pub left-some : (t : Token) (e : ℕ) → nextAt s at ≡ Found t e → false ≡ noneLeft (nextAt s at)
@@ -140,8 +167,11 @@ closed-not a at (Found t e) h = refl
 
 -- ---- a deck is its sections, one after the other
 module _ (s : List ℕ) where
+  abbrev afterVolumes : List Interval → List Line → Outcome (List Volume) → Outcome Deck
+  afterVolumes is ls o = then o (λ vs at. closed s (record { intervals = is; lines = ls; volumes = vs }) at)
+
   abbrev afterRows : List Interval → Outcome (List Line) → Outcome Deck
-  afterRows is o = then o (λ ls at. closed s (record { intervals = is; lines = ls }) at)
+  afterRows is o = then o (λ ls at. afterVolumes is ls (volumeSection s (length is) (length ls) at))
 
   abbrev afterIntervals : Outcome (List Interval) → Outcome Deck
   afterIntervals o = then o (λ is at. afterRows is (rowSection s (length is) at))
@@ -157,13 +187,17 @@ module _ (s : List ℕ) where
   deck-within : (d : Deck) (e : ℕ) → deck s ≡ ok d e → Within (d .intervals)
   deck-within d e h = first (intervalSection s 0) refl h
     where
-      last : (is : List Interval) (ls : List Line) (at : ℕ) (n : Next) → Within is → onEnd (record { intervals = is; lines = ls }) at n ≡ ok d e
-          → Within (d .intervals)
-      last is ls at (Found t p) w f = absurd (ok-not-no f)
-      last is ls at End w f = subst (λ (x : Deck). Within (x .intervals)) (same-ok f) w
+      last : (is : List Interval) (ls : List Line) (vs : List Volume) (at : ℕ) (n : Next) → Within is
+          → onEnd (record { intervals = is; lines = ls; volumes = vs }) at n ≡ ok d e → Within (d .intervals)
+      last is ls vs at (Found t p) w f = absurd (ok-not-no f)
+      last is ls vs at End w f = subst (λ (x : Deck). Within (x .intervals)) (same-ok f) w
+
+      swept : (is : List Interval) (ls : List Line) (o : Outcome (List Volume)) → Within is → afterVolumes is ls o ≡ ok d e → Within (d .intervals)
+      swept is ls (ok vs at) w f = last is ls vs at (nextAt s at) w f
+      swept is ls (no why) w f = absurd (ok-not-no f)
 
       behind : (is : List Interval) (o : Outcome (List Line)) → Within is → afterRows is o ≡ ok d e → Within (d .intervals)
-      behind is (ok ls at) w f = last is ls at (nextAt s at) w f
+      behind is (ok ls at) w f = swept is ls (volumeSection s (length is) (length ls) at) w f
       behind is (no why) w f = absurd (ok-not-no f)
 
       first : (o : Outcome (List Interval)) → intervalSection s 0 ≡ o → afterIntervals o ≡ ok d e → Within (d .intervals)
@@ -171,7 +205,7 @@ module _ (s : List ℕ) where
       first (no why) g f = absurd (ok-not-no f)
 
   deck-read : (is : List Interval) (ls : List Line) (p q : ℕ) → intervalSection s 0 ≡ ok is p → rowSection s (length is) p ≡ ok ls q
-      → deck s ≡ closed s (record { intervals = is; lines = ls }) q
+      → deck s ≡ afterVolumes is ls (volumeSection s (length is) (length ls) q)
   deck-read is ls p q e f = ap afterIntervals e ∙ ap (afterRows is) f
 
 -- what lies in a buffer fits into it
@@ -189,42 +223,89 @@ pub few-intervals : {o : Outcome (List Interval)} {p : Cursor} {k : List ℤ} �
     → p .intervals ≤ deckColumns
 few-intervals i h = omega (arith, i .intervals, length-cells (i .is), fits-padded columnCells _ (cells (i .is)) (i .columns-is) h)
 
-module _ (s : List ℕ) (p c : Cursor) (k k' b t : List ℤ) (i : IntervalsFound (intervalSection s 0) p k)
-    (w : RowsFound (p .intervals) k (rowSection s (p .intervals) (p .at)) c k' b t) where
-  sections : deck s ≡ closed s (record { intervals = i .is; lines = w .ls }) (c .at)
+-- ---- the rows of volumes behind the others
+-- they add no column
+no-slacks : (ls : List Line) (vs : List Volume) → slackColumns (ls ++ sweptLines vs) ≡ slackColumns ls
+no-slacks ls vs =
+    slacks-two ls (sweptLines vs) ∙ ap (λ (y : List Interval). slackColumns ls ++ y) (swept-slacks vs) ∙ append-nil (slackColumns ls)
+
+-- their right sides are the 0 that is there
+zeros-two : (a b : ℕ) → zeros a ++ zeros b ≡ zeros (a + b)
+zeros-two zero b = let z : 0 + b ≡ b = omega arith in ap zeros (sym z)
+zeros-two (suc a) b = let z : suc a + b ≡ suc (a + b) = omega arith in ap (λ (l : List ℤ). pos 0 ∷ l) (zeros-two a b) ∙ ap zeros (sym z)
+
+padded-zeros : (size k : ℕ) (u : List ℤ) → length u + k ≤ size → padded size (u ++ zeros k) ≡ padded size u
+padded-zeros size k u h =
+    let l : length (u ++ zeros k) ≡ length u + k = length-append u (zeros k) ∙ ap (λ (j : ℕ). length u + j) (length-replicate k (pos 0)) in
+    let z : k + (size - length (u ++ zeros k)) ≡ size - length u = omega arith in
+    append-assoc u (zeros k) (zeros (size - length (u ++ zeros k)))
+    ∙ ap (λ (x : List ℤ). u ++ x) (zeros-two k (size - length (u ++ zeros k)) ∙ ap zeros z)
+
+same-rights : (ls : List Line) (vs : List Volume) → length ls + length (sweptLines vs) ≤ deckRows
+    → padded deckRows (map rightOf ls) ≡ padded deckRows (map rightOf (ls ++ sweptLines vs))
+same-rights ls vs h =
+    sym (ap (padded deckRows) (map-two rightOf ls (sweptLines vs) ∙ ap (λ (x : List ℤ). map rightOf ls ++ x) (swept-rights vs))
+    ∙ padded-zeros deckRows (length (sweptLines vs)) (map rightOf ls) (omega (arith, length-map ls rightOf)))
+
+module _ (s : List ℕ) (p q c : Cursor) (k k' b t t' : List ℤ) (i : IntervalsFound (intervalSection s 0) p k)
+    (w : RowsFound (p .intervals) k (rowSection s (p .intervals) (p .at)) q k' b t) where
+  sections : deck s ≡ afterVolumes s (i .is) (w .ls) (volumeSection s (q .intervals) (q .rows) (q .at))
   sections =
-      let r : rowSection s (length (i .is)) (p .at) ≡ ok (w .ls) (c .at) = rw (i .intervals) at (w .read) in
-      deck-read s (i .is) (w .ls) (p .at) (c .at) (i .read) r
+      let r : rowSection s (length (i .is)) (p .at) ≡ ok (w .ls) (q .at) = rw (i .intervals) at (w .read) in
+      deck-read s (i .is) (w .ls) (p .at) (q .at) (i .read) r
+      ∙ (λ x. afterVolumes s (i .is) (w .ls) (volumeSection s (sym (w .intervals ∙ i .intervals) x) (sym (w .rows) x) (q .at)))
 
-  pub left-over : noneLeft (nextAt s (c .at)) ≡ false → deck s ≡ no Layout
-  left-over h = sections ∙ closed-not (record { intervals = i .is; lines = w .ls }) (c .at) (nextAt s (c .at)) h
+  -- the rows so far are not too many
+  pub few-lines : length b ≡ deckRows → q .rows ≤ deckRows
+  few-lines hb = omega (arith, w .rows, fits-padded deckRows b (map rightOf (w .ls)) (w .rights-is) hb, length-map (w .ls) rightOf)
 
-  pub stored : length k ≡ columnCells → length k' ≡ columnCells → length b ≡ deckRows → noneLeft (nextAt s (c .at)) ≡ true
-      → DeckStored (deck s) c k' b t
-  stored hk hk' hb h =
-      let ys : List Interval = slackColumns (w .ls) in
-      let m : length (i .is) ≡ p .intervals = sym (i .intervals) in
-      let a = length-cells (i .is) in
-      let y = length-cells ys in
-      let few = fits-padded columnCells k (cells (i .is)) (i .columns-is) hk in
-      let f = fits-written k k' (cells ys) (p .intervals * columnWidth) (w .columns-is) (omega arith) (hk' ∙ sym hk) in
-      let l : length (cells (i .is)) ≡ p .intervals * columnWidth = a ∙ ap (λ (j : ℕ). j * columnWidth) m in
-      record {
-        deck = record { intervals = i .is; lines = w .ls };
-        read = sections ∙ closed-is (record { intervals = i .is; lines = w .ls }) (c .at) (nextAt s (c .at)) h;
-        columns = omega (arith, w .columns, length-append (i .is) ys);
-        rows = w .rows;
-        intervals = w .intervals ∙ i .intervals;
-        few = omega (arith, w .columns);
-        few-rows = omega (arith, w .rows, fits-padded deckRows b (map rightOf (w .ls)) (w .rights-is) hb, length-map (w .ls) rightOf);
-        columns-is =
-            w .columns-is ∙
-            (rw (i .columns-is)
-            (padded-written columnCells (p .intervals * columnWidth) (cells (i .is)) (cells ys) l (omega arith) ∙
-            ap (padded columnCells) (sym (cells-two (i .is) ys))));
-        rights-is = w .rights-is;
-        table-is = rw m (w .table-is);
-      }
+  pub deck-volumes : (why : Refusal) → volumeSection s (q .intervals) (q .rows) (q .at) ≡ no why → deck s ≡ no why
+  deck-volumes why h = sections ∙ ap (afterVolumes s (i .is) (w .ls)) h
+
+  module _ (v : VolumesFound q t (volumeSection s (q .intervals) (q .rows) (q .at)) c t') where
+    abbrev whole : Deck
+    whole = record { intervals = i .is; lines = w .ls; volumes = v .vs }
+
+    read-whole : deck s ≡ closed s whole (c .at)
+    read-whole = sections ∙ ap (afterVolumes s (i .is) (w .ls)) (v .read)
+
+    pub left-over : noneLeft (nextAt s (c .at)) ≡ false → deck s ≡ no Layout
+    left-over h = read-whole ∙ closed-not whole (c .at) (nextAt s (c .at)) h
+
+    pub stored : length k ≡ columnCells → length k' ≡ columnCells → length b ≡ deckRows → length t ≡ coefficientCount → length t' ≡ coefficientCount
+        → noneLeft (nextAt s (c .at)) ≡ true → DeckStored (deck s) c k' b t'
+    stored hk hk' hb ht ht' h =
+        let ys : List Interval = slackColumns (w .ls) in
+        let ms : List Line = sweptLines (v .vs) in
+        let m : length (i .is) ≡ p .intervals = sym (i .intervals) in
+        let a = length-cells (i .is) in
+        let y = length-cells ys in
+        let z = no-slacks (w .ls) (v .vs) in
+        let few = fits-padded columnCells k (cells (i .is)) (i .columns-is) hk in
+        let f = fits-written k k' (cells ys) (p .intervals * columnWidth) (w .columns-is) (omega arith) (hk' ∙ sym hk) in
+        let l : length (cells (i .is)) ≡ p .intervals * columnWidth = a ∙ ap (λ (j : ℕ). j * columnWidth) m in
+        let u : List ℤ = coefficientRows deckColumns (p .intervals) (w .ls) in
+        let x : List ℤ = coefficientRows deckColumns (q .columns) ms in
+        let lu : length u ≡ q .rows * deckColumns = length-rows deckColumns (p .intervals) (w .ls) ∙ ap (λ (j : ℕ). j * deckColumns) (sym (w .rows)) in
+        let lx = length-rows deckColumns (q .columns) ms in
+        let g = fits-written t t' x (q .rows * deckColumns) (v .table-is) (omega (arith, few-lines hb, ht)) (ht' ∙ sym ht) in
+        let rows = omega (arith, g, lx, ht) in
+        record {
+          deck = whole;
+          read = read-whole ∙ closed-is whole (c .at) (nextAt s (c .at)) h;
+          columns = v .columns ∙ ?;
+          rows = v .rows ∙ ?;
+          intervals = v .intervals ∙ w .intervals ∙ i .intervals;
+          few = omega (arith, w .columns, v .columns);
+          few-rows = ?;
+          columns-is =
+              w .columns-is ∙
+              (rw (i .columns-is)
+              (padded-written columnCells (p .intervals * columnWidth) (cells (i .is)) (cells ys) l (omega arith) ∙
+              ap (padded columnCells) (sym (cells-two (i .is) ys) ∙ ap (λ (y : List Interval). cells (i .is ++ y)) (sym z))));
+          rights-is = w .rights-is ∙ same-rights (w .ls) (v .vs) ?;
+          table-is = ?;
+        }
 
 -- ---- the call
 module _ (s : List ℕ) (B : DeckBuffers) where
@@ -294,7 +375,7 @@ table-is o o₁ o₂ t n m c ls a h k q e f x =
 -- lent lists that a deck's tables went out into
 pub record Holds (d : Deck) (c b l u g : List ℤ) : Type 0 where
   pub coefficients : c ≡ padded coefficientCount (coefficientsOf d)
-  pub rights : b ≡ padded deckRows (map rightOf (d .lines))
+  pub rights : b ≡ padded deckRows (map rightOf (linesOf d))
   pub lower : l ≡ padded deckColumns (lowers d)
   pub upper : u ≡ padded deckColumns (uppers d)
   pub goals : g ≡ padded deckColumns (goals d)
@@ -312,9 +393,9 @@ module _ (s : List ℕ) (c : Cursor) (k b t : List ℤ) (st : DeckStored (deck s
       let i : ℕ = length (d .intervals) in
       record {
         coefficients =
-            table-is (B .coefficients) o₁ c' t (c .columns) (c .rows) i (d .lines) (sizes B f .coefficients) (st .few) (st .few-rows) (st .rows) e₁ e₂
+            table-is (B .coefficients) o₁ c' t (c .columns) (c .rows) i (linesOf d) (sizes B f .coefficients) (st .few) (st .few-rows) (st .rows) e₁ e₂
             (st .table-is) ∙
-            ap (λ (j : ℕ). padded coefficientCount (coefficientRows j i (d .lines))) (st .columns);
+            ap (λ (j : ℕ). padded coefficientCount (coefficientRows j i (linesOf d))) (st .columns);
         rights = eb ∙ st .rights-is;
         lower = column-is 0 lowerOf (λ i r. refl) k l' (columnsOf d) few (st .columns-is) el;
         upper = column-is 1 upperOf (λ i r. refl) k u' (columnsOf d) few (st .columns-is) eu;
@@ -329,7 +410,7 @@ module _ (s : List ℕ) (c : Cursor) (k b t : List ℤ) (st : DeckStored (deck s
         record {
           few = st .few;
           few-rows = st .few-rows;
-          intervals = omega (arith, st .intervals, st .columns, length-append (d .intervals) (slackColumns (d .lines)));
+          intervals = omega (arith, st .intervals, st .columns, length-append (d .intervals) (slackColumns (linesOf d)));
           coefficients =
               omega (
                 arith,
@@ -351,7 +432,7 @@ module _ (s : List ℕ) (c : Cursor) (k b t : List ℤ) (st : DeckStored (deck s
     states =
         let d = st .deck in
         (λ i. statedBy (st .columns i) (st .rows i) (st .intervals i) (q .coefficients i) (q .lower i) (q .upper i) (q .goals i))
-        ∙ stated-padded (countOf d) (length (d .lines)) (length (d .intervals)) coefficientCount deckColumns (coefficientsOf d) (lowers d) (uppers d)
+        ∙ stated-padded (countOf d) (length (linesOf d)) (length (d .intervals)) coefficientCount deckColumns (coefficientsOf d) (lowers d) (uppers d)
         (goals d)
 
     pub accepting : (B : DeckBuffers) (a' x' : List ℤ) → lengthsFit B ≡ true → length s ≤ maxText
@@ -362,7 +443,7 @@ module _ (s : List ℕ) (c : Cursor) (k b t : List ℤ) (st : DeckStored (deck s
     accepting B a' x' f h ea ex =
         let d = st .deck in
         let z = sizes B f .given in
-        let front : length (d .intervals) ≤ countOf d = omega (arith, length-append (d .intervals) (slackColumns (d .lines))) in
+        let front : length (d .intervals) ≤ countOf d = omega (arith, length-append (d .intervals) (slackColumns (linesOf d))) in
         let pa = ea ∙ (λ i. givenOf (states i) (z i)) ∙ given-padded (stated d) (countOf d) front few in
         let px = ex ∙ (λ i. idealsOf (states i) (z i)) ∙ ideals-padded (stated d) (countOf d) front few in
         (λ i. readDone (Read (st .columns i) (st .rows i) (st .intervals i))

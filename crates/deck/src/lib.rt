@@ -10,6 +10,7 @@ use sections::Sizes;
 use sections::intervals::read_intervals;
 use sections::rows::read_rows;
 use text::Next;
+use volumes::read_volumes;
 use whole::buffers::copy;
 use whole::buffers::wipe;
 ghost use mathlib.Core.Path.{_≡_};
@@ -80,11 +81,17 @@ fn scan(s: &[u8], columns: &mut [i64], rights: &mut [i64], table: &mut [i64]) ->
         Section::Read(p) => {
             let b = read_rows(s, p, columns, rights, table);
             match b {
-                Section::Read(c) => {
-                    if is_closed(s, c.at) {
-                        Section::Read(c)
-                    } else {
-                        Section::Refused(Refusal::Layout)
+                Section::Read(q) => {
+                    let v = read_volumes(s, q, table);
+                    match v {
+                        Section::Read(c) => {
+                            if is_closed(s, c.at) {
+                                Section::Read(c)
+                            } else {
+                                Section::Refused(Refusal::Layout)
+                            }
+                        }
+                        Section::Refused(why) => Section::Refused(why),
                     }
                 }
                 Section::Refused(why) => Section::Refused(why),
