@@ -22,7 +22,7 @@ extern "C" {
 /* The version, which rises with each change of a call or of the text; docs/CHANGES.md has the list. A header and an archive of different
  * versions must not be used together: a program compares KORALIMBU_VERSION with koralimbu_version() once, at its start. */
 #define KORALIMBU_VERSION_MAJOR 0
-#define KORALIMBU_VERSION_MINOR 4
+#define KORALIMBU_VERSION_MINOR 5
 #define KORALIMBU_VERSION_PATCH 0
 #define KORALIMBU_VERSION (KORALIMBU_VERSION_MAJOR * 1000000 + KORALIMBU_VERSION_MINOR * 1000 + KORALIMBU_VERSION_PATCH)
 
@@ -43,6 +43,7 @@ uint32_t koralimbu_version(void);
 #define KORALIMBU_REFUSED_STANDING 10
 #define KORALIMBU_REFUSED_LAYOUT 11
 #define KORALIMBU_REFUSED_TERM 12
+#define KORALIMBU_REFUSED_VOLUME 13
 
 /* Verdicts. A move adds one vector of the basis to the values or takes it away, once, or does so with each of two.
  *   FITTED   all values are in bounds and no move improves; a better list may still exist
@@ -261,6 +262,17 @@ uint32_t koralimbu_preview(size_t n, size_t m,
  * The curves, which document 01 calls intervals, are the first columns. Those behind them, sizes[0] - sizes[2] in number, were added by rows of
  * kinds 1 to 3, in row order.
  *
+ * The text. Numbers parted by spaces and line ends, in three sections:
+ *
+ *   the count of curves; for each its lower bound, its upper bound and its goal
+ *   the count of rows; for each its kind, its number, its count of terms; for each term the index of its curve, from 1, and its coefficient
+ *   the count of swept volumes; for each its count of paths; for each path its count of curves, and their indices in any order
+ *
+ * A deck without swept volumes ends with a 0: "1 1 9 3000 0 0" is one curve, no row and no volume. All paths of a volume get equal sums: for each
+ * path after its first a row is added, path 1 less that path equals 0, behind all rows so far and in the order of the text. A curve on both paths
+ * cancels: its coefficient is 0. A path like the first makes a row of zeros, and a volume of one path adds none. These are equal rows like any
+ * other: m counts them, and curves that have a term in one are neighbours.
+ *
  * The reader hands in ideals, so that a curve without a goal starts near its neighbours: the curves with a goal that have a coefficient other
  * than 0 in some row where it has one too. Its ideal is the mean of theirs, rounded down, each counted once however many rows it shares; theirs
  * are those of their goals, brought into their bounds. There is none for a curve without neighbours, for one with a goal, and for the columns
@@ -273,7 +285,8 @@ uint32_t koralimbu_preview(size_t n, size_t m,
  *                                                                               given, ideals
  *    0  ACCEPTED             the text is read                                   the problem, then 0s   n, m, curves
  *    1  REFUSED_SIZE         the count of curves is not 1 to DECK_COLUMNS, or   as they were           0, 0, 0
- *                            that of rows is not 0 to DECK_ROWS
+ *                            that of rows is not 0 to DECK_ROWS, or a count of
+ *                            paths makes a row more than DECK_ROWS
  *    2  REFUSED_LENGTH       a count of coefficients, rights, lower, upper,     as they were           0, 0, 0
  *                            goals, given or ideals is not the one above
  *    3  REFUSED_COEFFICIENT  a coefficient is beyond RANGE_COEFFICIENT, or a    as they were           0, 0, 0
@@ -289,8 +302,12 @@ uint32_t koralimbu_preview(size_t n, size_t m,
  *                            DECK_COLUMNS, a count of terms is wrong, an index
  *                            does not rise or names no curve, or a coefficient
  *                            is 0
+ *   13  REFUSED_VOLUME       the count of volumes is below 0, a count of paths  as they were           0, 0, 0
+ *                            or of a path's curves is below 1, or an index of
+ *                            a path names no curve or stands in it twice
  *
  * The counts are looked at first (2), then the length of the text (11); after that the first place of the text that breaks its rule decides.
+ * A count of paths is judged where it stands, by all rows so far and those that it adds, before any of its paths.
  * A sizes whose count is not SIZES_COUNT is refused with REFUSED_LENGTH before anything else is looked at, and every buffer is left as it
  * was, sizes too.
  *

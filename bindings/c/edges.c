@@ -1,5 +1,5 @@
 /* What the header says, tried over the archive: the version, null pointers, every refusal and limit by its name, the preview beside
- * Continue, ideals, the sizes of a deck, calls in several threads at once, and calls on a small stack.
+ * Continue, ideals, the sizes of a deck, swept volumes, calls in several threads at once, and calls on a small stack.
  *
  * Prints a line for each check that fails, and last 'N passed, M failed'.
  */
@@ -14,7 +14,7 @@
 #include "koralimbu.h"
 
 /* The names are numbers for the preprocessor too. */
-#if KORALIMBU_VERSION < 4000 || KORALIMBU_MOST_COEFFICIENTS != KORALIMBU_MOST_ROWS * KORALIMBU_MOST_COLUMNS \
+#if KORALIMBU_VERSION < 5000 || KORALIMBU_MOST_COEFFICIENTS != KORALIMBU_MOST_ROWS * KORALIMBU_MOST_COLUMNS \
     || KORALIMBU_MOST_TABLEAU != KORALIMBU_MOST_COLUMNS * (KORALIMBU_MOST_ROWS + KORALIMBU_MOST_COLUMNS) \
     || KORALIMBU_DECK_COEFFICIENTS != KORALIMBU_DECK_ROWS * KORALIMBU_DECK_COLUMNS
 #error "names of koralimbu.h that do not agree"
@@ -67,7 +67,9 @@ typedef uint32_t engine(size_t n, size_t m, uint32_t limit, const int64_t *coeff
                         int64_t *tableau, size_t tableau_count, int64_t *values, size_t values_count,
                         uint64_t *strides, size_t strides_count, uint32_t *report, size_t report_count);
 
-static const char paving[] = "3\n1 1000000 3000\n1 1000000 3000\n1 1000000 3000\n1\n3 2 3 1 1 2 1 3 1\n";
+static const char paving[] = "3\n1 1000000 3000\n1 1000000 3000\n1 1000000 3000\n1\n3 2 3 1 1 2 1 3 1\n0\n";
+/* A volume of three paths: curve 1; curves 2 and 3; curve 4. */
+static const char swept[] = "4\n1 99 9000\n1 99 4000\n1 99 4000\n1 99 0\n0\n1\n3\n1 1\n2 2 3\n1 4\n";
 
 static int passed, failed;
 
@@ -841,14 +843,14 @@ static void try_deck_ideals(void)
 {
     static const int64_t beside[] = {6, 0, 0, 0}, added[] = {6, 0, 0, 0, 0, 0}, none[6];
 
-    reads_ideals("the mean of 4 and 9, each counted once", "4 1 99 0 1 99 4000 1 99 9000 1 99 80000 2 0 0 2 1 1 2 -1 0 0 3 1 1 2 1 3 -1",
+    reads_ideals("the mean of 4 and 9, each counted once", "4 1 99 0 1 99 4000 1 99 9000 1 99 80000 2 0 0 2 1 1 2 -1 0 0 3 1 1 2 1 3 -1 0",
                  4, beside);
-    reads_ideals("no ideal of an added column", "4 1 99 0 1 99 4000 1 99 9000 1 99 80000 2 1 0 2 1 5 2 -1 3 0 3 1 1 2 1 3 -1", 6, added);
-    reads_ideals("the bounds of neighbours", "4 -3 -2 0 1 3 4000 9 9 1000 1 99 80000 1 0 0 3 1 1 2 1 3 -1", 4, beside);
-    reads_ideals("no row", "2 1 99 0 1 99 4000 0", 2, none);
-    reads_ideals("a row alone", "2 1 99 0 1 99 4000 1 3 0 1 1 1", 3, none);
-    reads_ideals("no plain curve", "2 1 99 3000 1 99 4000 1 3 0 2 1 1 2 1", 3, none);
-    reads_ideals("none but plain curves", "2 1 99 0 1 99 0 1 3 0 2 1 1 2 1", 3, none);
+    reads_ideals("no ideal of an added column", "4 1 99 0 1 99 4000 1 99 9000 1 99 80000 2 1 0 2 1 5 2 -1 3 0 3 1 1 2 1 3 -1 0", 6, added);
+    reads_ideals("the bounds of neighbours", "4 -3 -2 0 1 3 4000 9 9 1000 1 99 80000 1 0 0 3 1 1 2 1 3 -1 0", 4, beside);
+    reads_ideals("no row", "2 1 99 0 1 99 4000 0 0", 2, none);
+    reads_ideals("a row alone", "2 1 99 0 1 99 4000 1 3 0 1 1 1 0", 3, none);
+    reads_ideals("no plain curve", "2 1 99 3000 1 99 4000 1 3 0 2 1 1 2 1 0", 3, none);
+    reads_ideals("none but plain curves", "2 1 99 0 1 99 0 1 3 0 2 1 1 2 1 0", 3, none);
 }
 
 /* A plain curve beside all others of the largest deck, each of which wants the most. */
@@ -864,6 +866,7 @@ static void try_most_neighbours(void)
     end += (size_t)sprintf(text + end, "1 0 0 %d", KORALIMBU_DECK_COLUMNS);
     for (k = 1; k <= KORALIMBU_DECK_COLUMNS; k++)
         end += (size_t)sprintf(text + end, " %zu -1000", k);
+    sprintf(text + end, " 0");
     reads_ideals("the most neighbours with the largest goals", text, KORALIMBU_DECK_COLUMNS, most);
 }
 
@@ -871,13 +874,13 @@ static void try_most_neighbours(void)
 static void try_deck_ideal_counts(void)
 {
     static const size_t counts[] = {KORALIMBU_DECK_COLUMNS, 0, 1, KORALIMBU_DECK_COLUMNS - 1, KORALIMBU_DECK_COLUMNS + 1};
-    static const char *const texts[] = {paving, "", "no deck", "0 0", "1 5 3 0 0"};
+    static const char *const texts[] = {paving, swept, "", "no deck", "0 0 0", "1 5 3 0 0 0"};
     static struct deck d;
     size_t k, j, t;
 
     for (k = 0; k < 5; k++)
         for (j = k == 0; j < 5; j++)
-            for (t = 0; t < 5; t++) {
+            for (t = 0; t < sizeof texts / sizeof *texts; t++) {
                 read_with((const uint8_t *)texts[t], strlen(texts[t]), &d, counts[k], counts[j]);
                 expect("a wrong count of the reader's ideals", d.number, KORALIMBU_REFUSED_LENGTH);
                 check("what such a count leaves", deck_kept(&d));
@@ -899,6 +902,7 @@ static void read_made(const char *what, size_t curves, size_t rows, int kind, si
     end += (size_t)sprintf(text + end, "%zu\n", rows);
     for (k = 0; k < rows; k++)
         end += (size_t)sprintf(text + end, "%d 0 0\n", kind);
+    end += (size_t)sprintf(text + end, "0\n");
     if (end < count)
         memset(text + end, ' ', count - end);
     read_text((const uint8_t *)text, end < count ? count : end, &d);
@@ -916,11 +920,11 @@ static void try_deck_limits(void)
     read_made("a row too many", 1, KORALIMBU_DECK_ROWS + 1, 0, 0, KORALIMBU_REFUSED_SIZE);
     read_made("the most columns added", 1, KORALIMBU_DECK_COLUMNS - 1, 3, 0, KORALIMBU_ACCEPTED);
     read_made("a column added too many", 1, KORALIMBU_DECK_COLUMNS, 3, 0, KORALIMBU_REFUSED_TERM);
-    reads("a deck's coefficient", "1\n3 5 0\n1\n0 0 1 1 1001\n", KORALIMBU_REFUSED_COEFFICIENT);
-    reads("a deck's bound", "1\n5 3 0\n0\n", KORALIMBU_REFUSED_BOUND);
-    reads("a deck's goal", "1\n0 5 1000\n0\n", KORALIMBU_REFUSED_GOAL);
-    reads("a deck's word", "1\n3 5 O\n0\n", KORALIMBU_REFUSED_LAYOUT);
-    reads("a deck's term", "1\n3 5 0\n1\n0 0 1 1 0\n", KORALIMBU_REFUSED_TERM);
+    reads("a deck's coefficient", "1\n3 5 0\n1\n0 0 1 1 1001\n0\n", KORALIMBU_REFUSED_COEFFICIENT);
+    reads("a deck's bound", "1\n5 3 0\n0\n0\n", KORALIMBU_REFUSED_BOUND);
+    reads("a deck's goal", "1\n0 5 1000\n0\n0\n", KORALIMBU_REFUSED_GOAL);
+    reads("a deck's word", "1\n3 5 O\n0\n0\n", KORALIMBU_REFUSED_LAYOUT);
+    reads("a deck's term", "1\n3 5 0\n1\n0 0 1 1 0\n0\n", KORALIMBU_REFUSED_TERM);
 }
 
 static int are(const size_t *sizes, size_t n, size_t m, size_t curves)
@@ -930,7 +934,7 @@ static int are(const size_t *sizes, size_t n, size_t m, size_t curves)
 
 static void try_deck_sizes(void)
 {
-    static const char even[] = "3\n1 9 0\n1 9 0\n1 9 0\n3\n3 0 2 1 1 2 1\n0 0 2 1 1 3 -1\n3 0 1 3 1\n";
+    static const char even[] = "3\n1 9 0\n1 9 0\n1 9 0\n3\n3 0 2 1 1 2 1\n0 0 2 1 1 3 -1\n3 0 1 3 1\n0\n";
     static struct deck d;
     size_t sizes[KORALIMBU_SIZES_COUNT + 1] = {MARK, MARK, MARK, MARK}, count;
 
@@ -951,15 +955,189 @@ static void try_deck_sizes(void)
     }
 }
 
+/* ---------------------------------------------------------------- swept volumes */
+
+/* The third section adds these rows behind those of the deck, each equal to 0, and changes no bound and no goal. */
+static void adds_rows(const char *what, const char *deck, const char *section, size_t added, const int64_t *rows)
+{
+    static char text[TEXT + 1];
+    static struct deck plain, with;
+    size_t n, m;
+
+    sprintf(text, "%s 0", deck);
+    read_text((const uint8_t *)text, strlen(text), &plain);
+    sprintf(text, "%s %s", deck, section);
+    read_text((const uint8_t *)text, strlen(text), &with);
+    expect(what, plain.number, KORALIMBU_ACCEPTED);
+    expect(what, with.number, KORALIMBU_ACCEPTED);
+    n = plain.sizes[0];
+    m = plain.sizes[1];
+    check(what, are(with.sizes, n, m + added, plain.sizes[2]));
+    if (added > 0)
+        memcpy(plain.coefficients + m * n, rows, added * n * sizeof *rows);
+    check(what, memcmp(with.coefficients, plain.coefficients, sizeof with.coefficients) == 0);
+    check(what, memcmp(with.rights, plain.rights, sizeof with.rights) == 0);
+    check(what, memcmp(with.lower, plain.lower, sizeof with.lower) == 0 && memcmp(with.upper, plain.upper, sizeof with.upper) == 0
+                && memcmp(with.goals, plain.goals, sizeof with.goals) == 0);
+    check(what, with.given[KORALIMBU_DECK_COLUMNS] == MARK && with.ideals[KORALIMBU_DECK_COLUMNS] == MARK);
+}
+
+/* Four curves and a row that equals 7; two curves and two rows that add a column each. */
+static const char four[] = "4 1 9 0 1 9 2000 1 9 3000 1 9 4000 1 0 7 2 1 5 4 -1", halves[] = "2 1 9 0 1 9 2000 2 3 4 2 1 1 2 1 1 5 1 2 1";
+
+static void try_path_rows(void)
+{
+    static const int64_t tied[] = {1, -1, 0, 0}, any_order[] = {1, -1, -1, 1}, shared[] = {1, 0, -1, 0}, apart[] = {-1, 0, 0, 1}, zeros[4];
+    static const int64_t three[] = {1, -1, 0, 0, 1, 0, -1, -1}, two[] = {1, -1, 0, 0, 0, 0, 1, -1}, mixed[] = {1, 0, -1, 0, 0, 0, 0, 0, 1, 1, -1, -1};
+
+    adds_rows("two paths of a curve each", four, "1 2 1 1 1 2", 1, tied);
+    adds_rows("path 1 less path 2", four, "1 2 1 4 1 1", 1, apart);
+    adds_rows("indices in any order", four, "1 2 2 4 1 2 3 2", 1, any_order);
+    adds_rows("a curve on both paths", four, "1 2 2 1 2 2 2 3", 1, shared);
+    adds_rows("a path within the other", four, "1 2 4 3 1 4 2 3 3 4 2", 1, (const int64_t[]){1, 0, 0, 0});
+    adds_rows("two equal paths", four, "1 2 2 3 1 2 1 3", 1, zeros);
+    adds_rows("a volume of one path", four, "1 1 4 1 2 3 4", 0, NULL);
+    adds_rows("each later path with path 1", four, "1 3 1 1 1 2 2 3 4", 2, three);
+    adds_rows("two volumes", four, "2 2 1 1 1 2 2 1 3 1 4", 2, two);
+    adds_rows("volumes of one, three and two paths", four, "3 1 1 2 3 2 1 2 2 2 3 2 2 1 2 2 2 1 2 4 3", 3, mixed);
+    adds_rows("no term of an added column", halves, "1 2 1 1 1 2", 1, tied);
+    adds_rows("equal paths beside added columns", halves, "1 2 2 2 1 2 1 2", 1, zeros);
+}
+
+/* The reader's ideals see the rows of paths, and no curve that cancels in them. */
+static void try_path_ideals(void)
+{
+    static const int64_t mean[] = {6, 0, 0}, none[3], fourth[] = {0, 0, 0, 9};
+
+    reads_ideals("neighbours along paths", "3 1 99 0 1 99 4000 1 99 9000 0 1 2 2 1 2 1 3", 3, mean);
+    reads_ideals("neighbours in two path rows", "3 1 99 0 1 99 4000 1 99 9000 0 1 3 1 1 1 2 1 3", 3, mean);
+    reads_ideals("a plain curve that cancels", "3 1 99 0 1 99 4000 1 99 9000 0 1 2 2 1 2 2 3 1", 3, none);
+    reads_ideals("a neighbour that cancels", "3 1 99 0 1 99 4000 1 99 9000 0 1 2 2 1 2 1 2", 3, none);
+    reads_ideals("paths after the first share no row", swept, 4, fourth);
+}
+
+/* The number that is refused stands behind these words. What follows it is not looked at, and what stands in its place is. */
+static void refuses_at(const char *what, const char *before, const char *number, uint32_t wanted)
+{
+    static char text[TEXT + 1];
+
+    sprintf(text, "%s %s", before, number);
+    reads(what, text, wanted);
+    sprintf(text, "%s\n%s x", before, number);
+    reads(what, text, wanted);
+    sprintf(text, "%s x %s", before, number);
+    reads(what, text, KORALIMBU_REFUSED_LAYOUT);
+    reads(what, before, KORALIMBU_REFUSED_LAYOUT);
+}
+
+static void try_volume_refusals(void)
+{
+    static const char *const below_1[] = {"0", "-1", "-9999999999"}, *const outside[] = {"0", "-1", "5", "48", "9999999999"};
+    size_t k;
+
+    refuses_at("a count of volumes", "1 1 9 0 0", "-1", KORALIMBU_REFUSED_VOLUME);
+    refuses_at("a count of volumes behind rows", four, "-9999999999", KORALIMBU_REFUSED_VOLUME);
+    for (k = 0; k < 3; k++) {
+        refuses_at("a count of paths", "1 1 9 0 0 1", below_1[k], KORALIMBU_REFUSED_VOLUME);
+        refuses_at("a second volume's count of paths", "2 1 9 0 1 9 0 0 2 2 1 1 1 2", below_1[k], KORALIMBU_REFUSED_VOLUME);
+        refuses_at("a path's count of curves", "1 1 9 0 0 1 1", below_1[k], KORALIMBU_REFUSED_VOLUME);
+        refuses_at("a later path's count of curves", "1 1 9 0 0 1 3 1 1 1 1", below_1[k], KORALIMBU_REFUSED_VOLUME);
+    }
+    for (k = 0; k < 5; k++) {
+        refuses_at("an index outside", "4 1 9 0 1 9 0 1 9 0 1 9 0 0 1 1 1", outside[k], KORALIMBU_REFUSED_VOLUME);
+        refuses_at("a later index outside", "4 1 9 0 1 9 0 1 9 0 1 9 0 0 1 2 1 1 4 4 2", outside[k], KORALIMBU_REFUSED_VOLUME);
+    }
+    refuses_at("an index of an added column", "2 1 9 0 1 9 2000 2 3 4 2 1 1 2 1 1 5 1 2 1 1 1 1", "3", KORALIMBU_REFUSED_VOLUME);
+    refuses_at("an index twice", "2 1 9 0 1 9 0 0 1 1 2 2", "2", KORALIMBU_REFUSED_VOLUME);
+    refuses_at("an index twice in a later path", "3 1 9 0 1 9 0 1 9 0 0 1 2 1 1 3 1 3", "1", KORALIMBU_REFUSED_VOLUME);
+}
+
+/* A text that ends too early or too late, and counts that are too large: they are not refused where they stand. */
+static void try_volume_layouts(void)
+{
+    reads("a text without its third section", "1 1 9 0 0", KORALIMBU_REFUSED_LAYOUT);
+    reads("a number behind no volumes", "1 1 9 0 0 0 0", KORALIMBU_REFUSED_LAYOUT);
+    reads("a number behind a volume", "1 1 9 0 0 1 1 1 1 0", KORALIMBU_REFUSED_LAYOUT);
+    reads("too many volumes", "1 1 9 0 0 9999999999 1 1 1", KORALIMBU_REFUSED_LAYOUT);
+    reads("too many curves of a path", "2 1 9 0 1 9 0 0 1 1 9999999999 1 2", KORALIMBU_REFUSED_LAYOUT);
+    reads("too many curves of a path, of which one repeats", "2 1 9 0 1 9 0 0 1 1 9999999999 1 2 1", KORALIMBU_REFUSED_VOLUME);
+    reads("a path too few", "2 1 9 0 1 9 0 0 1 2 1 1", KORALIMBU_REFUSED_LAYOUT);
+    reads("a curve of a path too few", "2 1 9 0 1 9 0 0 1 2 1 1 2 1", KORALIMBU_REFUSED_LAYOUT);
+}
+
+/* Writes some words so many times; returns their end. */
+static char *put(char *end, const char *words, size_t times)
+{
+    for (; times > 0; times--)
+        end += sprintf(end, "%s", words);
+    return end;
+}
+
+/* A text with so many rows, all of zeros as its paths are equal. */
+static void reads_zeros(const char *what, const char *text, size_t n, size_t m)
+{
+    static struct deck d;
+
+    read_text((const uint8_t *)text, strlen(text), &d);
+    expect(what, d.number, KORALIMBU_ACCEPTED);
+    check(what, are(d.sizes, n, m, n));
+    check(what, all_are(d.coefficients, KORALIMBU_DECK_COEFFICIENTS, 0) && all_are(d.rights, KORALIMBU_DECK_ROWS, 0));
+}
+
+/* A deck of one curve whose rows, first volume and second volume make the most rows. A path more in the second is refused at its count. */
+static void fills_rows(const char *what, size_t rows, size_t first, size_t second)
+{
+    static char text[TEXT + 1];
+    char beyond[32], *end = text;
+
+    end += sprintf(end, "1 1 9 0 %zu", rows);
+    end = put(end, " 0 0 0", rows);
+    end += sprintf(end, " 2 %zu", first);
+    end = put(end, " 1 1", first);
+    sprintf(beyond, "%zu", second + 1);
+    refuses_at(what, text, beyond, KORALIMBU_REFUSED_SIZE);
+    refuses_at(what, text, "9999999999", KORALIMBU_REFUSED_SIZE);
+    refuses_at(what, text, "0", KORALIMBU_REFUSED_VOLUME);
+    end += sprintf(end, " %zu", second);
+    put(end, " 1 1", second);
+    reads_zeros(what, text, 1, KORALIMBU_DECK_ROWS);
+}
+
+static void try_path_limits(void)
+{
+    static char text[TEXT + 1];
+    char *end = text;
+    size_t k;
+
+    fills_rows("rows of one volume", 0, 1, KORALIMBU_DECK_ROWS + 1);
+    fills_rows("rows of two volumes", 0, 25, KORALIMBU_DECK_ROWS - 23);
+    fills_rows("rows, and those of two volumes", KORALIMBU_DECK_ROWS - 8, 5, 5);
+    fills_rows("rows, and one of the first volume", KORALIMBU_DECK_ROWS - 1, 2, 1);
+    fills_rows("rows, and those of the second volume", KORALIMBU_DECK_ROWS - 2, 1, 3);
+    fills_rows("rows alone", KORALIMBU_DECK_ROWS, 1, 1);
+    end += sprintf(end, "1 1 9 0 0 4000");
+    put(end, " 1 1 1", 4000);
+    reads_zeros("many volumes of one path", text, 1, 0);
+    end = text + sprintf(text, "%d", KORALIMBU_DECK_COLUMNS);
+    end = put(end, " 1 9 0", KORALIMBU_DECK_COLUMNS);
+    end += sprintf(end, " 0 1 2 %d", KORALIMBU_DECK_COLUMNS);
+    for (k = KORALIMBU_DECK_COLUMNS; k > 0; k--)
+        end += sprintf(end, " %zu", k);
+    end += sprintf(end, " %d", KORALIMBU_DECK_COLUMNS);
+    for (k = 1; k <= KORALIMBU_DECK_COLUMNS; k++)
+        end += sprintf(end, " %zu", k);
+    reads_zeros("two paths of all curves", text, KORALIMBU_DECK_COLUMNS, 1);
+}
+
 /* ---------------------------------------------------------------- threads */
 
-/* What one thread does: all four calls, on a text and a problem that all threads read. */
+/* What one thread does: all four calls, on texts and a problem that all threads read. */
 struct work {
     const struct posed *posed;
     size_t rounds;
     struct answer assigned, continued;
     struct seen seen;
-    struct deck deck;
+    struct deck deck, swept;
 };
 
 static void *work(void *given)
@@ -969,6 +1147,7 @@ static void *work(void *given)
 
     for (k = 0; k < w->rounds; k++) {
         read_text((const uint8_t *)paving, sizeof paving - 1, &w->deck);
+        read_text((const uint8_t *)swept, sizeof swept - 1, &w->swept);
         settle(koralimbu_assign, w->posed, &w->assigned);
         settle(koralimbu_continue, w->posed, &w->continued);
         look(w->posed, &w->seen);
@@ -980,7 +1159,8 @@ static int same(const struct work *a, const struct work *b)
 {
     return memcmp(&a->assigned, &b->assigned, sizeof a->assigned) == 0
            && memcmp(&a->continued, &b->continued, sizeof a->continued) == 0
-           && memcmp(&a->seen, &b->seen, sizeof a->seen) == 0 && memcmp(&a->deck, &b->deck, sizeof a->deck) == 0;
+           && memcmp(&a->seen, &b->seen, sizeof a->seen) == 0 && memcmp(&a->deck, &b->deck, sizeof a->deck) == 0
+           && memcmp(&a->swept, &b->swept, sizeof a->swept) == 0;
 }
 
 /* The largest problem, of pairs v(2k) = v(2k + 1) whose bounds begin far from each other, so that it takes many steps. */
@@ -1046,6 +1226,7 @@ static void try_many_steps(void)
     alone.rounds = 1;
     work(&alone);
     expect("many steps", alone.assigned.number, KORALIMBU_ACCEPTED);
+    check("both decks", alone.deck.number == KORALIMBU_ACCEPTED && alone.swept.number == KORALIMBU_ACCEPTED);
     check("many steps towards the bounds", alone.assigned.report[1] > 1000 && alone.continued.report[1] > 1000);
     check("the first of them", alone.seen.number == KORALIMBU_ACCEPTED && alone.seen.report[0] == KORALIMBU_PART_BOUNDS);
     previewed("the first of many steps", &pairs, KORALIMBU_ACCEPTED);
@@ -1077,6 +1258,11 @@ int main(void)
     try_deck_ideal_counts();
     try_deck_limits();
     try_deck_sizes();
+    try_path_rows();
+    try_path_ideals();
+    try_volume_refusals();
+    try_volume_layouts();
+    try_path_limits();
     try_many_steps();
     printf("%d passed, %d failed\n", passed, failed);
     return failed != 0;

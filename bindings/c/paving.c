@@ -20,7 +20,8 @@ static const char paving[] = "3\n"
                              "1 1000000 3000\n"
                              "1 1000000 3000\n"
                              "1\n"
-                             "3 2 3 1 1 2 1 3 1\n";
+                             "3 2 3 1 1 2 1 3 1\n"
+                             "0\n";
 
 static uint8_t text[ROOM];
 static int64_t coefficients[KORALIMBU_DECK_COEFFICIENTS], rights[KORALIMBU_DECK_ROWS];

@@ -78,13 +78,17 @@ static uint32_t read_text(const std::vector<uint8_t> &text, std::vector<int64_t>
 }
 
 static void read_texts() {
-    static const char deck[] = "2 1 9 0 1 9 7000 1 0 0 2 1 1 2 -1";
+    static const char deck[] = "2 1 9 0 1 9 7000 1 0 0 2 1 1 2 -1 0";
     std::vector<int64_t> given(KORALIMBU_DECK_COLUMNS), ideals(KORALIMBU_DECK_COLUMNS), none;
     expect("an empty text", read_text({}, given, ideals), KORALIMBU_REFUSED_LAYOUT);
     expect("a text and no room for ideals", read_text({}, none, none), KORALIMBU_REFUSED_LENGTH);
     expect("a text", read_text(std::vector<uint8_t>(deck, deck + sizeof deck - 1), given, ideals), KORALIMBU_ACCEPTED);
     expect("a plain curve's ideal", given[0] == 1 && ideals[0] == 7, true);
     expect("no other ideal", given[1] == 0 && ideals[1] == 0, true);
+    static const char swept[] = "2 1 9 5000 1 9 0 0 1 2 1 1 1 2", twice[] = "2 1 9 5000 1 9 0 0 1 2 1 1 2 2 2";
+    expect("a swept volume", read_text(std::vector<uint8_t>(swept, swept + sizeof swept - 1), given, ideals), KORALIMBU_ACCEPTED);
+    expect("an ideal along a path", given[1] == 1 && ideals[1] == 5, true);
+    expect("a curve twice in a path", read_text(std::vector<uint8_t>(twice, twice + sizeof twice - 1), given, ideals), KORALIMBU_REFUSED_VOLUME);
 }
 
 int main() {

@@ -33,7 +33,7 @@ fn limits() -> BTreeMap<&'static str, i64> {
 }
 
 /// The header's names of refusals, in the order of their numbers.
-const REFUSED: [(&str, Refusal); 12] = [
+const REFUSED: [(&str, Refusal); 13] = [
     ("REFUSED_SIZE", Refusal::Size),
     ("REFUSED_LENGTH", Refusal::Length),
     ("REFUSED_COEFFICIENT", Refusal::Coefficient),
@@ -46,6 +46,7 @@ const REFUSED: [(&str, Refusal); 12] = [
     ("REFUSED_STANDING", Refusal::Standing),
     ("REFUSED_LAYOUT", Refusal::Layout),
     ("REFUSED_TERM", Refusal::Term),
+    ("REFUSED_VOLUME", Refusal::Volume),
 ];
 
 const VERDICTS: [(&str, Verdict); 3] =

@@ -3,7 +3,7 @@
 //! The answers are those of the proved engine in `libkoralimbu.a`; this package only lends it buffers. The usual call:
 //!
 //! ```
-//! let solved = koralimbu::solve_text("1\n3 5 0\n0\n", 10_000)?;
+//! let solved = koralimbu::solve_text("1\n3 5 0\n0\n0\n", 10_000)?;
 //! assert_eq!(solved.values, [3]);
 //! # Ok::<(), koralimbu::Refusal>(())
 //! ```
@@ -11,16 +11,25 @@
 //! Rows that are no equations add columns of their own, behind the curves. A [`Deck`] knows how many columns are curves:
 //!
 //! ```
-//! let deck = koralimbu::Deck::read("2\n1 9 3000\n1 9 2000\n1\n3 1 2 1 1 2 1\n")?;
+//! let deck = koralimbu::Deck::read("2\n1 9 3000\n1 9 2000\n1\n3 1 2 1 1 2 1\n0\n")?;
 //! let solved = deck.solve(10_000)?;
 //! assert_eq!(&solved.values[..deck.curves()], [4, 2]);
+//! # Ok::<(), koralimbu::Refusal>(())
+//! ```
+//!
+//! The last section of a text names the swept volumes, 0 where there are none. All paths of a volume get equal sums, here curves 1 and 2 on one
+//! and curve 3 on the other:
+//!
+//! ```
+//! let solved = koralimbu::solve_text("3\n1 99 4000\n1 99 3000\n1 99 9000\n0\n1\n2\n2 1 2\n1 3\n", 10_000)?;
+//! assert_eq!(solved.values, [5, 3, 8]);
 //! # Ok::<(), koralimbu::Refusal>(())
 //! ```
 //!
 //! The next step of a list can be seen before it is taken, with the columns that it changes:
 //!
 //! ```
-//! let deck = koralimbu::Deck::read("2\n1 9 0\n5 9 0\n1\n0 0 2 1 1 2 -1\n")?;
+//! let deck = koralimbu::Deck::read("2\n1 9 0\n5 9 0\n1\n0 0 2 1 1 2 -1\n0\n")?;
 //! let next = koralimbu::next_step(&deck.problem(0), &[1, 1])?.expect("curve 2 lies below its bounds");
 //! assert_eq!(next.step.to_string(), "bounds part: +N1 for column 2");
 //! assert_eq!(next.after, [2, 2]);
@@ -33,7 +42,7 @@
 //! ```
 //! use koralimbu::{solve, Columns, Deck, Problem};
 //!
-//! let deck = Deck::read("3\n1 99 0\n1 99 6000\n1 99 9000\n1\n3 2 3 1 1 2 1 3 1\n")?;
+//! let deck = Deck::read("3\n1 99 0\n1 99 6000\n1 99 9000\n1\n3 2 3 1 1 2 1 3 1\n0\n")?;
 //! let problem = deck.problem(10_000);
 //! assert_eq!(problem.columns.ideals, [Some(7), None, None, None]);
 //! assert_eq!(solve(&problem)?.values, [7, 6, 9, 11]);
@@ -206,7 +215,8 @@ pub fn preview(problem: &Problem, standing: &[i64], buffers: &mut PreviewBuffers
 /// What the reader fills.
 #[derive(Debug)]
 pub struct DeckBuffers<'a> {
-    /// [`DECK_COEFFICIENTS`] numbers; afterwards the rows, a number for each column.
+    /// [`DECK_COEFFICIENTS`] numbers; afterwards the rows, a number for each column. Behind those of the text stands, for each path of a swept volume
+    /// after its first, the row that path 1 less that path equals 0. A curve on both paths has the coefficient 0 there.
     pub coefficients: &'a mut [i64],
     /// [`DECK_ROWS`] numbers; afterwards what each row adds up to.
     pub rights: &'a mut [i64],
@@ -229,7 +239,7 @@ pub struct DeckBuffers<'a> {
 pub struct Sizes {
     /// The columns: the curves, and behind them those that rows added.
     pub columns: usize,
-    /// The rows.
+    /// The rows: those of the text, and behind them one for each path of a swept volume after its first.
     pub rows: usize,
     /// How many of the columns are curves, which document 01 calls intervals.
     pub curves: usize,
@@ -312,7 +322,7 @@ impl Deck {
     /// A whole assignment of the deck. The curves' values are the first ones:
     ///
     /// ```
-    /// let deck = koralimbu::Deck::read("3\n1 99 3000\n1 99 3000\n1 99 3000\n1\n3 2 3 1 1 2 1 3 1\n")?;
+    /// let deck = koralimbu::Deck::read("3\n1 99 3000\n1 99 3000\n1 99 3000\n1\n3 2 3 1 1 2 1 3 1\n0\n")?;
     /// let solved = deck.solve(10_000)?;
     /// let (curves, added) = solved.values.split_at(deck.curves());
     /// assert_eq!(curves, [3, 3, 4]);

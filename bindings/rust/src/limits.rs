@@ -15,7 +15,7 @@ pub const MOST_STEPS: u32 = 65_535;
 
 /// The most columns of a deck, those that its rows add counted.
 pub const DECK_COLUMNS: usize = 48;
-/// The most rows of a deck.
+/// The most rows of a deck, those that the paths of its volumes add counted.
 pub const DECK_ROWS: usize = 48;
 /// The coefficients of the largest deck.
 pub const DECK_COEFFICIENTS: usize = DECK_ROWS * DECK_COLUMNS;

@@ -7,7 +7,7 @@ use std::fmt;
 #[derive(Clone, Copy, PartialEq, Eq, Hash)]
 #[non_exhaustive]
 pub enum Refusal {
-    /// 1: the count of columns or that of rows is outside its limits.
+    /// 1: the count of columns or that of rows is outside its limits, in a text also by the rows that the paths of volumes add.
     Size,
     /// 2: a list or buffer has not the length that the columns and rows need.
     Length,
@@ -31,6 +31,8 @@ pub enum Refusal {
     Layout,
     /// 12: a row's kind, its count of terms, an index or a coefficient of 0 is wrong, or a row adds a column too many.
     Term,
+    /// 13: the count of swept volumes, a count of paths or of a path's curves, or an index in a path is wrong.
+    Volume,
     /// The library answered with a number, or where this is 0 with a verdict or a step, that this package does not know: it is of
     /// another version.
     Unknown(u32),
@@ -40,8 +42,21 @@ use Refusal::*;
 
 impl Refusal {
     /// Every refusal that this package knows, by rising number from 1.
-    pub const ALL: &'static [Refusal] =
-        &[Size, Length, Coefficient, Bound, Goal, Limit, Elimination, NoWholeNumbers, Seating, Standing, Layout, Term];
+    pub const ALL: &'static [Refusal] = &[
+        Size,
+        Length,
+        Coefficient,
+        Bound,
+        Goal,
+        Limit,
+        Elimination,
+        NoWholeNumbers,
+        Seating,
+        Standing,
+        Layout,
+        Term,
+        Volume,
+    ];
 
     /// The number that the engine's call returned.
     pub fn number(self) -> u32 {
@@ -58,6 +73,7 @@ impl Refusal {
             Standing => 10,
             Layout => 11,
             Term => 12,
+            Volume => 13,
             Unknown(number) => number,
         }
     }
@@ -72,7 +88,9 @@ impl Refusal {
 
     fn why(self) -> &'static str {
         match self {
-            Size => "the count of columns is not 1 to 48, or the count of rows is not 0 to 48",
+            Size => {
+                "the count of columns is not 1 to 48, the count of rows is not 0 to 48, or paths of volumes make a 49th row"
+            }
             Length => "a list or buffer has not the length that the columns and rows need",
             Coefficient => {
                 "a coefficient is beyond ±1,000, a row's number beyond ±1,000,000, or a least half is not 0 to 1,000,000"
@@ -90,6 +108,10 @@ impl Refusal {
             Term => {
                 "a row's kind is not 0 to 3, its count of terms is wrong, an index does not rise or names no curve, \
                  a coefficient is 0, or there is a 49th column"
+            }
+            Volume => {
+                "the count of volumes is below 0, a count of paths or of a path's curves is below 1, or an index in a path \
+                 names no curve or stands there twice"
             }
             Unknown(_) => "this package does not know that number, since libkoralimbu.a is of another version",
         }
@@ -130,7 +152,7 @@ mod tests {
 
     #[test]
     fn an_unknown_number_is_kept() {
-        for number in [13, 20, u32::MAX] {
+        for number in [14, 20, u32::MAX] {
             let refusal = Refusal::check(number).unwrap_err();
             assert_eq!((refusal, refusal.number()), (Unknown(number), number));
             assert!(refusal.to_string().starts_with(&format!("refused with {number}: this package does not know")));

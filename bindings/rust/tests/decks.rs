@@ -75,14 +75,14 @@ fn paving_is_solved() {
 }
 
 /// Two curves; a row of each kind, of which those of kinds 1 to 3 add a column.
-const KINDS: &str = "2\n1 9 2000\n1 9 3000\n4\n0 5 2 1 1 2 1\n1 2 1 2 1\n2 8 1 1 1\n3 1 1 1 1\n";
+const KINDS: &str = "2\n1 9 2000\n1 9 3000\n4\n0 5 2 1 1 2 1\n1 2 1 2 1\n2 8 1 1 1\n3 1 1 1 1\n0\n";
 
 #[test]
 fn the_sizes_of_a_deck_with_added_columns() {
     let sizes = Lent::marked().read(KINDS.as_bytes()).unwrap();
     assert_eq!(sizes, Sizes { columns: 5, rows: 4, curves: 2 });
     assert_eq!(sizes.added(), 3);
-    let plain = Lent::marked().read(b"1\n3 5 0\n0\n").unwrap();
+    let plain = Lent::marked().read(b"1\n3 5 0\n0\n0\n").unwrap();
     assert_eq!((plain.curves, plain.added()), (1, 0));
 }
 
@@ -115,32 +115,32 @@ fn ideals(text: &str) -> Vec<Option<i64>> {
 #[test]
 fn the_mean_of_the_neighbours() {
     let curves = "4\n1 99 0\n1 99 4000\n1 99 9000\n1 99 80000\n";
-    assert_eq!(ideals(&format!("{curves}2\n0 0 2 1 1 2 -1\n0 0 3 1 1 2 1 3 -1\n")), [Some(6), None, None, None]);
+    assert_eq!(ideals(&format!("{curves}2\n0 0 2 1 1 2 -1\n0 0 3 1 1 2 1 3 -1\n0\n")), [Some(6), None, None, None]);
     // The same through all of its rows, of which one has a slack, and each with other coefficients.
     let rows = "3\n1 -7 2 1 -3 2 1\n0 0 2 1 5 3 1000\n0 0 2 2 1 4 -1\n";
-    assert_eq!(ideals(&format!("{curves}{rows}")), [Some(6), None, None, None, None]);
+    assert_eq!(ideals(&format!("{curves}{rows}0\n")), [Some(6), None, None, None, None]);
 }
 
 #[test]
 fn a_curve_without_neighbours_has_no_ideal() {
     // No row; a row alone; beside a plain curve; and curve 2, which has a goal.
-    assert_eq!(ideals("2\n1 99 0\n1 99 4000\n0\n"), [None; 2]);
-    assert_eq!(ideals("2\n1 99 0\n1 99 4000\n1\n0 5 1 1 1\n"), [None; 2]);
-    assert_eq!(ideals("3\n1 99 0\n1 99 4000\n1 99 0\n1\n0 0 2 1 1 3 -1\n"), [None; 3]);
-    assert_eq!(ideals("3\n1 99 4000\n1 99 4000\n1 99 0\n1\n0 0 2 1 1 2 -1\n"), [None; 3]);
+    assert_eq!(ideals("2\n1 99 0\n1 99 4000\n0\n0\n"), [None; 2]);
+    assert_eq!(ideals("2\n1 99 0\n1 99 4000\n1\n0 5 1 1 1\n0\n"), [None; 2]);
+    assert_eq!(ideals("3\n1 99 0\n1 99 4000\n1 99 0\n1\n0 0 2 1 1 3 -1\n0\n"), [None; 3]);
+    assert_eq!(ideals("3\n1 99 4000\n1 99 4000\n1 99 0\n1\n0 0 2 1 1 2 -1\n0\n"), [None; 3]);
 }
 
 /// A neighbour of a neighbour is none: curves 1 and 3 share no row.
 #[test]
 fn a_row_of_its_own_is_needed() {
-    let text = "3\n1 99 0\n1 99 0\n1 99 7000\n2\n0 0 2 1 1 2 -1\n0 0 2 2 1 3 -1\n";
+    let text = "3\n1 99 0\n1 99 0\n1 99 7000\n2\n0 0 2 1 1 2 -1\n0 0 2 2 1 3 -1\n0\n";
     assert_eq!(ideals(text), [None, Some(7), None]);
 }
 
 /// Each kind but the first adds a column, whose ideal is never set.
 #[test]
 fn an_added_column_has_no_ideal() {
-    let rows = "4\n0 5 2 1 1 2 1\n1 2 2 1 1 2 1\n2 80 2 1 1 2 1\n3 1 2 1 1 2 1\n";
+    let rows = "4\n0 5 2 1 1 2 1\n1 2 2 1 1 2 1\n2 80 2 1 1 2 1\n3 1 2 1 1 2 1\n0\n";
     assert_eq!(ideals(&format!("2\n1 99 0\n1 99 3000\n{rows}")), [Some(3), None, None, None, None]);
     assert_eq!(ideals(&format!("2\n1 99 2000\n1 99 3000\n{rows}")), [None; 5]);
 }
@@ -148,7 +148,7 @@ fn an_added_column_has_no_ideal() {
 /// A neighbour's ideal lies in the neighbour's bounds. The mean need not lie in those of the curve: only seating brings it there.
 #[test]
 fn the_bounds_of_the_neighbours_and_of_the_curve() {
-    let deck = |plain: &str| format!("3\n{plain}\n5 6 1000\n20 30 90000\n1\n0 0 3 1 1 2 -1 3 -1\n");
+    let deck = |plain: &str| format!("3\n{plain}\n5 6 1000\n20 30 90000\n1\n0 0 3 1 1 2 -1 3 -1\n0\n");
     for plain in ["1 99 0", "-9 -3 0", "50 60 0"] {
         assert_eq!(ideals(&deck(plain)), [Some(17), None, None]);
     }
@@ -163,7 +163,7 @@ fn the_bounds_of_the_neighbours_and_of_the_curve() {
 #[test]
 fn the_ideals_of_goals() {
     for (goal, ideal) in [(1, 1), (400, 1), (1414, 1), (1415, 2), (2449, 2), (2450, 3), (3000, 3)] {
-        assert_eq!(ideals(&format!("2\n-9 9 0\n1 99 {goal}\n1\n0 0 2 1 1 2 1\n")), [Some(ideal), None]);
+        assert_eq!(ideals(&format!("2\n-9 9 0\n1 99 {goal}\n1\n0 0 2 1 1 2 1\n0\n")), [Some(ideal), None]);
     }
 }
 
@@ -172,7 +172,7 @@ fn the_ideals_of_goals() {
 fn the_most_neighbours() {
     let goals: String = (2..=DECK_COLUMNS).map(|k| format!("1 1000000 {}\n", k * 1000)).collect();
     let terms: String = (1..=DECK_COLUMNS).map(|k| format!(" {k} 1")).collect();
-    let text = format!("{DECK_COLUMNS}\n1 1000000 0\n{goals}1\n0 100 {DECK_COLUMNS}{terms}\n");
+    let text = format!("{DECK_COLUMNS}\n1 1000000 0\n{goals}1\n0 100 {DECK_COLUMNS}{terms}\n0\n");
     // 2 to 48 have the sum 1175, 47 times 25.
     assert_eq!(ideals(&text)[0], Some(25));
     let most = text.replace("1000000 48000\n", "1000000 1000000000\n");
@@ -195,6 +195,104 @@ fn plain_curves_start_from_their_neighbours() {
     assert_eq!((without.verdict, without.steps), (Verdict::Fitted, Steps { bounds: 9, goals: 13 }));
     assert_eq!(without.values, [22, 1, 10, 13, 8, 8, 9, 1, 12, 15]);
     assert_eq!(without.strides, solved.strides);
+}
+
+// ---------------------------------------------------------------- swept volumes
+
+/// Four curves, of which the first is plain, and a row that equals 7.
+const FOUR: &str = "4\n1 9 0\n1 9 2000\n1 9 3000\n1 9 4000\n1\n0 7 2 1 5 4 -1\n";
+
+/// The third section adds these rows behind those of the deck, each equal to 0, and changes no bound and no goal.
+fn adds_rows(deck: &str, section: &str, rows: &[&[i64]]) {
+    let (mut plain, mut with) = (Lent::marked(), Lent::marked());
+    let sizes = plain.read(format!("{deck}0\n").as_bytes()).unwrap();
+    let enlarged = with.read(format!("{deck}{section}").as_bytes()).unwrap();
+    assert_eq!(enlarged, Sizes { rows: sizes.rows + rows.len(), ..sizes });
+    let n = sizes.columns;
+    for (at, row) in (sizes.rows..).zip(rows) {
+        plain.coefficients[at * n..(at + 1) * n].copy_from_slice(row);
+    }
+    // Ideals are looked at by themselves.
+    plain.ideals.clone_from(&with.ideals);
+    assert_eq!(with, plain);
+}
+
+#[test]
+fn path_1_less_each_later_path() {
+    adds_rows(FOUR, "1\n2\n1 1\n1 2\n", &[&[1, -1, 0, 0]]);
+    adds_rows(FOUR, "1\n2\n1 4\n1 1\n", &[&[-1, 0, 0, 1]]);
+    adds_rows(FOUR, "1\n2\n2 4 1\n2 3 2\n", &[&[1, -1, -1, 1]]);
+    adds_rows(FOUR, "1\n3\n1 1\n1 2\n2 3 4\n", &[&[1, -1, 0, 0], &[1, 0, -1, -1]]);
+    adds_rows(FOUR, "2\n2\n1 1\n1 2\n2\n1 3\n1 4\n", &[&[1, -1, 0, 0], &[0, 0, 1, -1]]);
+}
+
+#[test]
+fn a_curve_on_both_paths_cancels() {
+    adds_rows(FOUR, "1\n2\n2 1 2\n2 2 3\n", &[&[1, 0, -1, 0]]);
+    adds_rows(FOUR, "1\n2\n4 3 1 4 2\n3 3 4 2\n", &[&[1, 0, 0, 0]]);
+}
+
+#[test]
+fn two_equal_paths_add_a_row_of_zeros() {
+    adds_rows(FOUR, "1\n2\n2 3 1\n2 1 3\n", &[&[0; 4]]);
+    adds_rows(FOUR, "1\n4\n1 2\n1 2\n1 3\n1 2\n", &[&[0; 4], &[0, 1, -1, 0], &[0; 4]]);
+}
+
+#[test]
+fn a_volume_of_one_path_adds_no_row() {
+    adds_rows(FOUR, "1\n1\n4 1 2 3 4\n", &[]);
+    adds_rows(FOUR, "3\n1\n1 2\n2\n1 1\n1 3\n1\n2 2 1\n", &[&[1, 0, -1, 0]]);
+}
+
+/// Paths name curves: the columns that rows added have no term in the rows of paths.
+#[test]
+fn the_rows_of_paths_beside_added_columns() {
+    let kinds = KINDS.strip_suffix("0\n").unwrap();
+    adds_rows(kinds, "1\n2\n1 2\n1 1\n", &[&[-1, 1, 0, 0, 0]]);
+    let sizes = Lent::marked().read(format!("{kinds}1\n2\n1 2\n1 1\n").as_bytes()).unwrap();
+    assert_eq!((sizes, sizes.added()), (Sizes { columns: 5, rows: 5, curves: 2 }, 3));
+}
+
+/// A row of paths is an equal row like any other: the deck is the one whose rows are typed.
+#[test]
+fn volumes_and_rows_that_say_the_same() {
+    let curves = "4\n1 99 9000\n1 99 4000\n1 99 4000\n1 99 0\n";
+    let swept = Deck::read(format!("{curves}0\n1\n3\n1 1\n2 3 2\n1 4\n")).unwrap();
+    let typed = Deck::read(format!("{curves}2\n0 0 3 1 1 2 -1 3 -1\n0 0 2 1 1 4 -1\n0\n")).unwrap();
+    assert_eq!(swept, typed);
+    let solved = swept.solve(LIMIT).unwrap();
+    assert_eq!((solved.verdict, solved.steps), (Verdict::Fitted, Steps { bounds: 0, goals: 1 }));
+    assert_eq!(solved.values, [8, 4, 4, 8]);
+}
+
+/// The loop round curves 2, 3 and 4 is even, and the paths 1, 2 with 3, and 4 have equal sums.
+#[test]
+fn all_paths_of_a_volume_have_equal_sums() {
+    let rows = "1\n3 2 3 2 1 3 1 4 1\n";
+    let text = format!("4\n1 99 12000\n1 99 5000\n1 99 6000\n1 99 0\n{rows}1\n3\n1 1\n2 2 3\n1 4\n");
+    let solved = solve_text(text, LIMIT).unwrap();
+    assert_eq!(solved.verdict, Verdict::Fitted);
+    assert_eq!(solved.values, [11, 5, 6, 11, 11]);
+}
+
+#[test]
+fn paths_that_nothing_satisfies() {
+    // v1 + v2 = 1 and v1 = v2; then v1 = 2 and v1 = v2 + v3, which is at least 3 in bounds.
+    assert_eq!(solve_text("2\n1 9 0\n1 9 0\n1\n0 1 2 1 1 2 1\n1\n2\n1 1\n1 2\n", LIMIT), Err(Refusal::NoWholeNumbers));
+    let outside = solve_text("3\n2 2 0\n1 9 0\n2 9 0\n0\n1\n2\n1 1\n2 2 3\n", LIMIT).unwrap();
+    assert_eq!(outside.verdict, Verdict::Outside);
+}
+
+/// The rows of paths make neighbours, but for a curve that cancels.
+#[test]
+fn neighbours_along_paths() {
+    let plain = "3\n1 99 0\n1 99 4000\n1 99 9000\n0\n";
+    assert_eq!(ideals(&format!("{plain}1\n2\n2 1 2\n1 3\n")), [Some(6), None, None]);
+    assert_eq!(ideals(&format!("{plain}1\n3\n1 1\n1 2\n1 3\n")), [Some(6), None, None]);
+    assert_eq!(ideals(&format!("{plain}1\n2\n2 1 2\n2 3 1\n")), [None; 3]);
+    assert_eq!(ideals(&format!("{plain}1\n2\n2 1 2\n1 2\n")), [None; 3]);
+    // Paths 2 and 3 share no row.
+    assert_eq!(ideals("3\n1 99 0\n1 99 0\n1 99 9000\n0\n1\n3\n1 1\n1 2\n1 3\n"), [Some(9), None, None]);
 }
 
 // ---------------------------------------------------------------- decks continued
@@ -235,10 +333,40 @@ fn a_deck_step_by_step() {
 
 // ---------------------------------------------------------------- refusals
 
+/// The number behind these words is refused at its place: what follows it is not looked at, and what stands there instead is.
+fn refuses_at(before: &str, number: &str, refusal: Refusal) {
+    refuses(format!("{before} {number}"), refusal);
+    refuses(format!("{before}\n{number} x"), refusal);
+    refuses(format!("{before} x {number}"), Refusal::Layout);
+    refuses(before, Refusal::Layout);
+}
+
 #[test]
 fn refusal_1_a_count() {
-    refuses("0\n0\n", Refusal::Size);
+    refuses("0\n0\n0\n", Refusal::Size);
     refuses("1\n3 5 0\n49\n", Refusal::Size);
+}
+
+/// One curve with so many rows, then a volume of so many paths along it, and the second volume up to its count of paths.
+fn up_to_the_second_volume(rows: usize, paths: usize) -> String {
+    format!("1 1 9 0 {rows}{} 2 {paths}{}", " 0 0 0".repeat(rows), " 1 1".repeat(paths))
+}
+
+#[test]
+fn refusal_1_a_row_too_many_by_paths() {
+    let most = DECK_ROWS;
+    for (rows, first, second) in
+        [(0, 1, most + 1), (0, 25, most - 23), (most - 8, 5, 5), (most - 1, 2, 1), (most, 1, 1)]
+    {
+        let before = up_to_the_second_volume(rows, first);
+        let sizes = Lent::marked().read(format!("{before} {second}{}", " 1 1".repeat(second)).as_bytes());
+        assert_eq!(sizes, Ok(Sizes { columns: 1, rows: most, curves: 1 }));
+        for paths in [second + 1, most + 2, 9_999_999_999] {
+            refuses_at(&before, &paths.to_string(), Refusal::Size);
+        }
+        // A count below 1 is told as such, however many rows there are.
+        refuses_at(&before, "0", Refusal::Volume);
+    }
 }
 
 #[test]
@@ -265,46 +393,87 @@ fn refusal_2_a_wrong_length() {
 
 #[test]
 fn refusal_3_a_number_of_a_row() {
-    refuses("1\n3 5 0\n1\n0 0 1 1 1001\n", Refusal::Coefficient);
-    refuses("1\n3 5 0\n1\n0 1000001 0\n", Refusal::Coefficient);
-    refuses("1\n3 5 0\n1\n3 -1 0\n", Refusal::Coefficient);
+    refuses("1\n3 5 0\n1\n0 0 1 1 1001\n0\n", Refusal::Coefficient);
+    refuses("1\n3 5 0\n1\n0 1000001 0\n0\n", Refusal::Coefficient);
+    refuses("1\n3 5 0\n1\n3 -1 0\n0\n", Refusal::Coefficient);
 }
 
 #[test]
 fn refusal_4_a_bound() {
-    refuses("1\n5 3 0\n0\n", Refusal::Bound);
+    refuses("1\n5 3 0\n0\n0\n", Refusal::Bound);
 }
 
 #[test]
 fn refusal_5_a_goal() {
-    refuses("1\n0 5 1000\n0\n", Refusal::Goal);
+    refuses("1\n0 5 1000\n0\n0\n", Refusal::Goal);
 }
 
 #[test]
 fn refusal_11_the_layout() {
     refuses("", Refusal::Layout);
-    refuses("1\n3 5 O\n0\n", Refusal::Layout);
-    refuses("1\n3 5 0\n0\n7\n", Refusal::Layout);
-    refuses(b"1\n3 5 0\n0\n\xff", Refusal::Layout);
-    refuses(format!("1\n3 5 0\n0\n{}", " ".repeat(MOST_TEXT)), Refusal::Layout);
+    refuses("1\n3 5 O\n0\n0\n", Refusal::Layout);
+    refuses("1\n3 5 0\n0\n0\n7\n", Refusal::Layout);
+    refuses(b"1\n3 5 0\n0\n0\n\xff", Refusal::Layout);
+    refuses(format!("1\n3 5 0\n0\n0\n{}", " ".repeat(MOST_TEXT)), Refusal::Layout);
 }
 
 #[test]
 fn refusal_12_a_term() {
-    refuses("1\n3 5 0\n1\n4 0 0\n", Refusal::Term);
-    refuses("1\n3 5 0\n1\n0 0 2 1 1 1 1\n", Refusal::Term);
-    refuses("1\n3 5 0\n1\n0 0 1 2 1\n", Refusal::Term);
-    refuses("1\n3 5 0\n1\n0 0 1 1 0\n", Refusal::Term);
-    refuses(format!("{DECK_COLUMNS}\n{}1\n1 0 0\n", "3 5 0\n".repeat(DECK_COLUMNS)), Refusal::Term);
+    refuses("1\n3 5 0\n1\n4 0 0\n0\n", Refusal::Term);
+    refuses("1\n3 5 0\n1\n0 0 2 1 1 1 1\n0\n", Refusal::Term);
+    refuses("1\n3 5 0\n1\n0 0 1 2 1\n0\n", Refusal::Term);
+    refuses("1\n3 5 0\n1\n0 0 1 1 0\n0\n", Refusal::Term);
+    refuses(format!("{DECK_COLUMNS}\n{}1\n1 0 0\n0\n", "3 5 0\n".repeat(DECK_COLUMNS)), Refusal::Term);
+}
+
+#[test]
+fn refusal_13_a_count() {
+    refuses_at("1 1 9 0 0", "-1", Refusal::Volume);
+    for number in ["0", "-1", "-9999999999"] {
+        refuses_at("1 1 9 0 0 1", number, Refusal::Volume);
+        refuses_at("2 1 9 0 1 9 0 0 2 2 1 1 1 2", number, Refusal::Volume);
+        refuses_at("1 1 9 0 0 1 1", number, Refusal::Volume);
+        refuses_at("1 1 9 0 0 1 3 1 1 1 1", number, Refusal::Volume);
+    }
+}
+
+#[test]
+fn refusal_13_an_index() {
+    for index in ["0", "-1", "5", "9999999999"] {
+        refuses_at(&format!("{FOUR}1\n1\n1"), index, Refusal::Volume);
+        refuses_at(&format!("{FOUR}1\n2\n1 1\n4 4 2"), index, Refusal::Volume);
+    }
+    // A column that a row added, and a curve that stands in its path already.
+    refuses_at("1 1 9 0 1 3 0 1 1 1 1 1 1", "2", Refusal::Volume);
+    refuses_at(&format!("{FOUR}1\n1\n2 2"), "2", Refusal::Volume);
+    refuses_at(&format!("{FOUR}1\n2\n1 1\n4 3 1 4"), "3", Refusal::Volume);
+}
+
+/// Counts that are too large are no places that break a rule; with them the text ends, or an index repeats.
+#[test]
+fn too_many_volumes_or_curves_of_a_path() {
+    refuses("1 1 9 0 0 9999999999 1 1 1", Refusal::Layout);
+    refuses("2 1 9 0 1 9 0 0 1 1 9999999999 1 2", Refusal::Layout);
+    refuses("2 1 9 0 1 9 0 0 1 1 9999999999 1 2 1", Refusal::Volume);
+    let many = format!("1 1 9 0 0 4000{}", " 1 1 1".repeat(4000));
+    assert_eq!(Lent::marked().read(many.as_bytes()), Ok(Sizes { columns: 1, rows: 0, curves: 1 }));
+}
+
+/// A deck of an older version has no third section.
+#[test]
+fn an_older_deck_gains_a_closing_0() {
+    let older = PAVING.strip_suffix("0\n").unwrap();
+    refuses(older, Refusal::Layout);
+    assert_eq!(solve_text(format!("{older}0"), LIMIT), solve_text(PAVING, LIMIT));
 }
 
 #[test]
 fn what_a_deck_can_state_and_the_engine_refuses() {
     let chain = |n: usize| {
         let rows: String = (1..n).map(|k| format!("0 0 2 {k} 1000 {} -1\n", k + 1)).collect();
-        format!("{}{}\n{rows}", "0 10 0\n".repeat(n - 1), n - 1)
+        format!("{}{}\n{rows}0\n", "0 10 0\n".repeat(n - 1), n - 1)
     };
-    assert_eq!(solve_text("1\n1 9 0\n1\n0 1 1 1 2\n", LIMIT), Err(Refusal::NoWholeNumbers));
+    assert_eq!(solve_text("1\n1 9 0\n1\n0 1 1 1 2\n0\n", LIMIT), Err(Refusal::NoWholeNumbers));
     assert_eq!(solve_text(format!("5\n0 10 0\n{}", chain(5)), LIMIT), Err(Refusal::Elimination));
     let pulled = format!("3\n1 1000000 1000000000\n{}", chain(3));
     assert_eq!(solve_text(pulled, LIMIT), Err(Refusal::Seating));

@@ -3,7 +3,7 @@
 --   padded-none, padded-written, from-blank, wiped   a buffer of 0 that is filled from the front, and one that is set to 0
 --   cells-two, -one, -more, length-cells       columns side by side in their table
 --   length-slack, slacks-more                  the y's of rows
---   placed-none, -more, length-withSlack, length-row   a row's coefficients
+--   placed-none, -more, length-placed, length-withSlack, length-row   a row's coefficients
 --   rows-more, length-rows, few-cells          rows one after the other, and how many numbers they have within the limits
 --   columns-more, rights-more, table-more      the next row's column, right side and coefficients
 -- Assumes nothing.
@@ -114,7 +114,7 @@ unfolding placed
 placed-more [] t u = refl
 placed-more (d ∷ done) t u = placed-more done t (set u (d .index - 1) (d .coefficient))
 
-length-placed : (done : List Term) (u : List ℤ) → length (placed done u) ≡ length u
+pub length-placed : (done : List Term) (u : List ℤ) → length (placed done u) ≡ length u
 unfolding placed
 length-placed [] u = refl
 length-placed (d ∷ done) u = length-placed done (set u (d .index - 1) (d .coefficient)) ∙ length-set u (d .index - 1) (d .coefficient)
