@@ -83,7 +83,8 @@ module _ (n k : ℕ) (h : k ≤ n) (x : List ℤ) where
       ∙ ap₂ (λ (s t : ℤ). s +ℤ negsuc 0 *ℤ t) (dot-path first v) (dot-path p w)
 
   -- ---- rows that are 0
-  one-zero : (first p : SweepPath) → Proper k first → Proper k p → (dot (placed (pathTerms first p) (zeros n)) x ≡ pos 0) ↔ (along x first ≡ along x p)
+  one-zero : (first p : SweepPath) → Proper k first → Proper k p
+      → (dot (placed (pathTerms first p) (zeros n)) x ≡ pos 0) ↔ (along x first ≡ along x p)
   one-zero first p v w =
       subst (λ (s : ℤ). (s ≡ pos 0) ↔ (along x first ≡ along x p)) (sym (dot-later first p v w)) (less (along x first) (along x p))
     where
