@@ -91,6 +91,8 @@ class Deck:
         for kind, number, terms in self.rows:
             pairs = ["%d %d" % term for term in terms]
             lines.append(" ".join(["%d %d %d" % (kind, number, len(terms))] + pairs))
+        # no volumes
+        lines.append("0")
         return "\n".join(lines) + "\n"
 
 

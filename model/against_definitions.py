@@ -9,7 +9,9 @@ every lent buffer afterwards, texts with the listing's bytes, the runs of both c
 what falls at a step (document 02, (xiii)), previews with what they tell and leave
 (document 02, (i)), many of which show a step, and the two lists of ideals that the reader
 hands in for what texts state (document 02, (ii)); ideals play a part in half of the calls
-and a third of the listed texts. Cases are kept small, since the checker computes slowly.
+and a fifth of the listed texts. Another fifth of these has rows by the paths of swept
+volumes (document 02, (iii)), and about as many are refused by their volumes, at each of
+the places where they can be. Cases are kept small, since the checker computes slowly.
 The last line is 'N passed, M failed'.
 """
 
@@ -22,8 +24,8 @@ from fractions import Fraction
 import needs
 import runs
 from engine import PROBLEM_LISTS, preview, ratio
-from generate import (Case, beside_deck, join, preview_case, problem_case, rng_for,
-                      text_case)
+from generate import (REFUSED_KINDS, Case, beside_deck, join, preview_case, problem_case,
+                      rng_for, text_case, volume_kinds)
 from listing import blank_lent, listing, problem_of
 from needs import ROOT
 from text import read
@@ -37,7 +39,7 @@ MOST_BYTES = 240
 MOST_DIGITS = 5
 
 REFUSALS = ["Size", "Length", "Coefficient", "Bound", "Goal", "Limit", "Elimination",
-            "NoWholeNumbers", "Seating", "Standing", "Layout", "Term"]
+            "NoWholeNumbers", "Seating", "Standing", "Layout", "Term", "Volume"]
 
 
 # ------------------------------------------------------------- values as terms
@@ -118,15 +120,18 @@ def listed_by_ideals(deck):
     return Case("assign", problem, blank_lent(problem)).moved_by_ideals()
 
 
-def text_equation(rng, is_read=False, by_ideals=False):
+def text_equation(rng, is_read=False, by_ideals=False, shown=None):
     """A text and its listing as an equation, or None where it is too large, is to be read
-    and is refused, or where ideals are to play a part and play none."""
+    and is refused, where ideals are to play a part and play none, or a kind of volumes is
+    to be shown and is not."""
     data = text_case(rng)
     deck = read(data)
     refused = isinstance(deck, int)
     if len(data) > MOST_BYTES or not refused and is_large(deck):
         return None
     if is_read and refused or by_ideals and not listed_by_ideals(deck):
+        return None
+    if shown is not None and shown not in volume_kinds(data):
         return None
     out = listing(data)
     first = out.split(b"\n")[0].split(b" ")
@@ -224,12 +229,17 @@ def problem_equations(count, seed):
 
 
 def text_equations(count, seed):
-    """Of texts: a third are any, many of them refused, a third are read, and a third are
-    read and ideals play a part in them."""
-    third = count // 3
-    return (some(text_equation, count - 2 * third, seed)
-            + some(text_equation, third, seed + 1, is_read=True)
-            + some(text_equation, third, seed + 2, is_read=True, by_ideals=True))
+    """Of texts: a fifth are any, many of them refused, a fifth are read, a fifth are read
+    and ideals play a part in them, and a fifth have rows by paths. The last fifth is refused
+    by its volumes, as often at each place; what does not go into these is any text."""
+    fifth = count // 5
+    refused = [equation for number, kind in enumerate(REFUSED_KINDS)
+               for equation in some(text_equation, fifth // len(REFUSED_KINDS),
+                                    seed + 4 + number, shown=kind)]
+    return (some(text_equation, count - 3 * fifth - len(refused), seed)
+            + some(text_equation, fifth, seed + 1, is_read=True)
+            + some(text_equation, fifth, seed + 2, is_read=True, by_ideals=True)
+            + some(text_equation, fifth, seed + 3, shown="a path row") + refused)
 
 
 # ------------------------------------------------------------- the scratch crate
@@ -330,7 +340,7 @@ def write_crate(equations):
 
 
 def main(arguments):
-    counts = needs.numbers(arguments, [60, 60, 1, 20, 30, 40], __doc__)
+    counts = needs.numbers(arguments, [60, 90, 1, 20, 30, 40], __doc__)
     rt = needs.rt()
     equations = problem_equations(counts[0], counts[2])
     equations += text_equations(counts[1], counts[2])

@@ -9,7 +9,8 @@ out, damaged and binary, with some buffers of a wrong length. Every buffer holds
 anything before the call. The returned number and every buffer afterwards must be the
 model's, the ideals that the reader hands in among them (document 02, (ii)), and the text
 and the numbers on both sides of each buffer must be as before. How many of the texts
-set ideals or leave plain intervals without one is printed; there must be some of each.
+set ideals or leave plain intervals without one, and how many show what of swept volumes
+(document 02, (iii)), is printed; there must be some of each.
 Where a text has a known listing, a whole assignment goes on from the read buffers as
 the header says, and must give that listing. The last line is 'N passed, M failed'.
 """
@@ -21,7 +22,7 @@ from against_engine import VERDICTS, engine_call, engine_functions
 from against_listing import DECK_CASES, by_hand, long_texts, samples
 from boundary import Buffer, Tally, call, declare, load
 from engine import MAX_COLUMNS, MAX_ROWS, PROBLEM_LISTS, WRONG_LENGTH
-from generate import Case, noise, rng_for, text_case
+from generate import Case, noise, rng_for, text_case, volumes_met
 from listing import blank_lent, problem_of, refusal_lines, verdict_lines
 from text import MAX_COEFFICIENTS, MAX_TEXT, Deck, read
 
@@ -104,7 +105,8 @@ def full_deck(plain):
                  + without * (plain // 2))
     terms = b"".join(b" %d -1000" % index for index in range(1, MAX_COLUMNS + 1))
     return (b"%d\n" % MAX_COLUMNS + intervals
-            + b"%d\n" % MAX_ROWS + (b"0 -1000000 %d" % MAX_COLUMNS + terms + b"\n") * MAX_ROWS)
+            + b"%d\n" % MAX_ROWS + (b"0 -1000000 %d" % MAX_COLUMNS + terms + b"\n") * MAX_ROWS
+            + b"0\n")
 
 
 def full_texts():
@@ -115,6 +117,27 @@ def full_texts():
         yield "the fullest deck in %d bytes" % length, deck.ljust(length)
     for plain in (1, 2, 24, MAX_COLUMNS - 1, MAX_COLUMNS):
         yield "the fullest deck with %d plain" % plain, full_deck(plain)
+
+
+def path_of(indices):
+    return b"%d %s\n" % (len(indices), b" ".join(b"%d" % index for index in indices))
+
+
+def full_volumes():
+    """The most paths that make no 49th row, along all intervals and then along ever fewer,
+    so that ever more of them stay in the row; one path more; a count of intervals that no
+    text can have; and the most volumes that a text can have, and one more than it has."""
+    every = list(range(MAX_COLUMNS, 0, -1))
+    head = (b"%d\n" % MAX_COLUMNS + b"1 1000000 0\n" * 24 + b"1 1000000 1000000000\n" * 24
+            + b"0\n1\n")
+    paths = [path_of(every)] + [path_of(every[:count]) for count in every]
+    yield "49 paths", head + b"49\n" + b"".join(paths)
+    yield "50 paths", head + b"50\n" + b"".join(paths) + paths[0]
+    yield "48 intervals twice", head + b"1\n9999999999 " + b" ".join([paths[0][3:]] * 2)
+    one, volume = b"1\n1 9 0\n0\n", b"1 1 1\n"
+    most = (MAX_TEXT - len(one + b"9999\n")) // len(volume)
+    for count, had in ((most, most), (most + 1, most), (9999999999, most - 1)):
+        yield "%d of %d volumes" % (had, count), one + b"%d\n" % count + volume * had
 
 
 def wrong_lengths():
@@ -143,8 +166,9 @@ def cases(count, seed):
     """What a case is, its text, and the lengths of the lent buffers."""
     for what, data, _ in listed_texts():
         yield what, data, LENGTHS
-    for what, data in full_texts():
-        yield what, data, LENGTHS
+    for some in (full_texts(), full_volumes()):
+        for what, data in some:
+            yield what, data, LENGTHS
     deck = DECK_CASES[10][0].encode()
     for kind, data in [("a deck", deck), ("no deck", b"x" + deck), ("no text", b""),
                        ("a text too long", deck.ljust(MAX_TEXT + 1))]:
@@ -169,13 +193,15 @@ def ideals_met(after):
 def compare_readings(tally, reader, count, seed):
     """Every case, on buffers that hold anything."""
     met = dict.fromkeys(IDEALS, 0)
+    met.update(volumes_met(data for _, data, lengths in cases(count, seed)
+                           if lengths == LENGTHS))
     for number, (what, data, lengths) in enumerate(cases(count, seed)):
         lists = noisy_lists(rng_for(seed + 1, number), lengths)
         got = reader_call(reader, data, lists)
         tally.compare(what, got, model_call(data, lists))
         for kind in ideals_met(got):
             met[kind] += 1
-    print("texts read: " + ", ".join("%s %d" % pair for pair in met.items()))
+    print("texts: " + ", ".join("%s %d" % pair for pair in met.items()))
     for kind, texts in met.items():
         tally.require("a text with " + kind, texts > 0)
 

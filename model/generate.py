@@ -29,7 +29,8 @@ is beyond 64 signed bits, so a caller with unsigned counts can take every case.
 
 To import: problems(count, seed) yields Case objects, texts(count, seed) yields
 bytes; problem_case(rng) and text_case(rng) make one. preview_case(rng) makes the
-problem, the standing list and the lent buffers of a preview.
+problem, the standing list and the lent buffers of a preview. volume_kinds(data) tells
+what a text shows of volumes, and volumes_met(texts) counts that.
 """
 
 import copy
@@ -43,7 +44,8 @@ from engine import (GOALS, LENT_LISTS, M, MAX_BOUND, MAX_COEFFICIENT, MAX_COLUMN
                     basis_of, bring_to_form, cont, fill, move_named, move_names, part_of,
                     unset)
 from listing import listing
-from text import MAX_TEXT
+from text import (MAX_TEXT, NOT_AS_LAID_OUT, Numbers, Refused, neighbour_ideal, path_rows,
+                  read_front, read_volumes)
 
 BIGGEST = 2 ** 63 - 1
 SMALLEST = -2 ** 63
@@ -532,11 +534,13 @@ def problems(count, seed):
 
 class Sketch:
     """A deck in the making: intervals as (lower, upper, goal), rows as (kind,
-    number, terms) with terms as (index from 1, coefficient)."""
+    number, terms) with terms as (index from 1, coefficient), volumes as lists of
+    paths, each a list of indices from 1."""
 
     def __init__(self):
         self.intervals = []
         self.rows = []
+        self.volumes = []
 
     def curve(self, goal, lower=1, upper=MAX_BOUND):
         """Adds an interval and returns its index."""
@@ -559,21 +563,34 @@ class Sketch:
         """The curves of a loop add up to an even number, at least twice the half."""
         self.row(3, half, [(i, 1) for i in loop])
 
+    def volume(self, paths):
+        """A volume swept along these paths."""
+        self.volumes.append([list(path) for path in paths])
+
+    def sections(self):
+        """The numbers of the three sections, each line by line with its count in front."""
+        intervals = [[len(self.intervals)]] + [list(interval) for interval in self.intervals]
+        rows = [[len(self.rows)]]
+        for kind, number, terms in self.rows:
+            rows.append([kind, number, len(terms)] + [n for term in terms for n in term])
+        volumes = [[len(self.volumes)]]
+        for paths in self.volumes:
+            volumes.append([len(paths)])
+            volumes += [[len(path)] + path for path in paths]
+        return [[[b"%d" % number for number in line] for line in section]
+                for section in (intervals, rows, volumes)]
+
     def tokens(self):
         """The numbers of the text, line by line."""
-        lines = [[len(self.intervals)]]
-        lines += [list(interval) for interval in self.intervals]
-        lines.append([len(self.rows)])
-        for kind, number, terms in self.rows:
-            line = [kind, number, len(terms)]
-            for term in terms:
-                line += term
-            lines.append(line)
-        return [[b"%d" % number for number in line] for line in lines]
+        return [line for section in self.sections() for line in section]
+
+    def all_rows(self):
+        """How many rows the problem has: one more for each later path of a volume."""
+        return len(self.rows) + sum(len(paths) - 1 for paths in self.volumes)
 
     def fits(self):
         ys = sum(1 for kind, _, _ in self.rows if kind != 0)
-        return len(self.intervals) + ys <= MAX_COLUMNS and len(self.rows) <= MAX_ROWS
+        return len(self.intervals) + ys <= MAX_COLUMNS and self.all_rows() <= MAX_ROWS
 
 
 def goal_of(length, size):
@@ -748,6 +765,77 @@ def beside_deck(rng):
     return sketch
 
 
+def sweep_path(rng, sketch):
+    """A path of one curve, or of some where stringers part it, in any order."""
+    length, size = rng.randint(900, 4000), rng.choice([100, 200, 250])
+    pieces = rng.choice([1, 1, 2, 3])
+    path = [sketch.curve(rng.choice([goal_of(length // pieces, size)] * 3 + [0]))
+            for _ in range(pieces)]
+    rng.shuffle(path)
+    return path
+
+
+def joined_path(rng, paths):
+    """A path that runs along some of another one's curves, or along all of them, in an
+    order of its own."""
+    path = list(rng.choice(paths))
+    rng.shuffle(path)
+    return path[:rng.randint(1, len(path))] if rng.random() < 0.5 else path
+
+
+def hold_deck(rng):
+    """Cells of a hold, each swept along its corner posts, three or four of them mostly.
+    Neighbouring cells have posts together, and a post may end in a curve of another."""
+    sketch = Sketch()
+    posts = [sweep_path(rng, sketch)]
+    for _ in range(rng.choice([1, 1, 1, 2, 3])):
+        paths = [rng.choice(posts)] if rng.random() < 0.7 else []
+        for _ in range(rng.choice([1, 2, 3, 3])):
+            paths.append(sweep_path(rng, sketch))
+            if rng.random() < 0.25:
+                shared = rng.choice(paths[0])
+                paths[-1] += [shared] if shared not in paths[-1] else []
+        if rng.random() < 0.2:
+            paths.append(joined_path(rng, paths))
+        posts += paths
+        rng.shuffle(paths)
+        sketch.volume(paths)
+    if rng.random() < 0.6:
+        # a row of the text over a post, beside those of the volumes
+        across = sketch.curve(random_goal(rng))
+        loose_row(rng, sketch, [0, 1, 2, 3], [(i, 1) for i in posts[0]] + [(across, -1)])
+    return sketch
+
+
+def add_volumes(rng, sketch):
+    """Volumes swept along any curves of a deck, so that many have no list in bounds."""
+    indices = range(1, len(sketch.intervals) + 1)
+    for _ in range(rng.choice([1, 1, 2])):
+        paths = [rng.sample(indices, rng.randint(1, min(3, len(indices))))
+                 for _ in range(rng.choice([1, 2, 2, 3, 4]))]
+        if rng.random() < 0.25:
+            paths.insert(rng.randint(0, len(paths)), joined_path(rng, paths))
+        sketch.volume(paths)
+        if not sketch.fits():
+            sketch.volumes.pop()
+
+
+def brim_deck(rng):
+    """Rows and volumes that together make 48 rows, and some that make a 49th."""
+    sketch = Sketch()
+    curves = [sketch.curve(random_goal(rng)) for _ in range(rng.randint(2, 4))]
+    for _ in range(rng.choice([0, 1, 20, 46, 47, MAX_ROWS])):
+        sketch.equal([rng.choice(curves)], [rng.choice(curves)])
+    left = MAX_ROWS - len(sketch.rows)
+    first = rng.choice([0, left // 2, left])
+    for added in (first, left - first + rng.choice([0, 0, 1])):
+        sketch.volume(rng.sample(curves, rng.randint(1, 2)) for _ in range(1 + added))
+    if rng.random() < 0.3:
+        # one path adds no row, so that it fits after 48 rows too
+        sketch.volume([rng.sample(curves, 2)])
+    return sketch
+
+
 def without_some_goals(rng, sketch):
     """Leaves out some goals of a deck, and narrows the bounds of others."""
     for at, (lower, upper, goal) in enumerate(sketch.intervals):
@@ -823,18 +911,21 @@ def edge_deck(rng):
 
 DECKS = [mapped_deck, paved_deck, submapped_deck, radish_deck, midpoint_deck,
          parity_deck, chain_deck, any_deck, any_deck, any_deck, edge_deck,
-         beside_deck, beside_deck, beside_deck, beside_deck, strided_deck, strided_deck]
+         beside_deck, beside_deck, beside_deck, beside_deck, strided_deck, strided_deck,
+         hold_deck, hold_deck, hold_deck, brim_deck]
 
 
 def sketch_for(rng):
     sketch = rng.choice(DECKS)(rng)
     if rng.random() < 0.3:
         without_some_goals(rng, sketch)
+    if rng.random() < 0.15:
+        add_volumes(rng, sketch)
     return sketch
 
 
 def join(lines):
-    """The usual lay-out of a text: one line for each interval and row."""
+    """The usual lay-out of a text: one line for each interval, row, volume and path."""
     return b"".join(b" ".join(line) + b"\n" for line in lines)
 
 
@@ -862,8 +953,11 @@ def place(rng, lines):
     return i, rng.randrange(len(lines[i]))
 
 
-def damage_tokens(rng, lines):
-    """Changes the numbers of a text."""
+def damage_tokens(rng, lines, sections):
+    """Changes the numbers of a text, whose sections have the same lines."""
+    if rng.random() < (0.6 if len(sections[2]) > 1 else 0.15):
+        damage_volumes(rng, sections)
+        return
     i, j = place(rng, lines)
     what = rng.randrange(9)
     if what == 0:
@@ -878,14 +972,13 @@ def damage_tokens(rng, lines):
         k, l = place(rng, lines)
         lines[i][j], lines[k][l] = lines[k][l], lines[i][j]
     elif what == 7:
-        damage_row(rng, lines)
+        damage_row(rng, sections[1][-1])
     else:
         lines.append([rng.choice(NUMBERS + BAD_RUNS)])
 
 
-def damage_row(rng, lines):
-    """Aims at the last row: its kind, count, index order or coefficient."""
-    row = lines[-1]
+def damage_row(rng, row):
+    """Aims at a row: its kind, count, index order or coefficient."""
     if len(row) < 5:
         return
     terms = (len(row) - 3) // 2
@@ -903,6 +996,53 @@ def damage_row(rng, lines):
         row[3:5], row[-2:] = row[-2:], row[3:5]
     else:
         row[1] = rng.choice([b"-1", b"1000000", b"1000001", b"-1000000", b"-1000001"])
+
+
+def damage_volumes(rng, sections):
+    """Aims at the third section: a count, a path, or its end."""
+    volumes = [line for line in sections[2] if line]
+    # a line of one number is a count of paths, for a path has at least its count and an index
+    counts = [line for line in volumes[1:] if len(line) == 1]
+    paths = [line for line in volumes[1:] if len(line) > 1]
+    what = rng.randrange(12)
+    if not volumes:
+        return
+    if what == 0:
+        volumes[0][0] = rng.choice([b"-1", b"-2", b"-9999999999", b"1", b"2", b"9999999999"])
+    elif what == 1:
+        # the last number, which is the closing 0 where there are no volumes
+        del volumes[-1][-1]
+    elif what == 2:
+        volumes[-1].append(rng.choice([b"0", b"0", b"1", b"-1", b"9999999999", b"x"]))
+    elif what == 3:
+        line = rng.choice(volumes)
+        line[rng.randrange(len(line))] = rng.choice(BAD_RUNS)
+    elif what in (4, 5, 6) and counts:
+        rows = len(sections[1]) - 1
+        rng.choice(counts)[0] = rng.choice(
+            [b"0", b"0", b"-1", b"-9999999999", b"1", b"2", b"%d" % (MAX_ROWS + 1 - rows),
+             b"%d" % (MAX_ROWS + 2 - rows), b"49", b"50", b"9999999999"])
+    elif paths:
+        damage_path(rng, rng.choice(paths), sections)
+
+
+def damage_path(rng, path, sections):
+    """Aims at a path: its count, or an index that names no interval or stands there twice."""
+    intervals = len(sections[0]) - 1
+    slacks = sum(line[:1] not in ([], [b"0"]) for line in sections[1][1:])
+    what = rng.randrange(5)
+    if what <= 1:
+        path[0] = rng.choice([b"0", b"0", b"-1", b"%d" % len(path), b"%d" % (len(path) - 2),
+                              b"49", b"9999999999", b"-9999999999"])
+    elif what == 2:
+        # once more, at any place
+        path.insert(rng.randint(1, len(path)), rng.choice(path[1:]))
+        path[0] = b"%d" % (len(path) - 1)
+    else:
+        # the column of a y, where there is one
+        y = b"%d" % (intervals + rng.randint(1, max(slacks, 1)))
+        path[rng.randrange(1, len(path))] = rng.choice(
+            [b"0", b"-1", y, y, y, y, b"49", b"9999999999", path[1], path[-1]])
 
 
 def damage_bytes(rng, data):
@@ -944,12 +1084,13 @@ def text_case(rng):
     """One deck text: as laid out, damaged in its numbers, in its bytes, or no deck."""
     if rng.random() < 0.03:
         return binary_text(rng)
-    lines = sketch_for(rng).tokens()
+    sections = sketch_for(rng).sections()
+    lines = [line for section in sections for line in section]
     kind = rng.random()
     if kind > 0.4:
         for _ in range(rng.choice([1, 1, 1, 2])):
             lines = [line for line in lines if line]
-            damage_tokens(rng, lines)
+            damage_tokens(rng, lines, sections)
     data = scatter(rng, lines) if rng.random() < 0.2 else join(lines)
     if kind > 0.8:
         data = damage_bytes(rng, data)
@@ -960,6 +1101,91 @@ def texts(count, seed):
     """Yields count deck texts."""
     for number in range(1, count + 1):
         yield text_case(rng_for(seed, number))
+
+
+# ------------------------------------------------------ what texts show of volumes
+
+READ_KINDS = ["volumes", "several volumes", "a volume of one path", "a path row",
+              "an interval on both paths", "two equal paths", "indices that do not rise",
+              "a slack beside volumes", "48 rows with those of paths",
+              "an ideal by the row of a path"]
+REFUSED_KINDS = ["13 at a count of volumes", "13 at a count of paths",
+                 "13 at a count of intervals", "13 at an index outside", "13 at an index twice",
+                 "1 at a count of paths", "11 in the third section"]
+VOLUME_KINDS = READ_KINDS + REFUSED_KINDS
+
+
+def kinds_read(columns, intervals, rows, volumes):
+    """Which of READ_KINDS a text that is read shows."""
+    paths = [path for volume in volumes for path in volume]
+    pairs = [(set(volume[0]), set(path)) for volume in volumes for path in volume[1:]]
+    every = rows + path_rows(volumes)
+    plain = [j for j in range(intervals) if columns[j][2] == 0]
+    found = {
+        "volumes": volumes != [],
+        "several volumes": len(volumes) > 1,
+        "a volume of one path": any(len(volume) == 1 for volume in volumes),
+        "a path row": pairs != [],
+        "an interval on both paths": any(one & other and one != other for one, other in pairs),
+        "two equal paths": any(one == other for one, other in pairs),
+        "indices that do not rise": any(path != sorted(path) for path in paths),
+        "a slack beside volumes": volumes != [] and len(columns) > intervals,
+        "48 rows with those of paths": pairs != [] and len(every) == MAX_ROWS,
+        "an ideal by the row of a path": any(neighbour_ideal(j, columns, rows)
+                                             != neighbour_ideal(j, columns, every)
+                                             for j in plain),
+    }
+    return [kind for kind in READ_KINDS if found[kind]]
+
+
+def places(numbers):
+    """What each number of a third section is."""
+    rest = iter(numbers)
+    yield "a count of volumes"
+    for _ in range(next(rest)):
+        yield "a count of paths"
+        for _ in range(next(rest)):
+            yield "a count of intervals"
+            for _ in range(next(rest)):
+                yield "an index"
+                next(rest)
+
+
+def kind_refused(taken, intervals, number):
+    """Which of REFUSED_KINDS a refusal is, by the words of the third section that were
+    taken, up to the place that decides."""
+    if number == NOT_AS_LAID_OUT:
+        return "11 in the third section"
+    numbers = [int(word) for word in taken]
+    *_, place = (what for what, _ in zip(places(numbers), numbers))
+    if place == "an index":
+        place += " twice" if 1 <= numbers[-1] <= intervals else " outside"
+    return "%d at %s" % (number, place)
+
+
+def volume_kinds(data):
+    """Which of VOLUME_KINDS a text shows."""
+    numbers = Numbers(data if len(data) <= MAX_TEXT else b"")
+    start = None
+    try:
+        intervals, columns, rows = read_front(numbers)
+        start = numbers.taken
+        volumes = read_volumes(numbers, intervals, len(rows))
+        numbers.end()
+    except Refused as refused:
+        # what comes before the third section shows nothing of volumes
+        return [] if start is None else [
+            kind_refused(numbers.runs[start:numbers.taken], intervals, refused.number)]
+    return kinds_read(columns, intervals, rows, volumes)
+
+
+def volumes_met(texts):
+    """How many of the texts show each of VOLUME_KINDS."""
+    met = dict.fromkeys(VOLUME_KINDS, 0)
+    for data in texts:
+        for kind in volume_kinds(data):
+            met[kind] += 1
+    return met
 
 
 # -------------------------------------------------------------------- command line

@@ -1,6 +1,8 @@
 """The reader: a deck text becomes the buffers of a problem, or a refusal.
 
 “The first place that breaks its rule decides the refusal.”
+
+Ideals and swept volumes are document 02's, whose sentences stand at them.
 """
 
 import re
@@ -12,9 +14,11 @@ from engine import (COUNTS_OUTSIDE, WRONG_LENGTH, ROW_NUMBER_OUTSIDE, BOUND_OUTS
 MAX_TEXT = 32768
 MAX_COEFFICIENTS = MAX_COLUMNS * MAX_ROWS
 
-# The numbers of the table “Turned back” that only a text can give.
+# The numbers of the table “Turned back” that only a text can give, and document 02's,
+# which “join document 01's table”.
 NOT_AS_LAID_OUT = 11
 ROW_WRONG = 12
+VOLUME_WRONG = 13
 
 # “In the text these are 0, 1, 2, 3.”
 EQUAL, AT_LEAST, AT_MOST, EVEN = 0, 1, 2, 3
@@ -85,6 +89,13 @@ class Numbers:
             raise Refused(refusal)
         return number
 
+    def next_from(self, least, refusal):
+        """The next number; below the least it is the refusal given."""
+        number = self.next()
+        if number < least:
+            raise Refused(refusal)
+        return number
+
     def end(self):
         """“... or one too many is 11 there”."""
         if self.taken != len(self.runs):
@@ -92,7 +103,8 @@ class Numbers:
 
 
 class Row:
-    """A row as the text states it, with the column of its y (None if it has none)."""
+    """A row as the text states it or as two paths make it, with the column of its y (None
+    if it has none)."""
 
     def __init__(self, kind, number, terms, y):
         self.kind = kind
@@ -144,10 +156,10 @@ def read_row(numbers, intervals, columns):
     return Row(kind, number, terms, y)
 
 
-def read_sections(data):
+def read_front(numbers):
     """“Sections: the count of intervals, then for each its lower, upper and goal; the
-    count of rows, then for each its kind ...”. Returns the columns and the rows."""
-    numbers = Numbers(data)
+    count of rows, then for each its kind ...”. Returns the count of intervals, the columns
+    and the rows."""
     intervals = numbers.next_within(MIN_COLUMNS, MAX_COLUMNS, COUNTS_OUTSIDE)
     columns = [read_interval(numbers) for _ in range(intervals)]
     m = numbers.next_within(0, MAX_ROWS, COUNTS_OUTSIDE)
@@ -159,15 +171,77 @@ def read_sections(data):
             # “Each y goes up to 1,000,000, has no goal”
             least = row.number if row.kind == EVEN else 0
             columns.append((least, MAX_Y, 0))
+    return intervals, columns, rows
+
+
+def read_path(numbers, intervals):
+    """Document 02, (iii): “for each path, its count of intervals and their indices in any
+    order”. 13 is “a count ... of a path's intervals below 1, or an index outside or twice in
+    one path, at that number's place in the text”. An index names an interval, as in a row,
+    and no y. Too large a count is no place that breaks a rule: with it an index comes twice,
+    or the text ends."""
+    count = numbers.next_from(1, VOLUME_WRONG)
+    path = []
+    for _ in range(count):
+        index = numbers.next_within(1, intervals, VOLUME_WRONG)
+        if index - 1 in path:
+            raise Refused(VOLUME_WRONG)
+        path.append(index - 1)
+    return path
+
+
+def read_volume(numbers, intervals, rows_so_far):
+    """Document 02, (iii): “for each, its count of paths”. 13 is “a count of paths ... below
+    1”, “a count of paths that makes a 49th row is 1”: at its place, before a path is read."""
+    count = numbers.next_from(1, VOLUME_WRONG)
+    # “for each later path” a row is added, so for all of them but the first
+    if rows_so_far + count - 1 > MAX_ROWS:
+        raise Refused(COUNTS_OUTSIDE)
+    return [read_path(numbers, intervals) for _ in range(count)]
+
+
+def read_volumes(numbers, intervals, rows_so_far):
+    """Document 02, (iii): “A third section follows the rows: the count of volumes”, where a
+    negative count is 13; “Older texts gain a closing 0.” Returns the volumes, each a list of
+    paths."""
+    volumes = []
+    for _ in range(numbers.next_from(0, VOLUME_WRONG)):
+        volumes.append(read_volume(numbers, intervals, rows_so_far))
+        rows_so_far += len(volumes[-1]) - 1
+    return volumes
+
+
+def path_row(first, later):
+    """Document 02, (iii): “Path 1 less path k equals 0”. “An interval on both paths cancels
+    and leaves no term.”"""
+    terms = [(index, 1) for index in first if index not in later]
+    terms += [(index, -1) for index in later if index not in first]
+    return Row(EQUAL, 0, sorted(terms), None)
+
+
+def path_rows(volumes):
+    """Document 02, (iii): such a row “is added ... in text order, as an equal row like any
+    other for each later path”. So two equal paths have one too, without terms, and a volume
+    of one path has none."""
+    return [path_row(paths[0], later) for paths in volumes for later in paths[1:]]
+
+
+def read_sections(data):
+    """The three sections of a text. Returns the columns, the rows that the text states, and
+    the volumes."""
+    numbers = Numbers(data)
+    intervals, columns, rows = read_front(numbers)
+    volumes = read_volumes(numbers, intervals, len(rows))
     numbers.end()
-    return columns, rows
+    return columns, rows, volumes
 
 
 def neighbours_of(j, columns, rows):
     """Document 02, (ii): “all intervals with a goal that have a nonzero coefficient in some
     row with it, each counted once”. They are a set, so that one that shares two rows with
     interval j is in it once. A row's terms name intervals alone, with coefficients other
-    than 0, so that no slack and no absent interval is among them."""
+    than 0, so that no slack and no absent interval is among them. Rows are all rows, those
+    of paths too (document 02, (iii): “an equal row like any other”)."""
     beside = set()
     for row in rows:
         named = {index for index, _ in row.terms}
@@ -244,8 +318,9 @@ def read(data, deck=None):
     if len(data) > MAX_TEXT:
         return NOT_AS_LAID_OUT
     try:
-        columns, rows = read_sections(data)
+        columns, rows, volumes = read_sections(data)
     except Refused as refused:
         return refused.number
-    fill_deck(deck, columns, rows)
+    # “after all rows so far”
+    fill_deck(deck, columns, rows + path_rows(volumes))
     return deck

@@ -128,3 +128,37 @@ def generator_puts_plain_intervals_beside_goals():
     decks = [text.read(data) for data in generate.texts(1500, 10)]
     shown = [kinds_of_intervals(deck) for deck in decks if not isinstance(deck, int)]
     check_met("texts", ({kind: kind in some for kind in KINDS} for some in shown), 50)
+
+
+@test
+def generator_sweeps_volumes():
+    """Volumes in texts that are read, and each refusal of a third section at its place."""
+    met = generate.volumes_met(generate.texts(2000, 11))
+    check("kinds", list(met), generate.VOLUME_KINDS)
+    for kind, count in met.items():
+        check("texts: %s, %d times" % (kind, count), count >= 10, True)
+    for kind in ("volumes", "a path row", "an interval on both paths"):
+        check("texts: %s, %d times" % (kind, met[kind]), met[kind] >= 100, True)
+
+
+@test
+def generator_tells_places():
+    """What volume_kinds tells of texts by hand."""
+    head = b"2 1 9 0 1 9 3000 1 1 0 0 "
+    for section, kinds in (
+            (b"0", []), (b"1 1 1 1", ["volumes", "a volume of one path", "a slack beside volumes"]),
+            (b"-1", ["13 at a count of volumes"]), (b"1 0", ["13 at a count of paths"]),
+            (b"1 49", ["1 at a count of paths"]), (b"1 1 0", ["13 at a count of intervals"]),
+            (b"1 1 1 3", ["13 at an index outside"]), (b"1 1 2 2 2", ["13 at an index twice"]),
+            (b"1 2 1 1 0", ["13 at a count of intervals"]),
+            (b"2 1 1 1 0", ["13 at a count of paths"]),
+            (b"", ["11 in the third section"]), (b"0 0", ["11 in the third section"]),
+            (b"1 1 1 x", ["11 in the third section"]),
+            (b"1 2 1 1 1 2", ["volumes", "a path row", "a slack beside volumes",
+                              "an ideal by the row of a path"]),
+            (b"1 2 2 2 1 2 1 2", ["volumes", "a path row", "two equal paths",
+                                  "indices that do not rise", "a slack beside volumes"]),
+            (b"1 2 2 1 2 1 2", ["volumes", "a path row", "an interval on both paths",
+                                "a slack beside volumes"])):
+        check("kinds of %r" % section, generate.volume_kinds(head + section), kinds)
+    check("nothing before the third section", generate.volume_kinds(b"2 1 9 0 9 1 0 0 -1"), [])

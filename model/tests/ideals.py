@@ -34,8 +34,10 @@ def row(*indices, kind=0, coefficient=1):
     return (kind, 0, len(indices)) + tuple(number for term in terms for number in term)
 
 
-def text_of(intervals, rows):
-    lines = [(len(intervals),)] + intervals + [(len(rows),)] + rows
+def text_of(intervals, rows, volumes=()):
+    lines = [(len(intervals),)] + intervals + [(len(rows),)] + rows + [(len(volumes),)]
+    for paths in volumes:
+        lines += [(len(paths),)] + [(len(path), *path) for path in paths]
     return "\n".join(" ".join(map(str, line)) for line in lines).encode()
 
 

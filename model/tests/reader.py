@@ -9,7 +9,7 @@ import text
 from engine import PROBLEM_LISTS
 from tests.tools import check, make, solve, test
 
-SOUND = b"2\n1 9 1000\n1 9 0\n2\n0 4 2 1 1 2 1\n3 2 1 2 1\n"
+SOUND = b"2\n1 9 1000\n1 9 0\n2\n0 4 2 1 1 2 1\n3 2 1 2 1\n0\n"
 
 
 def refusal_of(data):
@@ -29,7 +29,7 @@ def buffers_of(deck):
 @test
 def reader_fills_the_buffers():
     data = (b"2\n1 9 1000\n-3 9 0\n5\n0 4 2 1 1 2 -1\n1 -5 1 2 7\n2 6 1 1 -1000\n"
-            b"3 12 2 1 1 2 1\n0 0 0\n")
+            b"3 12 2 1 1 2 1\n0 0 0\n0\n")
     deck = text.Deck()
     for name in PROBLEM_LISTS:
         buffer = getattr(deck, name)
@@ -82,12 +82,12 @@ def refusals_1_to_5_in_a_text():
     for row in (b"0 1000001 0", b"0 -1000001 0", b"1 1000001 0", b"2 -1000001 0",
                 b"3 -1 0", b"3 1000001 0", b"0 0 1 1 1001", b"0 0 1 1 -1001",
                 b"3 9999999999 0"):
-        check_text(b"1\n1 9 0\n1\n" + row, 3)
+        check_text(b"1\n1 9 0\n1\n" + row + b"\n0\n", 3)
     for interval in (b"1000001 1000001 0", b"-1000001 5 0", b"1 1000001 0", b"5 4 0",
                      b"1 -1000001 0", b"9999999999 1 1"):
-        check_text(b"1\n" + interval + b"\n0\n", 4)
+        check_text(b"1\n" + interval + b"\n0\n0\n", 4)
     for interval in (b"1 9 -1", b"1 9 1000000001", b"0 9 1", b"-4 9 1000", b"0 9 -1"):
-        check_text(b"1\n" + interval + b"\n0\n", 5)
+        check_text(b"1\n" + interval + b"\n0\n0\n", 5)
 
 
 @test
@@ -98,7 +98,7 @@ def limits_in_a_text_are_allowed():
                  b"48\n" + b"1 9 0 " * 48 + b"48 " + b"0 0 0 " * 48,
                  b"47\n" + b"1 9 0 " * 47 + b"2 3 2 1 47 1 0 5 1 1 1",
                  b" \n1 \n 1 9 0\n\n0 \n"):
-        check_text(data, 0)
+        check_text(data + b" 0", 0)
 
 
 @test
@@ -117,18 +117,19 @@ def refusal_12_in_a_text():
     for row in (b"4 0 0", b"-1 0 0", b"9999999999 0 0", b"0 0 3 1 1", b"0 0 -1",
                 b"0 0 1 0 1", b"0 0 1 3 1", b"0 0 1 -1 1", b"0 0 2 2 1 1 1",
                 b"0 0 2 1 1 1 1", b"0 0 1 1 0", b"3 5 2 1 1 3 1"):
-        check_text(head + row, 12)
+        check_text(head + row + b" 0", 12)
     full = b"48 " + b"1 9 0 " * 48
     for kind in (b"1", b"2", b"3"):
-        check_text(full + b"1 " + kind + b" 0 0", 12)
-    check_text(full + b"1 0 0 0", 0)
-    check_text(b"47 " + b"1 9 0 " * 47 + b"2 1 0 0 2 0 0", 12)
+        check_text(full + b"1 " + kind + b" 0 0 0", 12)
+    check_text(full + b"1 0 0 0 0", 0)
+    check_text(b"47 " + b"1 9 0 " * 47 + b"2 1 0 0 2 0 0 0", 12)
 
 
 @test
 def a_refused_text_leaves_the_deck():
-    for data in (b"", b"0", b"1 1 9 0 1 0 0 1 1 0", SOUND + b"1", b"x" * 40000,
-                 b"1 5 4 0 0", b"1 0 4 1 0", b"1 1 9 0 1 0 1000001 0"):
+    for data in (b"", b"0", b"1 1 9 0 1 0 0 1 1 0 0", SOUND + b"1", b"x" * 40000,
+                 b"1 5 4 0 0 0", b"1 0 4 1 0 0", b"1 1 9 0 1 0 1000001 0 0",
+                 b"1 1 9 0 0 -1", b"1 1 9 0 0 1 1 1 2", b"1 1 9 0 0 1 50"):
         deck = text.Deck()
         deck.coefficients[7] = 5
         deck.goals[47] = 6
@@ -140,7 +141,7 @@ def a_refused_text_leaves_the_deck():
 
 @test
 def reading_first_place_decides():
-    """The first place decides, also among 1, 3, 4, 5, 11 and 12."""
+    """The first place decides, also among 1, 3, 4, 5, 11, 12 and 13."""
     check_text(b"1\n1 9 -1\n49", 5)
     check_text(b"2\n1 9 -1\n9 1 0\n49", 5)
     check_text(b"2\n9 1 -1\nx", 4)
@@ -148,6 +149,8 @@ def reading_first_place_decides():
     check_text(b"1\n1 9 0\n2\n0 1000001 0\n0 0 1 1 0", 3)
     check_text(b"1\n1 9 0\n1\n0 0 1 1 1001 x", 3)
     check_text(b"1\n1 x 0\n99", 11)
+    check_text(b"1\n1 9 0\n1\n0 0 1 1 0\n-1", 12)
+    check_text(b"1\n1 9 0\n1\n0 0 1 1 1\n-1 x", 13)
     # on buffers the cause's number decides, over the whole problem
     problem = make(2, [[1, 1001]], [0], [(5, 4), (1, 9)], [-1, 0])
     check("3 before 4 before 5 on buffers", solve(problem)[0][0], 3)
@@ -180,8 +183,9 @@ def reading_runs_that_are_no_number():
     for run in (b"+5", b"007", b"00", b"-0", b"-", b"1-1", b"5\t", b"\t5", b"5\r",
                 b"\r", b"5\x00", b"\xb2", b"5\xff", b"\xd9\xa5", b"--5", b"-05", b"5.",
                 b"1_0", b"0x5", b"-00", b"5-", b"1e1", b"5\x0b", b"\x0c"):
-        check_text(b"1\n1 " + run + b" 0\n0\n", 11)
-        check_text(run + b" 1 9 0 0", 11)
+        check_text(b"1\n1 " + run + b" 0\n0\n0\n", 11)
+        check_text(run + b" 1 9 0 0 0", 11)
+        check_text(b"1 1 9 0 0 " + run, 11)
     check_text(SOUND.replace(b"\n", b"\r\n"), 11)
     check_text(SOUND.replace(b" ", b"\t"), 11)
 
@@ -199,7 +203,7 @@ def reading_places_of_4_and_5():
 def reading_even_and_coefficients():
     check_text(b"1 1 9 0 1 3 -1", 3)
     check_text(b"1 1 9 0 1 3 1000001", 3)
-    check_text(b"1 1 9 0 1 0 -1 0", 0)
+    check_text(b"1 1 9 0 1 0 -1 0 0", 0)
     check_text(b"1 1 9 0 1 0 0 1 1 0", 12)
     check_text(b"1 1 9 0 1 0 0 1 1 1001", 3)
     check_text(b"1 1 9 0 1 0 0 1 1 -1001", 3)
@@ -220,16 +224,17 @@ def reading_indices_name_intervals_only():
     head = b"2 1 9 0 1 9 0 2 1 0 0 "
     check_text(head + b"0 0 1 3 1", 12)
     check_text(head + b"0 0 3 1 1 2 1 3 1", 12)
-    check_text(head + b"0 0 2 1 1 2 1", 0)
+    check_text(head + b"0 0 2 1 1 2 1 0", 0)
 
 
 @test
 def reading_missing_and_too_many():
     check_text(b"1 1 9 0 1 0 0 1 1", 11)
-    check_text(b"1 1 9 0 0 0", 11)
-    check_text(b"1 1 9 0 0 49", 11)
-    check_text(b"1 1 9 0 0 x", 11)
-    check_text(b"1 1 9 0 0  \n", 0)
+    check_text(b"1 1 9 0 0", 11)
+    check_text(b"1 1 9 0 0 0 0", 11)
+    check_text(b"1 1 9 0 0 0 49", 11)
+    check_text(b"1 1 9 0 0 0 x", 11)
+    check_text(b"1 1 9 0 0 0  \n", 0)
 
 
 @test
@@ -239,7 +244,7 @@ def random_texts():
         deck.rights[47] = 9
         got = text.read(data, deck)
         if isinstance(got, int):
-            check("number of a refused text", got in (1, 3, 4, 5, 11, 12), True)
+            check("number of a refused text", got in (1, 3, 4, 5, 11, 12, 13), True)
             check("refused text leaves the deck", (deck.n, deck.m, deck.rights),
                   (0, 0, [0] * 47 + [9]))
             continue

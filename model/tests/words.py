@@ -1,5 +1,6 @@
-"""What decks/README.md says of OUTSIDE and FITTED, held to the sample decks, and what
-README.md says of rows that are said otherwise; of texts with plain curves that is less.
+"""What decks/README.md says of OUTSIDE and FITTED, and of a hold that is swept, held to the
+sample decks, and what README.md says of rows that are said otherwise; of texts with plain
+curves that is less.
 
 Both words say that no single vector of the basis and no pair of them improves. That no
 list within the bounds exists, or no better one, they do not say; here all are tried.
@@ -138,6 +139,46 @@ def outside_and_no_list_fits():
     check("bounds-conflict: none within the bounds", lists_within(*sample("bounds-conflict")), [])
 
 
+def table_of_lines(page):
+    """The lines of the page's table: their curves, and what each of these has."""
+    for cells in (line.split("|") for line in page.splitlines() if line.startswith("| ")):
+        shown = [int(word) for word in re.findall(r"\d+", cells[4])]
+        if shown:
+            yield [int(word) for word in re.findall(r"\d+", cells[2])][:len(shown)], shown
+
+
+@test
+def swept_hold():
+    """The page's table, the sums with the volumes and without, and where curve 1 starts."""
+    with open(os.path.join(DECKS, "README.md"), encoding="utf-8") as file:
+        page = file.read()
+    with open(os.path.join(DECKS, "swept-hold.txt"), "rb") as file:
+        data = file.read()
+    lines = list(table_of_lines(page))
+    _, _, volumes = text.read_sections(data)
+    paths = [[index + 1 for index in path] for volume in volumes for path in volume]
+    check("swept-hold: the table's lines are the paths", sorted(curves for curves, _ in lines),
+          sorted(map(list, set(map(tuple, paths)))))
+    deck = text.read(data)
+    values = solve(listing.problem_of(deck))[1].values
+    for curves, shown in lines:
+        check("swept-hold: what curves %s have" % curves, [values[i - 1] for i in curves], shown)
+        check("swept-hold: the sum along %s" % curves, sum(shown), 21)
+    check("swept-hold: curve 1 starts at", (deck.given[0], deck.ideals[0]), (1, 9))
+    # the page's second paragraph on the deck, on one line
+    said = " ".join(page.split("\nThe swash plate ")[1].split("\n\n")[0].split())
+    for words in ("curves 1 and 2 are equal", "it starts at 9,", "and sees 21."):
+        check("swept-hold: the page says " + words, words in said, True)
+    front = b"\n".join(data.splitlines()[:17]) + b"\n0\n"
+    older = text.read(front)
+    check("swept-hold: without the volumes curve 1 has no ideal", older.given[0], 0)
+    alone = solve(listing.problem_of(older))[1].values
+    check("swept-hold: without the volumes", [alone[:14]], lists_named(said))
+    sums = [sum(alone[i - 1] for i in curves) for curves, _ in lines]
+    check("swept-hold: the lines without the volumes",
+          "the lines %d, %d, %d, %d, %d and %d: neither" % tuple(sums) in said, True)
+
+
 @test
 def words_lists_within():
     """What the trying must see: lists with a y of each kind."""
@@ -145,7 +186,7 @@ def words_lists_within():
             (text.AT_LEAST, 3, [[1, 2, 0], [2, 1, 0], [2, 2, 1]]),
             (text.AT_MOST, 3, [[1, 1, 1], [1, 2, 0], [2, 1, 0]]),
             (text.EVEN, 2, [[2, 2, 2]])):
-        data = b"2 1 2 0 1 2 0 1 %d %d 2 1 1 2 1" % (kind, number)
+        data = b"2 1 2 0 1 2 0 1 %d %d 2 1 1 2 1 0" % (kind, number)
         problem = listing.problem_of(text.read(data))
         check("lists within, kind %d" % kind, lists_within(problem, 2), wanted)
 
@@ -156,7 +197,7 @@ EQUATION = b"0 3 1 1 2 1 3 -1 "
 
 def curves_of(rows):
     """The curves' lines of a listing: their intervals and strides."""
-    return listing.listing(CURVES + rows).splitlines()[1:4]
+    return listing.listing(CURVES + rows + b"0").splitlines()[1:4]
 
 
 @test
@@ -178,8 +219,8 @@ def texts_said_otherwise():
     reader's ideals go by the rows of the text, so that other rows, which the same lists
     satisfy, may set others: a sum of both rows brings curve 3 beside curve 1."""
     curves = b"4 1 100 0 1 100 0 1 100 7000 -50 50 0 2 0 0 2 2 1 3 -1 0 0 3 1 1 "
-    first = listing.problem_of(text.read(curves + b"2 -1 4 -1"))
-    second = listing.problem_of(text.read(curves + b"3 -1 4 -1"))
+    first = listing.problem_of(text.read(curves + b"2 -1 4 -1 0"))
+    second = listing.problem_of(text.read(curves + b"3 -1 4 -1 0"))
     check("starting lists and bases", solved(second), solved(first))
     check("ideals", (set_ideals(first), set_ideals(second)),
           ([None, 7, None, None], [7, 7, None, 7]))

@@ -1,5 +1,7 @@
 -- The root of the laws that the proofs cite.
 pub mod Marks
+pub mod Turns
 pub mod Lines
+pub mod Rows
 pub mod Reading
 pub mod Sums

@@ -2,7 +2,7 @@
 --   named-end                  one more index that names an interval
 --   entry-termed               what stands at a place once the terms of a path are placed
 --   entry-marks, marked-on     the mark of an interval, and whether it tells that the interval is on the path
---   marks-none, -more, -are    the marks of no index, of one more, and what all of them are
+--   marks-none, -more, -are    the marks of no index, of one more, and what all of them are; length-marks, how many
 --   on-without, named-without  the indices of a path that are not on another
 --   path-row                   path 1 less path k, as a row of n numbers; swept-row, of the largest size
 -- Assumes nothing.
@@ -60,7 +60,7 @@ placed-two [] b u = refl
 placed-two (t ∷ a) b u = placed-two a b (set u (t .index - 1) (t .coefficient))
 
 -- ---- marks
-length-marks : (p : SweepPath) → length (marksOf p) ≡ deckColumns
+pub length-marks : (p : SweepPath) → length (marksOf p) ≡ deckColumns
 length-marks p = length-placed (termsOf (pos 1) p) (blank deckColumns) ∙ length-blank deckColumns
 
 entry-blank : (n i : ℕ) → entry i (blank n) ≡ pos 0
@@ -72,19 +72,16 @@ entry-marks p n i w h =
     ∙ ap (cond (isOn (suc i) p) (pos 1)) (entry-blank deckColumns i)
 
 pub marked-on : (p : SweepPath) (n j : ℕ) → Named n p → 1 ≤ j → j ≤ deckColumns
-    → ((entry (j - 1) (marksOf p) ≡ pos 0 → ⊥) → isOn j p ≡ true) × (entry (j - 1) (marksOf p) ≡ pos 0 → isOn j p ≡ false)
+    → ((natAbs (entry (j - 1) (marksOf p)) ≡ 0 → ⊥) → isOn j p ≡ true) × (natAbs (entry (j - 1) (marksOf p)) ≡ 0 → isOn j p ≡ false)
 marked-on p n j w h k =
     let s : suc (j - 1) ≡ j = omega arith in
     let e : entry (j - 1) (marksOf p) ≡ cond (isOn j p) (pos 1) (pos 0) =
     entry-marks p n (j - 1) w (omega arith) ∙ ap (λ (i : ℕ). cond (isOn i p) (pos 1) (pos 0)) s in
-    go (isOn j p) e
+    go (isOn j p) (ap natAbs e)
   where
-    go : (t : Bool) → entry (j - 1) (marksOf p) ≡ cond t (pos 1) (pos 0)
-        → ((entry (j - 1) (marksOf p) ≡ pos 0 → ⊥) → t ≡ true) × (entry (j - 1) (marksOf p) ≡ pos 0 → t ≡ false)
-    go true e = ((λ f. refl), (λ f. absurd (one (sym e ∙ f))))
-      where
-        one : pos 1 ≡ pos 0 → ⊥
-        one z = let y : _≡_ {A = ℕ} 1 0 = ap natAbs z in omega arith
+    go : (t : Bool) → natAbs (entry (j - 1) (marksOf p)) ≡ natAbs (cond t (pos 1) (pos 0))
+        → ((natAbs (entry (j - 1) (marksOf p)) ≡ 0 → ⊥) → t ≡ true) × (natAbs (entry (j - 1) (marksOf p)) ≡ 0 → t ≡ false)
+    go true e = ((λ f. refl), (λ f. absurd (omega arith)))
     go false e = ((λ f. absurd (f e)), (λ f. refl))
 
 pub marks-none : blank deckColumns ≡ marksOf []

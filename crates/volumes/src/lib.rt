@@ -39,7 +39,7 @@ fn read_indices(s: &[u8], at: usize, k: usize, count: usize, marks: &mut [i64]) 
         match g {
             Got::Value(v, e) => {
                 let j = natural(v) - 1;
-                if marks[j] != 0 {
+                if natural(marks[j]) != 0 {
                     return Step::Refused(Refusal::Volume);
                 }
                 marks[j] = 1;
@@ -134,7 +134,7 @@ fn count_paths(s: &[u8], at: usize, rows: usize) -> Got
     let g = least(s, at, 1, Refusal::Volume);
     match g {
         Got::Value(k, e) => {
-            if Sizes::ROWS < rows + (natural(k) - 1) {
+            if Sizes::ROWS - rows < natural(k) - 1 {
                 Got::Refused(Refusal::Size)
             } else {
                 Got::Value(k, e)

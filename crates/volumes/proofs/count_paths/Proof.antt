@@ -1,0 +1,72 @@
+-- `volumes::count_paths` meets its contract: a count, and then room for the rows of its later paths. Assumes nothing.
+use mathlib.Core.Path.{_≡_, _∙_, ap}
+use native.Mathlib.Omega.{arith}
+use lib.IntN.{ℤ, natAbs}
+use mir.Syntax.{w64}
+use mir.Val.{toZ, ofZ}
+use Rattle.problem.specs.declared.Refusal.the-variants.{Volume}
+use Rattle.sections.specs.SectionsRead.{gotOf}
+use Rattle.sections.proofs.Numbers.{least-in}
+use Rattle.volumes.proofs.Turns.{count-room, count-full, count-no}
+use borrow.Author.Needs.{needs}
+use Rattle.volumes.proofs.count_paths.Statement.{statement}
+use Rattle.volumes.proofs.count_paths.Tie as tie
+
+least-requires : tie.Need-least-requires
+least-requires c κs = search needs
+
+enum-known-g : tie.Need-enum-known-g
+enum-known-g c = search needs
+
+sub-if1 : tie.Need-sub-if1
+sub-if1 c = search needs
+
+natural-requires : tie.Need-natural-requires
+natural-requires c κs = search needs
+
+sub-if1-2 : tie.Need-sub-if1-2
+sub-if1-2 c =
+    let x = c .before .before .before .before .before .before .args in
+    let v : ℤ = c .before .before .g .given .0 .0 in
+    let b : toZ w64 (ofZ w64 v) ≡ v = search needs in
+    let n : c .natural .result ≡ natAbs v = rw b at (c .natural .ensures) in
+    omega (arith, n, least-in (x .s .now) 1 Volume v (x .at) _ (c .before .before .before .before .least .ensures ∙ ap gotOf (c .before .before .g .given .1)))
+
+enum-known-g-2 : tie.Need-enum-known-g-2
+enum-known-g-2 c = search needs
+
+returns : tie.Need-returns
+returns c =
+    let x = c .before .before .before .before .before .before .before .args in
+    let v : ℤ = c .before .before .before .g .given .0 .0 in
+    let b : toZ w64 (ofZ w64 v) ≡ v = search needs in
+    let n : c .before .natural .result ≡ natAbs v = rw b at (c .before .natural .ensures) in
+    count-full (x .s .now) (x .rows) (x .at) _ v (c .before .before .before .before .before .least .ensures ∙ ap gotOf (c .before .before .before .g .given .1)) (omega (arith, n, c .if1 .taken))
+
+returns-2 : tie.Need-returns-2
+returns-2 c =
+    let x = c .before .before .before .before .before .before .before .args in
+    let v : ℤ = c .before .before .before .g .given .0 .0 in
+    let b : toZ w64 (ofZ w64 v) ≡ v = search needs in
+    let n : c .before .natural .result ≡ natAbs v = rw b at (c .before .natural .ensures) in
+    let few = c .before .before .before .before .before .before .before .pre in
+    count-room (x .s .now) (x .rows) (x .at) _ v (c .before .before .before .before .before .least .ensures ∙ ap gotOf (c .before .before .before .g .given .1)) (omega (arith, n, c .if1 .left, few)) ∙ (rw b)
+
+returns-3 : tie.Need-returns-3
+returns-3 c =
+    let x = c .before .before .before .before .before .args in
+    count-no (x .s .now) (x .rows) (x .at) 0 _ (c .before .before .before .least .ensures ∙ ap gotOf (c .before .g2 .given .1))
+
+pub count-paths-spec : {M : Type 1} → statement M
+count-paths-spec =
+    tie.close
+    (tie.spec
+    least-requires
+    enum-known-g
+    sub-if1
+    natural-requires
+    sub-if1-2
+    enum-known-g-2
+    returns
+    returns-2
+    returns-3)

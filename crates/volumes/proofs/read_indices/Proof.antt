@@ -1,0 +1,219 @@
+-- `volumes::read_indices` meets its contract. The invariant: what is left to read, after the indices done, is what was to be read, and the marks are
+-- those of the indices done. Assumes nothing.
+use mathlib.Core.Path.{_≡_, sym, _∙_, ap}
+use mathlib.Core.Bool.{true, false}
+use mathlib.Core.List.{List, [], _∷_, _++_}
+use Prim.Native.Nat.{ℕ, _+_, _-_, _≤_, _<_}
+use native.Mathlib.Omega.{arith}
+use borrow.Author.Needs.{needs, sfits-of}
+use lib.IntN.{ℤ, pos, natAbs}
+use lib.ListN.{length, set}
+use mir.Syntax.{w64}
+use mir.Val.{toZ, ofZ}
+use mir.Facts.{toZ-ofZ}
+use Rattle.whole.specs.Lists.{entry}
+use Rattle.problem.specs.declared.Refusal.the-variants.{Volume}
+use Rattle.sections.specs.Rules.{ok, no, within}
+use Rattle.sections.specs.Sections.{deckColumns}
+use Rattle.sections.specs.StatedColumns.{blank}
+use Rattle.sections.specs.SectionsRead.{gotOf}
+use Rattle.sections.proofs.Numbers.{count-in}
+use Rattle.sections.proofs.Storage.{length-blank}
+use Rattle.volumes.specs.Volumes.{SweepPath, isOn, index, indices}
+use Rattle.volumes.specs.VolumesRead.{Named, marksOf}
+use Rattle.volumes.proofs.Marks.{named-end, marked-on, marks-none, marks-more, length-marks}
+use Rattle.volumes.proofs.Turns.{index-read, index-twice, index-no, indices-more, indices-stop, indices-end}
+use Rattle.volumes.proofs.read_indices.Statement.{statement}
+use Rattle.volumes.proofs.read_indices.Tie as tie
+
+record Sofar (s : List ℕ) (at k count i p : ℕ) (u : List ℤ) : Type 0 where
+  small : i ≤ k
+  done : SweepPath
+  named : Named deckColumns done
+  rest : indices s (k - i) count done p ≡ indices s k count [] at
+  marks : u ≡ marksOf done
+
+room : {s : List ℕ} {at k count i p : ℕ} {u : List ℤ} → Sofar s at k count i p u → length u ≡ deckColumns
+room v = ap length (v .marks) ∙ length-marks (v .done)
+
+long : {u : List ℤ} → u ≡ blank deckColumns → length u ≡ deckColumns
+long e = ap length e ∙ length-blank deckColumns
+
+-- the index that was read
+record Read (s : List ℕ) (count p : ℕ) (v : ℤ) (e n : ℕ) : Type 0 where
+  read : within s (pos 1) (pos count) Volume p ≡ ok v e
+  is : n ≡ natAbs v
+  low : 1 ≤ n
+  high : n ≤ deckColumns
+
+-- a marked index comes twice
+twice : {s : List ℕ} {at k count i p : ℕ} {u : List ℤ} {v : ℤ} {e n : ℕ} → Sofar s at k count i p u → i < k → Read s count p v e n
+    → (natAbs (entry (n - 1) u) ≡ 0 → ⊥) → indices s k count [] at ≡ no Volume
+twice {s} {at} {k} {count} {i} {p} {u} {v} {e} {n} f h r z =
+    let o : isOn n (f .done) ≡ true = marked-on (f .done) deckColumns n (f .named) (r .low) (r .high) .0 (rw (f .marks) at z) in
+    sym (f .rest) ∙ indices-stop s count (f .done) p 0 (k - i) Volume (omega arith) (index-twice s count (f .done) p e v (r .read) (rw (r .is) at o))
+
+-- another one is marked
+more : {s : List ℕ} {at k count i p : ℕ} {u : List ℤ} {v : ℤ} {e n : ℕ} → Sofar s at k count i p u → i < k → Read s count p v e n
+    → natAbs (entry (n - 1) u) ≡ 0 → Sofar s at k count (i + 1) e (set u (n - 1) (pos 1))
+more {s} {at} {k} {count} {i} {p} {u} {v} {e} {n} f h r z =
+    let j : k - (i + 1) ≡ k - i - 1 = omega arith in
+    let o : isOn n (f .done) ≡ false = marked-on (f .done) deckColumns n (f .named) (r .low) (r .high) .1 (rw (f .marks) at z) in
+    let q : index s count (f .done) p ≡ ok n e = index-read s count (f .done) p e v (r .read) (rw (r .is) at o) ∙ ap (λ (j : ℕ). ok j e) (sym (r .is)) in
+    record {
+      small = omega arith;
+      done = f .done ++ (n ∷ []);
+      named = named-end deckColumns (f .done) n (f .named) (r .low, r .high);
+      rest = rw j (sym (indices-more s count (f .done) p e (k - i) n (omega arith) q) ∙ f .rest);
+      marks = ap (λ (w : List ℤ). set w (n - 1) (pos 1)) (f .marks) ∙ marks-more (f .done) n;
+    }
+
+abbrev Inv-loop : tie.InvT-loop
+Inv-loop s at k count marks₀ p₀ i₀ marks p i = Sofar s at k count i p marks
+
+abbrev μ-loop : tie.MeasureT-loop
+μ-loop s at k count marks₀ p₀ i₀ marks p i = k - i
+
+loop-holds : tie.Need-loop-holds Inv-loop μ-loop
+loop-holds c =
+    let x = c .before .args in
+    let z : x .k - 0 ≡ x .k = omega arith in
+    record {
+      small = omega arith;
+      done = [];
+      named = tt;
+      rest = ap (λ (j : ℕ). indices (x .s .now) j (x .count) [] (x .at)) z;
+      marks = c .before .pre .1 ∙ marks-none;
+    }
+
+signed-requires : tie.Need-signed-requires Inv-loop μ-loop
+signed-requires c κs = search needs
+
+within-requires : tie.Need-within-requires Inv-loop μ-loop
+within-requires c κs = search needs
+
+enum-known-g : tie.Need-enum-known-g Inv-loop μ-loop
+enum-known-g c = search needs
+
+natural-requires : tie.Need-natural-requires Inv-loop μ-loop
+natural-requires c κs = search needs
+
+found : (d : tie.After-natural Inv-loop μ-loop)
+    → Read (d .before .before .before .before .before .before .before .before .before .args .s .now)
+    (d .before .before .before .before .before .before .before .before .before .args .count)
+    (d .before .before .before .before .before .before .before .loop .p) (d .before .before .g .given .0 .0) (d .before .before .g .given .0 .1 .0)
+    (d .natural .result)
+found d =
+    let start = d .before .before .before .before .before .before .before .before .before in
+    let x = start .args in
+    let sg = d .before .before .before .before .before .signed in
+    let g = d .before .before .g .given in
+    let b : toZ w64 (ofZ w64 (g .0 .0)) ≡ g .0 .0 = search needs in
+    let h : toZ w64 (ofZ w64 (sg .result)) ≡ pos (x .count) = toZ-ofZ (sfits-of (sg .ok)) ∙ sg .ensures in
+    let r : within (x .s .now) (pos 1) (pos (x .count)) Volume (d .before .before .before .before .before .before .before .loop .p)
+    ≡ ok (g .0 .0) (g .0 .1 .0) = (rw h at (d .before .before .before .before .within .ensures)) ∙ ap gotOf (g .1) in
+    let n : d .natural .result ≡ natAbs (g .0 .0) = rw b at (d .natural .ensures) in
+    let w = count-in (x .s .now) 1 (x .count) Volume (g .0 .0) _ _ r in
+    record { read = r; is = n; low = omega (arith, n, w .0); high = omega (arith, n, w .1, start .pre .0) }
+
+sub-j : tie.Need-sub-j Inv-loop μ-loop
+sub-j c = omega (arith, found c .low)
+
+mul-natural : tie.Need-mul-natural Inv-loop μ-loop
+mul-natural c = omega (arith, found c .high)
+
+slice-copy-out-natural : tie.Need-slice-copy-out-natural Inv-loop μ-loop
+slice-copy-out-natural c = omega (arith, found c .low, found c .high, room (c .before .before .before .before .before .before .before .loop .inv))
+
+natural-requires-2 : tie.Need-natural-requires-2 Inv-loop μ-loop
+natural-requires-2 c κs = search needs
+
+same-length : tie.Need-same-length Inv-loop μ-loop
+same-length c = room (c .before .before .before .before .before .before .before .before .before .before .loop .inv) ∙ sym (long (c .before .before .before .before .before .before .before .before .before .before .before .before .pre .1))
+
+returns : tie.Need-returns Inv-loop μ-loop
+returns c =
+    let f = found (c .before .before .before) in
+    let l = c .before .before .before .before .before .before .before .before .before .before .loop in
+    let b : toZ w64 (ofZ w64 (entry (c .before .before .before .natural .result - 1) (l .marks))) ≡ entry (c .before .before .before .natural .result - 1) (l .marks) = search needs in
+    twice (l .inv) (omega arith) f (rw (rw b at (c .before .natural2 .ensures)) at (c .if1 .taken))
+
+mul-marks : tie.Need-mul-marks Inv-loop μ-loop
+mul-marks c =
+    let f = found (c .before .before .before) in
+    omega (arith, f .high)
+
+slice-set-of-marks : tie.Need-slice-set-of-marks Inv-loop μ-loop
+slice-set-of-marks c =
+    let f = found (c .before .before .before) in
+    omega (arith, f .low, f .high, room (c .before .before .before .before .before .before .before .before .before .before .loop .inv))
+
+enum-known-g-2 : tie.Need-enum-known-g-2 Inv-loop μ-loop
+enum-known-g-2 c = search needs
+
+same-length-2 : tie.Need-same-length-2 Inv-loop μ-loop
+same-length-2 c = room (c .before .before .before .before .before .before .loop .inv) ∙ sym (long (c .before .before .before .before .before .before .before .before .pre .1))
+
+returns-2 : tie.Need-returns-2 Inv-loop μ-loop
+returns-2 c =
+    let x = c .before .before .before .before .before .before .before .before .args in
+    let l = c .before .before .before .before .before .before .loop in
+    let h : toZ w64 (ofZ w64 (c .before .before .before .before .signed .result)) ≡ pos (x .count) = toZ-ofZ (sfits-of (c .before .before .before .before .signed .ok)) ∙ c .before .before .before .before .signed .ensures in
+    sym (l .inv .rest) ∙ indices-stop (x .s .now) (x .count) (l .inv .done) (l .p) 0 (x .k - l .i) _ (omega arith)
+    (index-no (x .s .now) (x .count) (l .inv .done) (l .p) 0 _ ((rw h at (c .before .before .before .within .ensures)) ∙ ap gotOf (c .before .g2 .given .1)))
+
+add-i : tie.Need-add-i Inv-loop μ-loop
+add-i c = omega arith
+
+loop-less : tie.Need-loop-less Inv-loop μ-loop
+loop-less c = omega arith
+
+loop-again : tie.Need-loop-again Inv-loop μ-loop
+loop-again c =
+    let f = found (c .before .before .before) in
+    let l = c .before .before .before .before .before .before .before .before .before .before .loop in
+    let b : toZ w64 (ofZ w64 (entry (c .before .before .before .natural .result - 1) (l .marks))) ≡ entry (c .before .before .before .natural .result - 1) (l .marks) = search needs in
+    more (l .inv) (omega arith) f (rw (rw b at (c .before .natural2 .ensures)) at (c .if1 .left))
+
+same-length-3 : tie.Need-same-length-3 Inv-loop μ-loop
+same-length-3 c = room (c .before .loop .inv) ∙ sym (long (c .before .before .before .pre .1))
+
+returns-3 : tie.Need-returns-3 Inv-loop μ-loop
+returns-3 c =
+    let x = c .before .before .before .args in
+    let l = c .before .loop in
+    let e : x .k - l .i ≡ 0 = omega arith in
+    record {
+      path = l .inv .done;
+      read = sym (l .inv .rest) ∙ (rw e (indices-end (x .s .now) (x .count) (l .inv .done) (l .p) 0));
+      named = l .inv .named;
+      marks = l .inv .marks;
+    }
+
+pub read-indices-spec : {M : Type 1} → statement M
+read-indices-spec =
+    tie.close
+    (tie.spec
+    Inv-loop
+    μ-loop
+    loop-holds
+    signed-requires
+    within-requires
+    enum-known-g
+    natural-requires
+    sub-j
+    mul-natural
+    slice-copy-out-natural
+    natural-requires-2
+    same-length
+    returns
+    mul-marks
+    slice-set-of-marks
+    enum-known-g-2
+    same-length-2
+    returns-2
+    add-i
+    loop-less
+    loop-again
+    same-length-3
+    returns-3)
