@@ -32,7 +32,7 @@ use Rattle.volumes.specs.Volumes.{Volume, volumeSection}
 use Rattle.volumes.specs.PathLines.{sweptLines}
 use Rattle.volumes.specs.Sweeping.{Sweeps}
 use Rattle.volumes.proofs.Lines.{slacks-two, tables-two, swept-slacks, swept-rights, termRow, swept-table}
-use Rattle.volumes.proofs.Reading.{AllProper, then-ok, section-read}
+use Rattle.volumes.proofs.Reading.{AllProper, then-ok, section-proper}
 use Rattle.volumes.proofs.Sums.{swept-zero}
 use Rattle.deck.specs.Posing.{Deck, deck, readDeck, linesOf, countOf, posed}
 use Rattle.solve.specs.Swept.{unswept, VolumesSatisfied}
@@ -60,7 +60,7 @@ deck-proper s d at h = go (ltb maxText (length s)) h
         let ls = b .what in
         let c = then-ok (volumeSection s (length is) (length ls) (b .at)) (λ vs at. closed s (made is ls vs) at) d at (b .second) in
         let e : made is ls (c .what) ≡ d = closed-same (made is ls (c .what)) d (c .at) at (nextAt s (c .at)) (c .second) in
-        subst ProperDeck {x = made is ls (c .what)} e (section-read s (length is) (length ls) (b .at) (c .at) (c .what) (c .first))
+        subst ProperDeck {x = made is ls (c .what)} e (section-proper s (length is) (length ls) (b .at) (c .at) (c .what) (c .first))
 
     go : (t : Bool) → cond t (no Layout) (deck s) ≡ ok d at → ProperDeck d
     go true h = absurd (ok-not-no h)

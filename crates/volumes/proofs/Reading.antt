@@ -3,7 +3,7 @@
 --   Proper n p             the path p of a text with n intervals: its indices name intervals, none comes twice
 --   EachProper, AllProper  so it is on each path of a volume, and of all volumes
 --   Then o f b e           what stood between, where one thing was read after another; then-ok finds it
---   section-read           the volumes that were read are so
+--   section-proper         the volumes that were read are so
 -- Assumes nothing.
 use mathlib.Core.Path.{_≡_, refl, sym, subst}
 use mathlib.Core.Bool.{Bool, true, false, cond}
@@ -70,8 +70,8 @@ then-ok (no why) f b e h = absurd (ok-not-no h)
 
 -- ---- the section
 module _ (s : List ℕ) (count : ℕ) where
-  index-read : (done : SweepPath) (at e j : ℕ) → index s count done at ≡ ok j e → ((1 ≤ j) × (j ≤ count)) × (isOn j done ≡ false)
-  index-read done at e j h =
+  index-proper : (done : SweepPath) (at e j : ℕ) → index s count done at ≡ ok j e → ((1 ≤ j) × (j ≤ count)) × (isOn j done ≡ false)
+  index-proper done at e j h =
       let t = then-ok (within s (pos 1) (pos count) WrongVolume at) (λ v at. cond (isOn (natAbs v) done) (no WrongVolume) (ok (natAbs v) at)) j e h in
       new (natAbs (t .what)) (t .at) (isOn (natAbs (t .what)) done) refl (count-in s 1 count WrongVolume (t .what) at (t .at) (t .first)) (t .second)
     where
@@ -80,44 +80,44 @@ module _ (s : List ℕ) (count : ℕ) where
       new i p true f r h = absurd (ok-not-no h)
       new i p false f r h = subst (λ (i : ℕ). ((1 ≤ i) × (i ≤ count)) × (isOn i done ≡ false)) (same-ok h) (r, f)
 
-  indices-read : (k : ℕ) (done : SweepPath) (at e : ℕ) (p : SweepPath) → indices s k count done at ≡ ok p e → Proper count done → Proper count p
+  indices-proper : (k : ℕ) (done : SweepPath) (at e : ℕ) (p : SweepPath) → indices s k count done at ≡ ok p e → Proper count done → Proper count p
   unfolding indices
-  indices-read zero done at e p h w = subst (Proper count) (same-ok h) w
-  indices-read (suc k) done at e p h w =
+  indices-proper zero done at e p h w = subst (Proper count) (same-ok h) w
+  indices-proper (suc k) done at e p h w =
       let t = then-ok (index s count done at) (λ j at. indices s k count (done ++ (j ∷ [])) at) p e h in
       let j = t .what in
-      let i = index-read done at (t .at) j (t .first) in
-      indices-read k (done ++ (j ∷ [])) (t .at) e p (t .second) (named-end count done j (w .0) (i .0), distinct-end done j (w .1) (i .1))
+      let i = index-proper done at (t .at) j (t .first) in
+      indices-proper k (done ++ (j ∷ [])) (t .at) e p (t .second) (named-end count done j (w .0) (i .0), distinct-end done j (w .1) (i .1))
 
-  path-read : (at e : ℕ) (p : SweepPath) → path s count at ≡ ok p e → Proper count p
-  path-read at e p h =
+  path-proper : (at e : ℕ) (p : SweepPath) → path s count at ≡ ok p e → Proper count p
+  path-proper at e p h =
       let t = then-ok (least s (pos 1) WrongVolume at) (λ k at. indices s (natAbs k) count [] at) p e h in
-      indices-read (natAbs (t .what)) [] (t .at) e p (t .second) (tt, tt)
+      indices-proper (natAbs (t .what)) [] (t .at) e p (t .second) (tt, tt)
 
-  paths-read : (k : ℕ) (done : Volume) (at e : ℕ) (v : Volume) → paths s k count done at ≡ ok v e → EachProper count done → EachProper count v
+  paths-proper : (k : ℕ) (done : Volume) (at e : ℕ) (v : Volume) → paths s k count done at ≡ ok v e → EachProper count done → EachProper count v
   unfolding paths
-  paths-read zero done at e v h w = subst (EachProper count) (same-ok h) w
-  paths-read (suc k) done at e v h w =
+  paths-proper zero done at e v h w = subst (EachProper count) (same-ok h) w
+  paths-proper (suc k) done at e v h w =
       let t = then-ok (path s count at) (λ p at. paths s k count (done ++ (p ∷ [])) at) v e h in
       let p = t .what in
-      paths-read k (done ++ (p ∷ [])) (t .at) e v (t .second) (each-end count done p w (path-read at (t .at) p (t .first)))
+      paths-proper k (done ++ (p ∷ [])) (t .at) e v (t .second) (each-end count done p w (path-proper at (t .at) p (t .first)))
 
-  volume-read : (rows at e : ℕ) (v : Volume) → volume s count rows at ≡ ok v e → EachProper count v
-  volume-read rows at e v h =
+  volume-proper : (rows at e : ℕ) (v : Volume) → volume s count rows at ≡ ok v e → EachProper count v
+  volume-proper rows at e v h =
       let t = then-ok (pathCount s rows at) (λ k at. paths s k count [] at) v e h in
-      paths-read (t .what) [] (t .at) e v (t .second) tt
+      paths-proper (t .what) [] (t .at) e v (t .second) tt
 
-  volumes-read : (k rows : ℕ) (done : List Volume) (at e : ℕ) (vs : List Volume) → volumes s k count rows done at ≡ ok vs e → AllProper count done
+  volumes-proper : (k rows : ℕ) (done : List Volume) (at e : ℕ) (vs : List Volume) → volumes s k count rows done at ≡ ok vs e → AllProper count done
       → AllProper count vs
   unfolding volumes
-  volumes-read zero rows done at e vs h w = subst (AllProper count) (same-ok h) w
-  volumes-read (suc k) rows done at e vs h w =
+  volumes-proper zero rows done at e vs h w = subst (AllProper count) (same-ok h) w
+  volumes-proper (suc k) rows done at e vs h w =
       let t = then-ok (volume s count rows at) (λ v at. volumes s k count (rows + laterPaths (length v)) (done ++ (v ∷ [])) at) vs e h in
       let v = t .what in
-      volumes-read k (rows + laterPaths (length v)) (done ++ (v ∷ [])) (t .at) e vs (t .second)
-      (all-end count done v w (volume-read rows at (t .at) v (t .first)))
+      volumes-proper k (rows + laterPaths (length v)) (done ++ (v ∷ [])) (t .at) e vs (t .second)
+      (all-end count done v w (volume-proper rows at (t .at) v (t .first)))
 
-  pub section-read : (rows at e : ℕ) (vs : List Volume) → volumeSection s count rows at ≡ ok vs e → AllProper count vs
-  section-read rows at e vs h =
+  pub section-proper : (rows at e : ℕ) (vs : List Volume) → volumeSection s count rows at ≡ ok vs e → AllProper count vs
+  section-proper rows at e vs h =
       let t = then-ok (least s (pos 0) WrongVolume at) (λ k at. volumes s (natAbs k) count rows [] at) vs e h in
-      volumes-read (natAbs (t .what)) rows [] (t .at) e vs (t .second) tt
+      volumes-proper (natAbs (t .what)) rows [] (t .at) e vs (t .second) tt
