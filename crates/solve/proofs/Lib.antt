@@ -2,3 +2,4 @@
 pub mod Laws
 pub mod Cases
 pub mod Listed
+pub mod Swept

@@ -3,3 +3,5 @@ pub mod Marks
 pub mod Turns
 pub mod Lines
 pub mod Rows
+pub mod Reading
+pub mod Sums
