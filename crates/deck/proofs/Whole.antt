@@ -14,13 +14,13 @@
 -- Assumes nothing.
 use mathlib.Core.Path.{_≡_, refl, sym, ap, _∙_, subst}
 use mathlib.Core.Bool.{true, false}
-use mathlib.Core.List.{List, _++_, map}
+use mathlib.Core.List.{List, _++_, map, append-assoc}
 use Prim.Native.Nat.{ℕ, _+_, _-_, _*_, _≤_, _<_}
 use native.Mathlib.Omega.{arith}
 use borrow.Author.Tests.{eqb-true, lt-ltb, le-ltb}
 use lib.Dec.{T, eqb}
-use lib.IntN.{ℤ}
-use lib.ListN.{length, take, drop, length-append, length-map}
+use lib.IntN.{ℤ, pos}
+use lib.ListN.{length, take, drop, length-append, length-map, length-replicate, replicate-append-replicate}
 use lib.Seq.{length-take-le}
 use Rattle.whole.specs.Lists.{zeros, entry}
 use Rattle.whole.proofs.Tests.{both-true}
@@ -49,7 +49,11 @@ use Rattle.deck.specs.ReaderTables.{noneLeft, DeckStored, compacted, pic
 use Rattle.deck.specs.declared.Reading.the-variants.{Read}
 use Rattle.sections.proofs.Numbers.{same-ok, ok-not-no}
 use Rattle.sections.proofs.Limits.{Within, section-within}
-use Rattle.sections.proofs.Storage.{padded-written, from-blank, wiped, cells-two, length-cells, length-rows, few-cells}
+use Rattle.sections.proofs.Storage.{map-two, rows-two, padded-written, from-blank, wiped, cells-two, length-cells, length-rows, few-cells}
+use Rattle.volumes.specs.Volumes.{Volume, volumeSection}
+use Rattle.volumes.specs.PathLines.{sweptLines}
+use Rattle.volumes.specs.VolumesRead.{VolumesDone, volumesDone, volumesLeft}
+use Rattle.volumes.proofs.Lines.{swept-rights, no-column}
 use Rattle.deck.proofs.Lists.{compacted-is, picked-is, padded-long}
 use Rattle.deck.proofs.Handing.{stated-padded, small-columns, given-padded, ideals-padded}
 
@@ -224,22 +228,13 @@ pub few-intervals : {o : Outcome (List Interval)} {p : Cursor} {k : List ℤ} �
 few-intervals i h = omega (arith, i .intervals, length-cells (i .is), fits-padded columnCells _ (cells (i .is)) (i .columns-is) h)
 
 -- ---- the rows of volumes behind the others
--- they add no column
-no-slacks : (ls : List Line) (vs : List Volume) → slackColumns (ls ++ sweptLines vs) ≡ slackColumns ls
-no-slacks ls vs =
-    slacks-two ls (sweptLines vs) ∙ ap (λ (y : List Interval). slackColumns ls ++ y) (swept-slacks vs) ∙ append-nil (slackColumns ls)
-
 -- their right sides are the 0 that is there
-zeros-two : (a b : ℕ) → zeros a ++ zeros b ≡ zeros (a + b)
-zeros-two zero b = let z : 0 + b ≡ b = omega arith in ap zeros (sym z)
-zeros-two (suc a) b = let z : suc a + b ≡ suc (a + b) = omega arith in ap (λ (l : List ℤ). pos 0 ∷ l) (zeros-two a b) ∙ ap zeros (sym z)
-
 padded-zeros : (size k : ℕ) (u : List ℤ) → length u + k ≤ size → padded size (u ++ zeros k) ≡ padded size u
 padded-zeros size k u h =
     let l : length (u ++ zeros k) ≡ length u + k = length-append u (zeros k) ∙ ap (λ (j : ℕ). length u + j) (length-replicate k (pos 0)) in
     let z : k + (size - length (u ++ zeros k)) ≡ size - length u = omega arith in
     append-assoc u (zeros k) (zeros (size - length (u ++ zeros k)))
-    ∙ ap (λ (x : List ℤ). u ++ x) (zeros-two k (size - length (u ++ zeros k)) ∙ ap zeros z)
+    ∙ ap (λ (x : List ℤ). u ++ x) (replicate-append-replicate k (size - length (u ++ zeros k)) (pos 0) ∙ ap zeros z)
 
 same-rights : (ls : List Line) (vs : List Volume) → length ls + length (sweptLines vs) ≤ deckRows
     → padded deckRows (map rightOf ls) ≡ padded deckRows (map rightOf (ls ++ sweptLines vs))
@@ -247,7 +242,7 @@ same-rights ls vs h =
     sym (ap (padded deckRows) (map-two rightOf ls (sweptLines vs) ∙ ap (λ (x : List ℤ). map rightOf ls ++ x) (swept-rights vs))
     ∙ padded-zeros deckRows (length (sweptLines vs)) (map rightOf ls) (omega (arith, length-map ls rightOf)))
 
-module _ (s : List ℕ) (p q c : Cursor) (k k' b t t' : List ℤ) (i : IntervalsFound (intervalSection s 0) p k)
+module _ (s : List ℕ) (p q : Cursor) (k k' b t : List ℤ) (i : IntervalsFound (intervalSection s 0) p k)
     (w : RowsFound (p .intervals) k (rowSection s (p .intervals) (p .at)) q k' b t) where
   sections : deck s ≡ afterVolumes s (i .is) (w .ls) (volumeSection s (q .intervals) (q .rows) (q .at))
   sections =
@@ -262,7 +257,7 @@ module _ (s : List ℕ) (p q c : Cursor) (k k' b t t' : List ℤ) (i : Intervals
   pub deck-volumes : (why : Refusal) → volumeSection s (q .intervals) (q .rows) (q .at) ≡ no why → deck s ≡ no why
   deck-volumes why h = sections ∙ ap (afterVolumes s (i .is) (w .ls)) h
 
-  module _ (v : VolumesFound q t (volumeSection s (q .intervals) (q .rows) (q .at)) c t') where
+  module _ (c : Cursor) (t' : List ℤ) (v : VolumesFound q t (volumeSection s (q .intervals) (q .rows) (q .at)) c t') where
     abbrev whole : Deck
     whole = record { intervals = i .is; lines = w .ls; volumes = v .vs }
 
@@ -280,7 +275,7 @@ module _ (s : List ℕ) (p q c : Cursor) (k k' b t t' : List ℤ) (i : Intervals
         let m : length (i .is) ≡ p .intervals = sym (i .intervals) in
         let a = length-cells (i .is) in
         let y = length-cells ys in
-        let z = no-slacks (w .ls) (v .vs) in
+        let z = no-column (w .ls) (v .vs) in
         let few = fits-padded columnCells k (cells (i .is)) (i .columns-is) hk in
         let f = fits-written k k' (cells ys) (p .intervals * columnWidth) (w .columns-is) (omega arith) (hk' ∙ sym hk) in
         let l : length (cells (i .is)) ≡ p .intervals * columnWidth = a ∙ ap (λ (j : ℕ). j * columnWidth) m in
@@ -289,22 +284,27 @@ module _ (s : List ℕ) (p q c : Cursor) (k k' b t t' : List ℤ) (i : Intervals
         let lu : length u ≡ q .rows * deckColumns = length-rows deckColumns (p .intervals) (w .ls) ∙ ap (λ (j : ℕ). j * deckColumns) (sym (w .rows)) in
         let lx = length-rows deckColumns (q .columns) ms in
         let g = fits-written t t' x (q .rows * deckColumns) (v .table-is) (omega (arith, few-lines hb, ht)) (ht' ∙ sym ht) in
-        let rows = omega (arith, g, lx, ht) in
+        let few-rows : q .rows + length ms ≤ deckRows = omega (arith, g, lx, ht) in
+        let two = rows-two deckColumns (p .intervals) (w .ls) ms ∙ ap (λ (j : ℕ). u ++ coefficientRows deckColumns j ms) (sym (w .columns)) in
         record {
           deck = whole;
           read = read-whole ∙ closed-is whole (c .at) (nextAt s (c .at)) h;
-          columns = v .columns ∙ ?;
-          rows = v .rows ∙ ?;
+          columns = omega (arith, v .columns, w .columns, m, length-append (i .is) (slackColumns (w .ls ++ ms)), ap length z);
+          rows = omega (arith, v .rows, w .rows, length-append (w .ls) ms);
           intervals = v .intervals ∙ w .intervals ∙ i .intervals;
           few = omega (arith, w .columns, v .columns);
-          few-rows = ?;
+          few-rows = omega (arith, v .rows);
           columns-is =
               w .columns-is ∙
               (rw (i .columns-is)
               (padded-written columnCells (p .intervals * columnWidth) (cells (i .is)) (cells ys) l (omega arith) ∙
               ap (padded columnCells) (sym (cells-two (i .is) ys) ∙ ap (λ (y : List Interval). cells (i .is ++ y)) (sym z))));
-          rights-is = w .rights-is ∙ same-rights (w .ls) (v .vs) ?;
-          table-is = ?;
+          rights-is = w .rights-is ∙ same-rights (w .ls) (v .vs) (omega (arith, w .rows));
+          table-is =
+              v .table-is ∙
+              (rw (w .table-is)
+              (padded-written coefficientCount (q .rows * deckColumns) u x lu (omega (arith, lx)) ∙
+              ap (padded coefficientCount) (sym two ∙ ap (λ (j : ℕ). coefficientRows deckColumns j (w .ls ++ ms)) (i .intervals))));
         }
 
 -- ---- the call

@@ -2,9 +2,9 @@
 --   map-two, length-snoc, blank-is, length-blank   lists
 --   padded-none, padded-written, from-blank, wiped   a buffer of 0 that is filled from the front, and one that is set to 0
 --   cells-two, -one, -more, length-cells       columns side by side in their table
---   length-slack, slacks-more                  the y's of rows
+--   length-slack, slacks-two, -more            the y's of rows: end to end, and one more row
 --   placed-none, -more, length-placed, length-withSlack, length-row   a row's coefficients
---   rows-more, length-rows, few-cells          rows one after the other, and how many numbers they have within the limits
+--   rows-two, -more, length-rows, few-cells    rows end to end, one more, and how many numbers they have within the limits
 --   columns-more, rights-more, table-more      the next row's column, right side and coefficients
 -- Assumes nothing.
 use mathlib.Core.Path.{_≡_, refl, sym, ap, _∙_}
@@ -97,12 +97,16 @@ pub length-slack : (y : Slack) → length (slackColumn y) ≡ kinds.slackColumns
 length-slack none = refl
 length-slack (slack k lo) = refl
 
+pub slacks-two : (ls ms : List Line) → slackColumns (ls ++ ms) ≡ slackColumns ls ++ slackColumns ms
+unfolding slackColumns
+slacks-two [] ms = refl
+slacks-two (l ∷ ls) ms =
+    let y = slackColumn (slackOf (l .row .kind)) in
+    ap (λ (x : List Interval). y ++ x) (slacks-two ls ms) ∙ sym (append-assoc y (slackColumns ls) (slackColumns ms))
+
 pub slacks-more : (done : List Line) (l : Line) → slackColumns (done ++ (l ∷ [])) ≡ slackColumns done ++ slackColumn (slackOf (l .row .kind))
 unfolding slackColumns
-slacks-more [] l = append-nil (slackColumn (slackOf (l .row .kind)))
-slacks-more (d ∷ done) l =
-    ap (λ (x : List Interval). slackColumn (slackOf (d .row .kind)) ++ x) (slacks-more done l) ∙
-    sym (append-assoc (slackColumn (slackOf (d .row .kind))) (slackColumns done) (slackColumn (slackOf (l .row .kind))))
+slacks-more done l = slacks-two done (l ∷ []) ∙ ap (λ (x : List Interval). slackColumns done ++ x) (append-nil (slackColumn (slackOf (l .row .kind))))
 
 -- ---- a row's coefficients
 pub placed-none : (u : List ℤ) → u ≡ placed [] u
@@ -128,18 +132,25 @@ length-row n c l =
     length-withSlack (slackOf (l .row .kind)) c (placed (l .terms) (zeros n)) ∙ (length-placed (l .terms) (zeros n) ∙ length-replicate n (pos 0))
 
 -- ---- rows one after the other
+pub rows-two : (n c : ℕ) (ls ms : List Line)
+    → coefficientRows n c (ls ++ ms) ≡ coefficientRows n c ls ++ coefficientRows n (c + length (slackColumns ls)) ms
+unfolding coefficientRows slackColumns
+rows-two n c [] ms = let z : c + 0 ≡ c = omega arith in rw z
+rows-two n c (l ∷ ls) ms =
+    let y = slackColumn (slackOf (l .row .kind)) in
+    let k = slackCount (l .row .kind) in
+    let z : c + k + length (slackColumns ls) ≡ c + length (y ++ slackColumns ls) =
+    rw (length-append y (slackColumns ls)) (omega (arith, length-slack (slackOf (l .row .kind)))) in
+    ap (λ (x : List ℤ). coefficientRow n c l ++ x) (rows-two n (c + k) ls ms) ∙
+    (sym (append-assoc (coefficientRow n c l) (coefficientRows n (c + k) ls) (coefficientRows n (c + k + length (slackColumns ls)) ms)) ∙
+    ap (λ (j : ℕ). (coefficientRow n c l ++ coefficientRows n (c + k) ls) ++ coefficientRows n j ms) z)
+
 pub rows-more : (n c : ℕ) (done : List Line) (l : Line)
     → coefficientRows n c (done ++ (l ∷ [])) ≡ coefficientRows n c done ++ coefficientRow n (c + length (slackColumns done)) l
-unfolding coefficientRows slackColumns
-rows-more n c [] l = let z : c + 0 ≡ c = omega arith in append-nil (coefficientRow n c l) ∙ (rw z)
-rows-more n c (d ∷ done) l =
-    let y = slackColumn (slackOf (d .row .kind)) in
-    let k = slackCount (d .row .kind) in
-    let z : c + k + length (slackColumns done) ≡ c + length (y ++ slackColumns done) =
-    rw (length-append y (slackColumns done)) (omega (arith, length-slack (slackOf (d .row .kind)))) in
-    ap (λ (x : List ℤ). coefficientRow n c d ++ x) (rows-more n (c + k) done l) ∙
-    (sym (append-assoc (coefficientRow n c d) (coefficientRows n (c + k) done) (coefficientRow n (c + k + length (slackColumns done)) l)) ∙
-    ap (λ (j : ℕ). (coefficientRow n c d ++ coefficientRows n (c + k) done) ++ coefficientRow n j l) z)
+unfolding coefficientRows
+rows-more n c done l =
+    let k : ℕ = c + length (slackColumns done) in
+    rows-two n c done (l ∷ []) ∙ ap (λ (x : List ℤ). coefficientRows n c done ++ x) (append-nil (coefficientRow n k l))
 
 pub length-rows : (n c : ℕ) (ls : List Line) → length (coefficientRows n c ls) ≡ length ls * n
 unfolding coefficientRows

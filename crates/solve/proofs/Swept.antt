@@ -31,7 +31,7 @@ use Rattle.sections.proofs.Storage.{map-two}
 use Rattle.volumes.specs.Volumes.{Volume, volumeSection}
 use Rattle.volumes.specs.PathLines.{sweptLines}
 use Rattle.volumes.specs.Sweeping.{Sweeps}
-use Rattle.volumes.proofs.Lines.{slacks-two, tables-two, swept-slacks, swept-rights, termRow, swept-table}
+use Rattle.volumes.proofs.Lines.{tables-two, swept-rights, no-column, termRow, swept-table}
 use Rattle.volumes.proofs.Reading.{AllProper, then-ok, section-proper}
 use Rattle.volumes.proofs.Sums.{swept-zero}
 use Rattle.deck.specs.Posing.{Deck, deck, readDeck, linesOf, countOf, posed}
@@ -91,9 +91,6 @@ lines-satisfied n c k ls vs x h w =
     (sym (ap₂ (λ (T : List (List ℤ)) (r : List ℤ). Satisfies n T r x) table rights)) parts
 
 -- ---- the theorem
-no-column : (ls : List Line) (vs : List Volume) → slackColumns (ls ++ sweptLines vs) ≡ slackColumns ls
-no-column ls vs = slacks-two ls (sweptLines vs) ∙ ap (λ (u : List Interval). slackColumns ls ++ u) (swept-slacks vs) ∙ append-nil (slackColumns ls)
-
 none-swept : (d : Deck) → linesOf (unswept d) ≡ d .lines
 unfolding sweptLines
 none-swept d = append-nil (d .lines)

@@ -1,11 +1,10 @@
 -- Laws of lines end to end, and of the lines that volumes add.
---   slacks-two, rows-two          lines end to end: their y's, and their rows, where those behind start at the next free column
---   tables-two                    their rows as a table
---   swept-slacks, swept-rights    a path's line is an equal row with the number 0: it has no y, and its right side is 0
+--   tables-two                    the rows of lines end to end, as a table
+--   swept-slacks, -rights, no-column   a path's line is an equal row with the number 0: it has no y, and its right side is 0
 --   termRow n l                   the row of a line without a y: its terms alone; swept-table, those of the lines that volumes add
 -- Assumes nothing.
 use mathlib.Core.Path.{_≡_, refl, sym, ap, ap₂, _∙_}
-use mathlib.Core.List.{List, [], _∷_, _++_, map, append-assoc}
+use mathlib.Core.List.{List, [], _∷_, _++_, map, append-nil}
 use Prim.Native.Nat.{ℕ, _+_, _*_}
 use native.Mathlib.Omega.{arith}
 use lib.IntN.{ℤ, pos}
@@ -18,31 +17,11 @@ use Rattle.problem.specs.Kinds.{slackOf, slackCount}
 use Rattle.sections.specs.Sections.{Line}
 use Rattle.sections.specs.StatedColumns.{rightOf, slackColumn, slackColumns, placed, coefficientRow, coefficientRows}
 use Rattle.sections.specs.declared.Interval.{Interval}
-use Rattle.sections.proofs.Storage.{length-slack, length-row, length-rows}
+use Rattle.sections.proofs.Storage.{slacks-two, rows-two, length-row, length-rows}
 use Rattle.volumes.specs.Volumes.{SweepPath, Volume}
 use Rattle.volumes.specs.PathLines.{pathLine, sweptLines}
 
 -- ---- lines end to end
-pub slacks-two : (ls ms : List Line) → slackColumns (ls ++ ms) ≡ slackColumns ls ++ slackColumns ms
-unfolding slackColumns
-slacks-two [] ms = refl
-slacks-two (l ∷ ls) ms =
-    let y = slackColumn (slackOf (l .row .kind)) in
-    ap (λ (x : List Interval). y ++ x) (slacks-two ls ms) ∙ sym (append-assoc y (slackColumns ls) (slackColumns ms))
-
-pub rows-two : (n c : ℕ) (ls ms : List Line)
-    → coefficientRows n c (ls ++ ms) ≡ coefficientRows n c ls ++ coefficientRows n (c + length (slackColumns ls)) ms
-unfolding coefficientRows slackColumns
-rows-two n c [] ms = let z : c + 0 ≡ c = omega arith in rw z
-rows-two n c (l ∷ ls) ms =
-    let y = slackColumn (slackOf (l .row .kind)) in
-    let k = slackCount (l .row .kind) in
-    let z : c + k + length (slackColumns ls) ≡ c + length (y ++ slackColumns ls) =
-    rw (length-append y (slackColumns ls)) (omega (arith, length-slack (slackOf (l .row .kind)))) in
-    ap (λ (x : List ℤ). coefficientRow n c l ++ x) (rows-two n (c + k) ls ms) ∙
-    (sym (append-assoc (coefficientRow n c l) (coefficientRows n (c + k) ls) (coefficientRows n (c + k + length (slackColumns ls)) ms)) ∙
-    ap (λ (j : ℕ). (coefficientRow n c l ++ coefficientRows n (c + k) ls) ++ coefficientRows n j ms) z)
-
 pub tables-two : (n c : ℕ) (ls ms : List Line)
     → chop (length (ls ++ ms)) n (coefficientRows n c (ls ++ ms))
     ≡ chop (length ls) n (coefficientRows n c ls) ++ chop (length ms) n (coefficientRows n (c + length (slackColumns ls)) ms)
@@ -67,6 +46,10 @@ unfolding slackColumns sweptLines
 swept-slacks [] = refl
 swept-slacks ([] ∷ vs) = swept-slacks vs
 swept-slacks ((first ∷ ps) ∷ vs) = later-slacks first ps (sweptLines vs) ∙ swept-slacks vs
+
+pub no-column : (ls : List Line) (vs : List Volume) → slackColumns (ls ++ sweptLines vs) ≡ slackColumns ls
+no-column ls vs =
+    slacks-two ls (sweptLines vs) ∙ ap (λ (y : List Interval). slackColumns ls ++ y) (swept-slacks vs) ∙ append-nil (slackColumns ls)
 
 later-rights : (first : SweepPath) (ps : List SweepPath) (ls : List Line) → map rightOf ls ≡ zeros (length ls)
     → map rightOf (map (pathLine first) ps ++ ls) ≡ zeros (length (map (pathLine first) ps ++ ls))

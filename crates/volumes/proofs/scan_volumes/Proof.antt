@@ -19,12 +19,12 @@ use Rattle.sections.specs.declared.Cursor.{Cursor}
 use Rattle.sections.specs.declared.Interval.{Interval}
 use Rattle.sections.specs.declared.Section.{Section}
 use Rattle.sections.specs.declared.Section.the-variants.{Read}
-use Rattle.sections.proofs.Storage.{length-rows}
+use Rattle.sections.proofs.Storage.{rows-two, length-rows}
 use Rattle.volumes.specs.Volumes.{Volume, laterPaths, volume, volumes, volumeSection}
 use Rattle.volumes.specs.PathLines.{volumeLines, sweptLines}
 use Rattle.volumes.specs.VolumesRead.{VolumeStored, VolumeRead, volumesDone, volumesLeft}
 use Rattle.volumes.proofs.Turns.{volumes-more, volumes-stop, volumes-end, section-read, section-no}
-use Rattle.volumes.proofs.Lines.{rows-two, swept-slacks}
+use Rattle.volumes.proofs.Lines.{swept-slacks}
 use Rattle.volumes.proofs.Rows.{length-volume, swept-end}
 use Rattle.volumes.proofs.scan_volumes.Statement.{statement}
 use Rattle.volumes.proofs.scan_volumes.Tie as tie
