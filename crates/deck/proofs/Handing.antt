@@ -20,7 +20,7 @@ use Rattle.sections.specs.Sections.{deckColumns}
 use Rattle.sections.specs.StatedColumns.{lowerOf, upperOf, goalOf, slackColumns, padded}
 use Rattle.sections.specs.declared.Interval.{Interval}
 use Rattle.sections.proofs.Limits.{Within}
-use Rattle.deck.specs.Posing.{Deck, linesOf, lowers, uppers, goals}
+use Rattle.deck.specs.Posing.{Deck, allLines, lowers, uppers, goals}
 use Rattle.deck.proofs.Lists.{entry-padded, entry-front}
 
 pub stated-padded : (n m k a b : ℕ) (c lo hi gs : List ℤ)
@@ -44,7 +44,7 @@ small-front f most size u v h j l =
 pub small-columns : (size : ℕ) (d : Deck) → Within (d .intervals)
     → SmallColumns (length (d .intervals)) (padded size (lowers d)) (padded size (uppers d)) (padded size (goals d))
 small-columns size d w =
-    let ys = slackColumns (linesOf d) in
+    let ys = slackColumns (allLines d) in
     record {
       lower = small-front lowerOf _ size (d .intervals) ys (w .lower);
       upper = small-front upperOf _ size (d .intervals) ys (w .upper);

@@ -43,7 +43,7 @@ use Rattle.sections.specs.declared.Interval.{Interval}
 use Rattle.sections.specs.declared.Cursor.{Cursor}
 use Rattle.sections.specs.declared.Section.{Section}
 use Rattle.sections.specs.declared.Section.the-variants as section
-use Rattle.deck.specs.Posing.{Deck, deck, readDeck, columnsOf, linesOf, countOf, coefficientsOf, lowers, uppers, goals, stated, posed}
+use Rattle.deck.specs.Posing.{Deck, deck, readDeck, columnsOf, allLines, countOf, coefficientsOf, lowers, uppers, goals, stated, posed}
 use Rattle.deck.specs.Reader.{DeckBuffers, deckBuffers, readDone, lengthsFit, turnedBack, accepted, read}
 use Rattle.deck.specs.ReaderTables.{noneLeft, DeckStored, compacted, picked}
 use Rattle.deck.specs.declared.Reading.the-variants.{Read}
@@ -375,7 +375,7 @@ table-is o o₁ o₂ t n m c ls a h k q e f x =
 -- lent lists that a deck's tables went out into
 pub record Holds (d : Deck) (c b l u g : List ℤ) : Type 0 where
   pub coefficients : c ≡ padded coefficientCount (coefficientsOf d)
-  pub rights : b ≡ padded deckRows (map rightOf (linesOf d))
+  pub rights : b ≡ padded deckRows (map rightOf (allLines d))
   pub lower : l ≡ padded deckColumns (lowers d)
   pub upper : u ≡ padded deckColumns (uppers d)
   pub goals : g ≡ padded deckColumns (goals d)
@@ -393,9 +393,9 @@ module _ (s : List ℕ) (c : Cursor) (k b t : List ℤ) (st : DeckStored (deck s
       let i : ℕ = length (d .intervals) in
       record {
         coefficients =
-            table-is (B .coefficients) o₁ c' t (c .columns) (c .rows) i (linesOf d) (sizes B f .coefficients) (st .few) (st .few-rows) (st .rows) e₁ e₂
+            table-is (B .coefficients) o₁ c' t (c .columns) (c .rows) i (allLines d) (sizes B f .coefficients) (st .few) (st .few-rows) (st .rows) e₁ e₂
             (st .table-is) ∙
-            ap (λ (j : ℕ). padded coefficientCount (coefficientRows j i (linesOf d))) (st .columns);
+            ap (λ (j : ℕ). padded coefficientCount (coefficientRows j i (allLines d))) (st .columns);
         rights = eb ∙ st .rights-is;
         lower = column-is 0 lowerOf (λ i r. refl) k l' (columnsOf d) few (st .columns-is) el;
         upper = column-is 1 upperOf (λ i r. refl) k u' (columnsOf d) few (st .columns-is) eu;
@@ -410,7 +410,7 @@ module _ (s : List ℕ) (c : Cursor) (k b t : List ℤ) (st : DeckStored (deck s
         record {
           few = st .few;
           few-rows = st .few-rows;
-          intervals = omega (arith, st .intervals, st .columns, length-append (d .intervals) (slackColumns (linesOf d)));
+          intervals = omega (arith, st .intervals, st .columns, length-append (d .intervals) (slackColumns (allLines d)));
           coefficients =
               omega (
                 arith,
@@ -432,7 +432,7 @@ module _ (s : List ℕ) (c : Cursor) (k b t : List ℤ) (st : DeckStored (deck s
     states =
         let d = st .deck in
         (λ i. statedBy (st .columns i) (st .rows i) (st .intervals i) (q .coefficients i) (q .lower i) (q .upper i) (q .goals i))
-        ∙ stated-padded (countOf d) (length (linesOf d)) (length (d .intervals)) coefficientCount deckColumns (coefficientsOf d) (lowers d) (uppers d)
+        ∙ stated-padded (countOf d) (length (allLines d)) (length (d .intervals)) coefficientCount deckColumns (coefficientsOf d) (lowers d) (uppers d)
         (goals d)
 
     pub accepting : (B : DeckBuffers) (a' x' : List ℤ) → lengthsFit B ≡ true → length s ≤ maxText
@@ -443,7 +443,7 @@ module _ (s : List ℕ) (c : Cursor) (k b t : List ℤ) (st : DeckStored (deck s
     accepting B a' x' f h ea ex =
         let d = st .deck in
         let z = sizes B f .given in
-        let front : length (d .intervals) ≤ countOf d = omega (arith, length-append (d .intervals) (slackColumns (linesOf d))) in
+        let front : length (d .intervals) ≤ countOf d = omega (arith, length-append (d .intervals) (slackColumns (allLines d))) in
         let pa = ea ∙ (λ i. givenOf (states i) (z i)) ∙ given-padded (stated d) (countOf d) front few in
         let px = ex ∙ (λ i. idealsOf (states i) (z i)) ∙ ideals-padded (stated d) (countOf d) front few in
         (λ i. readDone (Read (st .columns i) (st .rows i) (st .intervals i))

@@ -2,7 +2,7 @@
 --   Deck            the intervals, the lines and the volumes of a text
 --   deck s          the deck of a text's sections, one after the other, and nothing behind them
 --   readDeck s      the deck that the text s states, or the refusal of its first place that breaks a rule
---   linesOf d       the rows: the lines, and "after all rows so far" those that the volumes add
+--   allLines d      the rows: the lines, and "after all rows so far" those that the volumes add
 --   columnsOf d     the columns: the intervals, then the y of each row that has one; countOf d, how many
 --   coefficientsOf, lowers, uppers, goals d   the lists that the deck states, of just the lengths that n and m need
 --   stated d        what it states of its rows and columns
@@ -40,17 +40,17 @@ deck s =
 unfoldable pub readDeck : List ℕ → Outcome Deck
 readDeck s = cond (ltb maxText (length s)) (no Layout) (deck s)
 
-abbrev pub linesOf : Deck → List Line
-linesOf d = d .lines ++ sweptLines (d .volumes)
+abbrev pub allLines : Deck → List Line
+allLines d = d .lines ++ sweptLines (d .volumes)
 
 abbrev pub columnsOf : Deck → List Interval
-columnsOf d = d .intervals ++ slackColumns (linesOf d)
+columnsOf d = d .intervals ++ slackColumns (allLines d)
 
 abbrev pub countOf : Deck → ℕ
 countOf d = length (columnsOf d)
 
 abbrev pub coefficientsOf : Deck → List ℤ
-coefficientsOf d = coefficientRows (countOf d) (length (d .intervals)) (linesOf d)
+coefficientsOf d = coefficientRows (countOf d) (length (d .intervals)) (allLines d)
 
 abbrev pub lowers : Deck → List ℤ
 lowers d = map lowerOf (columnsOf d)
@@ -62,13 +62,13 @@ abbrev pub goals : Deck → List ℤ
 goals d = map goalOf (columnsOf d)
 
 abbrev pub stated : Deck → Stated
-stated d = statedBy (countOf d) (length (linesOf d)) (length (d .intervals)) (coefficientsOf d) (lowers d) (uppers d) (goals d)
+stated d = statedBy (countOf d) (length (allLines d)) (length (d .intervals)) (coefficientsOf d) (lowers d) (uppers d) (goals d)
 
 unfoldable pub posed : ℕ → Deck → Posed
 posed limit d = record {
-  problem = record { columns = countOf d; rows = length (linesOf d); limit = limit };
+  problem = record { columns = countOf d; rows = length (allLines d); limit = limit };
   coefficients = coefficientsOf d;
-  rights = map rightOf (linesOf d);
+  rights = map rightOf (allLines d);
   lower = lowers d;
   upper = uppers d;
   goals = goals d;

@@ -19,7 +19,7 @@ use Rattle.problem.specs.declared.Refusal.the-variants.{Length}
 use Rattle.sections.specs.Rules.{Outcome, ok, no}
 use Rattle.sections.specs.Sections.{deckColumns, deckRows, coefficientCount}
 use Rattle.sections.specs.StatedColumns.{padded}
-use Rattle.deck.specs.Posing.{Deck, readDeck, linesOf, columnsOf, posed}
+use Rattle.deck.specs.Posing.{Deck, readDeck, allLines, columnsOf, posed}
 use Rattle.deck.specs.declared.Reading.{Reading}
 use Rattle.deck.specs.declared.Reading.the-variants.{Read, Refused}
 
@@ -78,7 +78,7 @@ turnedBack why B = readDone (Refused why) B
 
 -- the buffers hold no step limit, so that any serves here
 abbrev pub accepted : Deck → ReadDone
-accepted d = readDone (Read (length (columnsOf d)) (length (linesOf d)) (length (d .intervals))) (filled (posed 0 d))
+accepted d = readDone (Read (length (columnsOf d)) (length (allLines d)) (length (d .intervals))) (filled (posed 0 d))
 
 abbrev pub onDeck : Outcome Deck → DeckBuffers → ReadDone
 onDeck (ok d at) B = accepted d

@@ -19,7 +19,7 @@ use Rattle.sections.specs.StatedColumns.{rightOf, coefficientRows, columnWidth,
 use Rattle.sections.specs.declared.Cursor.{Cursor}
 use Rattle.sections.specs.declared.Section.{Section}
 use Rattle.sections.specs.declared.Section.the-variants as section
-use Rattle.deck.specs.Posing.{Deck, linesOf, columnsOf}
+use Rattle.deck.specs.Posing.{Deck, allLines, columnsOf}
 
 abbrev pub noneLeft : Next → Bool
 noneLeft (Found t e) = false
@@ -29,13 +29,13 @@ pub record DeckStored (o : Outcome Deck) (c : Cursor) (k b t : List ℤ) : Type 
   pub deck : Deck
   pub read : o ≡ ok deck (c .at)
   pub columns : c .columns ≡ length (columnsOf deck)
-  pub rows : c .rows ≡ length (linesOf deck)
+  pub rows : c .rows ≡ length (allLines deck)
   pub intervals : c .intervals ≡ length (deck .intervals)
   pub few : c .columns ≤ deckColumns
   pub few-rows : c .rows ≤ deckRows
   pub columns-is : k ≡ padded columnCells (cells (columnsOf deck))
-  pub rights-is : b ≡ padded deckRows (map rightOf (linesOf deck))
-  pub table-is : t ≡ padded coefficientCount (coefficientRows deckColumns (length (deck .intervals)) (linesOf deck))
+  pub rights-is : b ≡ padded deckRows (map rightOf (allLines deck))
+  pub table-is : t ≡ padded coefficientCount (coefficientRows deckColumns (length (deck .intervals)) (allLines deck))
 
 abbrev pub DeckRead : Outcome Deck → Section → (k b t : List ℤ) → Type 0
 DeckRead o (section.Read c) k b t = DeckStored o c k b t

@@ -23,6 +23,8 @@ use Rattle.engine.specs.Assign.{settleOn, assign}
 use Rattle.neighbours.specs.Neighbours.{numbersFrom, neighbourWish}
 use Rattle.sections.specs.Sections.{intervals, terms, lines}
 use Rattle.sections.specs.StatedColumns.{slackColumns, placed, coefficientRows}
+use Rattle.volumes.specs.Volumes.{isOn, indices, paths, volumes}
+use Rattle.volumes.specs.PathLines.{without, termsOf, sweptLines}
 use Rattle.deck.specs.Posing.{readDeck, posed}
 use Rattle.report.specs.Listing.{linesFrom, listing}
 use Rattle.solve.specs.Program.{printed}
@@ -33,8 +35,8 @@ unfolding numbersFrom neighbourWish
     every divisorBy divisor plus neg allZero lead dot sums stretch allDigits value decimal anyBeyond firstCause tableauFrom tableau lowered
     reduced each choose exchange clear round gather passColumn passColumns eliminate sweep leading remaining rightSide form solve goalIdeal ideal
     seatOne seat singles pairsWith pairs moves moved measure isRanked passes improves insert rankFrom firstMove firstColumn stepAt stepOf nextStep
-    settleFrom settle stride stridesFrom settleOn assign intervals terms lines readDeck slackColumns placed coefficientRows posed linesFrom listing
-    printed
+    settleFrom settle stride stridesFrom settleOn assign intervals terms lines isOn indices paths volumes without termsOf sweptLines readDeck slackColumns placed
+    coefficientRows posed linesFrom listing printed
 deck-cases = record {
   half = refl;
   whole = refl;

@@ -35,7 +35,7 @@ use Rattle.sections.specs.Rules.{Outcome, ok, no}
 use Rattle.sections.specs.Sections.{deckColumns, deckRows, coefficientCount}
 use Rattle.sections.specs.StatedColumns.{lowerOf, upperOf, goalOf, rightOf, padded, blank}
 use Rattle.neighbours.specs.Neighbours.{givenOf, idealsOf}
-use Rattle.deck.specs.Posing.{Deck, readDeck, columnsOf, countOf, coefficientsOf, lowers, uppers, goals, stated, posed}
+use Rattle.deck.specs.Posing.{Deck, allLines, readDeck, columnsOf, countOf, coefficientsOf, lowers, uppers, goals, stated, posed}
 use Rattle.deck.specs.Reader.{DeckBuffers, ReadDone, deckBuffers, readDone, lengthsFit, onDeck, read}
 use Rattle.deck.specs.declared.Reading.{Reading}
 use Rattle.deck.specs.declared.Reading.the-variants.{Read, Refused as TurnedBack}
@@ -150,9 +150,9 @@ pub record Taken (s : List ℕ) (n m : ℕ) (c b l u g a x : List ℤ) : Type 0 
   pub rest : ℕ
   pub is : readDeck s ≡ ok deck rest
   pub columns : n ≡ countOf deck
-  pub rows : m ≡ length (deck .lines)
+  pub rows : m ≡ length (allLines deck)
   pub coefficients : c ≡ padded (deckRows * deckColumns) (coefficientsOf deck)
-  pub rights : b ≡ padded deckRows (map rightOf (deck .lines))
+  pub rights : b ≡ padded deckRows (map rightOf (allLines deck))
   pub lower : l ≡ padded deckColumns (lowers deck)
   pub upper : u ≡ padded deckColumns (uppers deck)
   pub goals : g ≡ padded deckColumns (goals deck)
@@ -196,16 +196,16 @@ module _ {s : List ℕ} {n m : ℕ} {c b l u g a x : List ℤ} (T : Taken s n m 
       q
 
   pub few-rows : length b ≡ deckRows → m ≤ deckRows
-  few-rows q = within deckRows m (map rightOf (T .deck .lines)) b (T .rights) (T .rows ∙ sym (length-map (T .deck .lines) rightOf)) q
+  few-rows q = within deckRows m (map rightOf (allLines (T .deck))) b (T .rights) (T .rows ∙ sym (length-map (allLines (T .deck)) rightOf)) q
 
   cells : m * n ≡ length (coefficientsOf (T .deck))
-  cells = (λ i. T .rows i * T .columns i) ∙ sym (length-rows (countOf (T .deck)) (length (T .deck .intervals)) (T .deck .lines))
+  cells = (λ i. T .rows i * T .columns i) ∙ sym (length-rows (countOf (T .deck)) (length (T .deck .intervals)) (allLines (T .deck)))
 
   posed-is : problemPart n m c b l u g a x ≡ posed programLimit (T .deck)
   unfolding posed
   posed-is =
       let pc = part-is (deckRows * deckColumns) (m * n) _ c (T .coefficients) cells in
-      let pb = part-is deckRows m _ b (T .rights) (T .rows ∙ sym (length-map (T .deck .lines) rightOf)) in
+      let pb = part-is deckRows m _ b (T .rights) (T .rows ∙ sym (length-map (allLines (T .deck)) rightOf)) in
       let pl = part-is deckColumns n _ l (T .lower) (T .columns ∙ sym (length-map (columnsOf (T .deck)) lowerOf)) in
       let pu = part-is deckColumns n _ u (T .upper) (T .columns ∙ sym (length-map (columnsOf (T .deck)) upperOf)) in
       let pg = part-is deckColumns n _ g (T .goals) (T .columns ∙ sym (length-map (columnsOf (T .deck)) goalOf)) in

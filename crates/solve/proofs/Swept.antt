@@ -34,7 +34,7 @@ use Rattle.volumes.specs.Sweeping.{Sweeps}
 use Rattle.volumes.proofs.Lines.{tables-two, swept-rights, no-column, termRow, swept-table}
 use Rattle.volumes.proofs.Reading.{AllProper, then-ok, section-proper}
 use Rattle.volumes.proofs.Sums.{swept-zero}
-use Rattle.deck.specs.Posing.{Deck, deck, readDeck, linesOf, countOf, posed}
+use Rattle.deck.specs.Posing.{Deck, deck, readDeck, allLines, countOf, posed}
 use Rattle.solve.specs.Swept.{unswept, VolumesSatisfied}
 
 -- ---- what was read
@@ -91,7 +91,7 @@ lines-satisfied n c k ls vs x h w =
     (sym (ap₂ (λ (T : List (List ℤ)) (r : List ℤ). Satisfies n T r x) table rights)) parts
 
 -- ---- the theorem
-none-swept : (d : Deck) → linesOf (unswept d) ≡ d .lines
+none-swept : (d : Deck) → allLines (unswept d) ≡ d .lines
 unfolding sweptLines
 none-swept d = append-nil (d .lines)
 
@@ -107,7 +107,7 @@ volumes-satisfied s d at limit h x =
     let old : countOf (unswept d) ≡ n = ap (λ (u : List Interval). length (is ++ u)) (no-column ls []) in
     let wide : c ≤ n = omega (arith, length-append is (slackColumns ls)) in
     subst (λ (S : Type 0). S ↔ (SatisfiesRows (posed limit (unswept d)) x × Sweeps x vs))
-    (ap (λ (k : ℕ). Lines k c (linesOf d) x) (sym count))
-    (subst (λ (S : Type 0). Lines n c (linesOf d) x ↔ (S × Sweeps x vs))
+    (ap (λ (k : ℕ). Lines k c (allLines d) x) (sym count))
+    (subst (λ (S : Type 0). Lines n c (allLines d) x ↔ (S × Sweeps x vs))
     (ap₂ (λ (k : ℕ) (ms : List Line). Lines k c ms x) (sym old) (sym (none-swept d)))
     (lines-satisfied n c c ls vs x wide (deck-proper s d at h)))

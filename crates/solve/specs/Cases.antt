@@ -78,10 +78,11 @@ tied limit = problem 2 1 (pos 1 ∷ negsuc 0 ∷ []) (pos 0 ∷ []) (pos 1 ∷ p
 abbrev pub curve : List ℕ
 curve = 49 ∷ 32 ∷ 49 ∷ 48 ∷ 48 ∷ 48 ∷ 48 ∷ 48 ∷ 48 ∷ 32 ∷ 51 ∷ 48 ∷ 48 ∷ 48 ∷ 10 ∷ []
 
--- "3", the three curves, "1", "3 2 3 1 1 2 1 3 1"
+-- "3", the three curves, "1", "3 2 3 1 1 2 1 3 1", and the closing "0" of document 02, (iii)
 abbrev pub pavingText : List ℕ
 pavingText =
-    51 ∷ 10 ∷ (curve ++ curve ++ curve ++ 49 ∷ 10 ∷ 51 ∷ 32 ∷ 50 ∷ 32 ∷ 51 ∷ 32 ∷ 49 ∷ 32 ∷ 49 ∷ 32 ∷ 50 ∷ 32 ∷ 49 ∷ 32 ∷ 51 ∷ 32 ∷ 49 ∷ 10 ∷ [])
+    51 ∷ 10 ∷ (curve ++ curve ++ curve ++ 49 ∷ 10 ∷ 51 ∷ 32 ∷ 50 ∷ 32 ∷ 51 ∷ 32 ∷ 49 ∷ 32 ∷ 49 ∷ 32 ∷ 50 ∷ 32 ∷ 49 ∷ 32 ∷ 51 ∷ 32 ∷ 49 ∷ 10
+    ∷ 48 ∷ 10 ∷ [])
 
 -- "FITTED 0 0", "1 3 1", "2 3 1", "3 4 1", "4 5 1"
 abbrev pub pavingListing : List ℕ
