@@ -5,3 +5,4 @@ pub mod Lines
 pub mod Rows
 pub mod Reading
 pub mod Sums
+pub mod Cases
