@@ -29,6 +29,7 @@ STATEMENTS = {
     "neighbours/specs/Rule.antt": ["ReadersRule"],
     "solve/specs/Cases.antt": ["DeckCases"],
     "solve/specs/Program.antt": ["ListedWhole"],
+    "solve/specs/Swept.antt": ["VolumesSatisfied"],
     "runs/specs/CallRuns.antt": ["NoListTwice", "assignRun", "continueRun"],
     "tableau/specs/Theorems.antt": None,
 }

@@ -281,7 +281,8 @@ module _ (s : List ℕ) (p q : Cursor) (k k' b t : List ℤ) (i : IntervalsFound
         let l : length (cells (i .is)) ≡ p .intervals * columnWidth = a ∙ ap (λ (j : ℕ). j * columnWidth) m in
         let u : List ℤ = coefficientRows deckColumns (p .intervals) (w .ls) in
         let x : List ℤ = coefficientRows deckColumns (q .columns) ms in
-        let lu : length u ≡ q .rows * deckColumns = length-rows deckColumns (p .intervals) (w .ls) ∙ ap (λ (j : ℕ). j * deckColumns) (sym (w .rows)) in
+        let lu : length u ≡ q .rows * deckColumns = length-rows deckColumns (p .intervals) (w .ls) ∙ ap (λ (j : ℕ). j * deckColumns)
+        (sym (w .rows)) in
         let lx = length-rows deckColumns (q .columns) ms in
         let g = fits-written t t' x (q .rows * deckColumns) (v .table-is) (omega (arith, few-lines hb, ht)) (ht' ∙ sym ht) in
         let few-rows : q .rows + length ms ≤ deckRows = omega (arith, g, lx, ht) in
@@ -393,7 +394,8 @@ module _ (s : List ℕ) (c : Cursor) (k b t : List ℤ) (st : DeckStored (deck s
       let i : ℕ = length (d .intervals) in
       record {
         coefficients =
-            table-is (B .coefficients) o₁ c' t (c .columns) (c .rows) i (allLines d) (sizes B f .coefficients) (st .few) (st .few-rows) (st .rows) e₁ e₂
+            table-is (B .coefficients) o₁ c' t (c .columns) (c .rows) i (allLines d) (sizes B f .coefficients) (st .few) (st .few-rows)
+            (st .rows) e₁ e₂
             (st .table-is) ∙
             ap (λ (j : ℕ). padded coefficientCount (coefficientRows j i (allLines d))) (st .columns);
         rights = eb ∙ st .rights-is;
@@ -432,7 +434,8 @@ module _ (s : List ℕ) (c : Cursor) (k b t : List ℤ) (st : DeckStored (deck s
     states =
         let d = st .deck in
         (λ i. statedBy (st .columns i) (st .rows i) (st .intervals i) (q .coefficients i) (q .lower i) (q .upper i) (q .goals i))
-        ∙ stated-padded (countOf d) (length (allLines d)) (length (d .intervals)) coefficientCount deckColumns (coefficientsOf d) (lowers d) (uppers d)
+        ∙ stated-padded (countOf d) (length (allLines d)) (length (d .intervals)) coefficientCount deckColumns (coefficientsOf d) (lowers d)
+        (uppers d)
         (goals d)
 
     pub accepting : (B : DeckBuffers) (a' x' : List ℤ) → lengthsFit B ≡ true → length s ≤ maxText

@@ -1,7 +1,7 @@
 -- Laws of numbers read in a range, and of what a range says of them.
 --   same-ok, ok-not-no                equal outcomes were read alike, and none of them is a refusal
 --   number-token, -bad, -end          a number at a place, by the token there
---   within-in, abs-between, abs-within, count-in, least-in   what a range or a least number says of the number that was read
+--   within-in, abs-between, abs-within, count-in, no-less-in   what a range or a least number says of the number that was read
 --   coefficient-zero, -read, -no      a coefficient
 -- Assumes nothing.
 use mathlib.Core.Path.{_≡_, refl, sym, subst}
@@ -14,13 +14,12 @@ use lib.Dec.{T}
 use lib.IntN.{ℤ, pos, negsuc, natAbs}
 use lib.Signed.{leZ}
 use Rattle.text.specs.declared.Token.the-variants.{Number, Bad}
-use Rattle.text.specs.declared.Next.{Next}
 use Rattle.text.specs.declared.Next.the-variants.{Found, End}
 use Rattle.text.specs.Positions.{nextAt}
 use Rattle.problem.specs.declared.Refusal.{Refusal}
 use Rattle.problem.specs.declared.Refusal.the-variants.{Layout, Coefficient, Term as WrongTerm}
 use Rattle.problem.specs.Limits.{maxCoefficient}
-use Rattle.sections.specs.Rules.{Outcome, ok, no, then, inside, number, within, least}
+use Rattle.sections.specs.Rules.{Outcome, ok, no, then, inside, number, within, noLess}
 use Rattle.sections.specs.Sections.{spanning, coefficient}
 
 -- ---- outcomes
@@ -72,8 +71,8 @@ pub count-in : (s : List ℕ) (lo hi : ℕ) (why : Refusal) (v : ℤ) (p q : ℕ
 count-in s lo hi why v p q h = let w = within-in (pos lo) (pos hi) why v q s p h in abs-between lo hi v (w .0) (w .1)
 
 -- a count with no upper end
-pub least-in : (s : List ℕ) (lo : ℕ) (why : Refusal) (v : ℤ) (p q : ℕ) → least s (pos lo) why p ≡ ok v q → lo ≤ natAbs v
-least-in s lo why v p q h = go (number s p) h
+pub no-less-in : (s : List ℕ) (lo : ℕ) (why : Refusal) (v : ℤ) (p q : ℕ) → noLess s (pos lo) why p ≡ ok v q → lo ≤ natAbs v
+no-less-in s lo why v p q h = go (number s p) h
   where
     above : (w : ℤ) → leZ (pos lo) w ≡ true → lo ≤ natAbs w
     above (pos n) e = leb-true lo n e

@@ -5,7 +5,7 @@
 --   inside lo hi why v e   the number v, with the place e after it, which is lo to hi or else refused
 --   number s at            the next number of the text s at or after a place; onNumber is that of a token
 --   within s lo hi why at  the next number, which is lo to hi or else refused
---   least s lo why at      the next number, which is lo or more or else refused
+--   noLess s lo why at     the next number, which is lo or more or else refused
 --   nonzero why            what was read is not 0 or else refused
 --   closed s a at          no number or other run is left; onEnd is that of a token
 -- Assumes nothing.
@@ -44,8 +44,8 @@ number s at = onNumber (nextAt s at)
 abbrev pub within : List ℕ → ℤ → ℤ → Refusal → ℕ → Outcome ℤ
 within s lo hi why at = then (number s at) (λ v e. inside lo hi why v e)
 
-abbrev pub least : List ℕ → ℤ → Refusal → ℕ → Outcome ℤ
-least s lo why at = then (number s at) (λ v e. cond (leZ lo v) (ok v e) (no why))
+abbrev pub noLess : List ℕ → ℤ → Refusal → ℕ → Outcome ℤ
+noLess s lo why at = then (number s at) (λ v e. cond (leZ lo v) (ok v e) (no why))
 
 abbrev pub nonzero : Refusal → Outcome ℤ → Outcome ℤ
 nonzero why o = then o (λ v at. cond (isZero v) (no why) (ok v at))

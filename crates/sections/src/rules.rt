@@ -7,7 +7,7 @@ ghost use mathlib.Core.Path.{_≡_};
 ghost use Prim.Native.Nat.{_<_, _^_};
 ghost use lib.IntN.{pos, natAbs};
 ghost use lib.Signed.{leZ};
-ghost use Rattle.sections.specs.Rules.{number, inside, within as within·rule, least as least·rule};
+ghost use Rattle.sections.specs.Rules.{number, inside, within as within·rule, noLess as noLess·rule};
 ghost use Rattle.sections.specs.Sections.{spanning as spanning·rule};
 ghost use Rattle.sections.specs.SectionsRead.{gotOf};
 
@@ -70,8 +70,8 @@ pub fn within(s: &[u8], at: usize, low: i64, high: i64, why: Refusal) -> Got
 }
 
 // The next number, of low or more, or else the refusal.
-pub fn least(s: &[u8], at: usize, low: i64, why: Refusal) -> Got
-    ensures { λ r. ⌜ least·rule (now (s .entry)) low why at ≡ gotOf r ⌝ }
+pub fn no_less(s: &[u8], at: usize, low: i64, why: Refusal) -> Got
+    ensures { λ r. ⌜ noLess·rule (now (s .entry)) low why at ≡ gotOf r ⌝ }
 {
     let g = next_number(s, at);
     match g {

@@ -13,9 +13,8 @@ use lib.Seq.{take-at, drop-at}
 use Rattle.whole.specs.Lists.{zeros}
 use Rattle.lattice.specs.Rows.{chop}
 use Rattle.lattice.proofs.FlatLaws.{chop-split, chop-take}
-use Rattle.problem.specs.Kinds.{slackOf, slackCount}
 use Rattle.sections.specs.Sections.{Line}
-use Rattle.sections.specs.StatedColumns.{rightOf, slackColumn, slackColumns, placed, coefficientRow, coefficientRows}
+use Rattle.sections.specs.StatedColumns.{rightOf, slackColumns, placed, coefficientRows}
 use Rattle.sections.specs.declared.Interval.{Interval}
 use Rattle.sections.proofs.Storage.{slacks-two, rows-two, length-row, length-rows}
 use Rattle.volumes.specs.Volumes.{SweepPath, Volume}

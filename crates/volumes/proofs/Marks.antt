@@ -17,7 +17,6 @@ use lib.IntN.{ℤ, pos, negsuc, natAbs, _+ℤ_, _*ℤ_}
 use lib.ListN.{length, set, length-set, length-replicate, List·getD-eq-default}
 use lib.Seq.{getD-set-same, getD-set-other, ext-getD}
 use Rattle.whole.specs.Lists.{entry, zeros}
-use Rattle.whole.specs.Tests.{isZero}
 use Rattle.whole.proofs.Lists.{entry-zeros}
 use Rattle.lattice.specs.Rows.{minus}
 use Rattle.lattice.proofs.RowLaws.{length-plus, entry-plus}
@@ -182,7 +181,8 @@ module _ (n k : ℕ) (first p : SweepPath) (v : Named k first) (w : Named k p) w
       ∙ sym (entry-plus i (negsuc 0) theirs ours (omega (arith, l, o))
       ∙ ap₂ (λ (x y : ℤ). x +ℤ negsuc 0 *ℤ y) (mark first v i (omega (arith, l, z))) (mark p w i (omega (arith, l, z)))))
 
-pub swept-row : (k : ℕ) (first p : SweepPath) → Named k first → Named k p → laterRow (marksOf first) p ≡ placed (pathTerms first p) (zeros deckColumns)
+pub swept-row : (k : ℕ) (first p : SweepPath) → Named k first → Named k p → laterRow (marksOf first) p ≡ placed (pathTerms first p)
+    (zeros deckColumns)
 swept-row k first p v w =
     ap (λ (z : List ℤ). minus (placed (termsOf (pos 1) first) z) (placed (termsOf (pos 1) p) z)) (blank-is deckColumns)
     ∙ sym (path-row deckColumns k first p v w)

@@ -15,7 +15,7 @@ use lib.IntN.{pos, natAbs}
 use lib.ListN.{length}
 use Rattle.whole.proofs.Tests.{neither}
 use Rattle.problem.specs.declared.Refusal.the-variants.{Volume as WrongVolume}
-use Rattle.sections.specs.Rules.{Outcome, ok, no, then, within, least}
+use Rattle.sections.specs.Rules.{Outcome, ok, no, then, within, noLess}
 use Rattle.sections.proofs.Numbers.{same-ok, ok-not-no, count-in}
 use Rattle.volumes.specs.Volumes.{SweepPath, Volume, isOn, index, indices, path, paths, laterPaths, pathCount, volume, volumes, volumeSection}
 use Rattle.volumes.specs.VolumesRead.{Named}
@@ -72,8 +72,10 @@ then-ok (no why) f b e h = absurd (ok-not-no h)
 module _ (s : List ℕ) (count : ℕ) where
   index-proper : (done : SweepPath) (at e j : ℕ) → index s count done at ≡ ok j e → ((1 ≤ j) × (j ≤ count)) × (isOn j done ≡ false)
   index-proper done at e j h =
-      let t = then-ok (within s (pos 1) (pos count) WrongVolume at) (λ v at. cond (isOn (natAbs v) done) (no WrongVolume) (ok (natAbs v) at)) j e h in
-      new (natAbs (t .what)) (t .at) (isOn (natAbs (t .what)) done) refl (count-in s 1 count WrongVolume (t .what) at (t .at) (t .first)) (t .second)
+      let t = then-ok (within s (pos 1) (pos count) WrongVolume at) (λ v at. cond (isOn (natAbs v) done) (no WrongVolume)
+      (ok (natAbs v) at)) j e h in
+      new (natAbs (t .what)) (t .at) (isOn (natAbs (t .what)) done) refl (count-in s 1 count WrongVolume (t .what) at (t .at) (t .first))
+      (t .second)
     where
       new : (i p : ℕ) (b : Bool) → isOn i done ≡ b → (1 ≤ i) × (i ≤ count) → cond b (no WrongVolume) (ok i p) ≡ ok j e
           → ((1 ≤ j) × (j ≤ count)) × (isOn j done ≡ false)
@@ -91,7 +93,7 @@ module _ (s : List ℕ) (count : ℕ) where
 
   path-proper : (at e : ℕ) (p : SweepPath) → path s count at ≡ ok p e → Proper count p
   path-proper at e p h =
-      let t = then-ok (least s (pos 1) WrongVolume at) (λ k at. indices s (natAbs k) count [] at) p e h in
+      let t = then-ok (noLess s (pos 1) WrongVolume at) (λ k at. indices s (natAbs k) count [] at) p e h in
       indices-proper (natAbs (t .what)) [] (t .at) e p (t .second) (tt, tt)
 
   paths-proper : (k : ℕ) (done : Volume) (at e : ℕ) (v : Volume) → paths s k count done at ≡ ok v e → EachProper count done → EachProper count v
@@ -119,5 +121,5 @@ module _ (s : List ℕ) (count : ℕ) where
 
   pub section-proper : (rows at e : ℕ) (vs : List Volume) → volumeSection s count rows at ≡ ok vs e → AllProper count vs
   section-proper rows at e vs h =
-      let t = then-ok (least s (pos 0) WrongVolume at) (λ k at. volumes s (natAbs k) count rows [] at) vs e h in
+      let t = then-ok (noLess s (pos 0) WrongVolume at) (λ k at. volumes s (natAbs k) count rows [] at) vs e h in
       volumes-proper (natAbs (t .what)) rows [] (t .at) e vs (t .second) tt

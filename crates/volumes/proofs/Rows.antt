@@ -46,7 +46,8 @@ unfolding coefficientRows
 later-lines k c first [] v w = refl
 later-lines k c first (p ∷ ps) v w =
     let z : c + 0 ≡ c = omega arith in
-    ap₂ _++_ (swept-row k first p v (w .0)) (later-lines k c first ps v (w .1) ∙ ap (λ (j : ℕ). coefficientRows deckColumns j (map (pathLine first) ps)) (sym z))
+    ap₂ _++_ (swept-row k first p v (w .0)) (later-lines k c first ps v (w .1) ∙ ap (λ (j : ℕ). coefficientRows deckColumns j
+    (map (pathLine first) ps)) (sym z))
 
 -- ---- volumes
 pub length-volume : (v : Volume) → length (volumeLines v) ≡ laterPaths (length v)
@@ -59,4 +60,5 @@ length-volume (first ∷ ps) = length-map ps (pathLine first) ∙ later (length 
 pub swept-end : (vs : List Volume) (v : Volume) → sweptLines (vs ++ (v ∷ [])) ≡ sweptLines vs ++ volumeLines v
 unfolding sweptLines
 swept-end [] v = append-nil (volumeLines v)
-swept-end (u ∷ vs) v = ap (λ (ls : List Line). volumeLines u ++ ls) (swept-end vs v) ∙ sym (append-assoc (volumeLines u) (sweptLines vs) (volumeLines v))
+swept-end (u ∷ vs) v = ap (λ (ls : List Line). volumeLines u ++ ls) (swept-end vs v) ∙ sym (append-assoc (volumeLines u) (sweptLines vs)
+    (volumeLines v))

@@ -16,9 +16,9 @@ use lib.IntN.{ℤ, pos, natAbs}
 use lib.ListN.{length}
 use Rattle.problem.specs.declared.Refusal.{Refusal}
 use Rattle.problem.specs.declared.Refusal.the-variants.{Size, Volume as WrongVolume}
-use Rattle.sections.specs.Rules.{Outcome, ok, no, then, within, least}
+use Rattle.sections.specs.Rules.{Outcome, ok, no, then, within, noLess}
 use Rattle.sections.specs.Sections.{deckRows}
-use Rattle.sections.proofs.Numbers.{same-ok, ok-not-no, least-in}
+use Rattle.sections.proofs.Numbers.{same-ok, ok-not-no, no-less-in}
 use Rattle.volumes.specs.Volumes.{SweepPath, Volume, isOn, index, indices, path, paths, laterPaths}
 use Rattle.volumes.specs.Volumes.{withRows, pathCount, volume, volumes, volumeSection}
 
@@ -50,10 +50,10 @@ module _ (s : List ℕ) (count : ℕ) (done : SweepPath) (at e : ℕ) where
   indices-end = refl
 
 module _ (s : List ℕ) (count at e : ℕ) where
-  pub path-read : (k : ℤ) → least s (pos 1) WrongVolume at ≡ ok k e → path s count at ≡ indices s (natAbs k) count [] e
+  pub path-read : (k : ℤ) → noLess s (pos 1) WrongVolume at ≡ ok k e → path s count at ≡ indices s (natAbs k) count [] e
   path-read k p = rw p
 
-  pub path-no : (why : Refusal) → least s (pos 1) WrongVolume at ≡ no why → path s count at ≡ no why
+  pub path-no : (why : Refusal) → noLess s (pos 1) WrongVolume at ≡ no why → path s count at ≡ no why
   path-no why p = rw p
 
 module _ (s : List ℕ) (count : ℕ) (done : Volume) (at e : ℕ) where
@@ -73,18 +73,19 @@ module _ (s : List ℕ) (count : ℕ) (done : Volume) (at e : ℕ) where
 
 -- ---- a volume
 module _ (s : List ℕ) (rows at e : ℕ) where
-  pub count-room : (k : ℤ) → least s (pos 1) WrongVolume at ≡ ok k e → rows + laterPaths (natAbs k) ≤ deckRows → pathCount s rows at ≡ ok (natAbs k) e
+  pub count-room : (k : ℤ) → noLess s (pos 1) WrongVolume at ≡ ok k e → rows + laterPaths (natAbs k) ≤ deckRows
+      → pathCount s rows at ≡ ok (natAbs k) e
   count-room k p h = rw p (rw (le-ltb deckRows (rows + laterPaths (natAbs k)) h))
 
-  pub count-full : (k : ℤ) → least s (pos 1) WrongVolume at ≡ ok k e → deckRows < rows + laterPaths (natAbs k) → pathCount s rows at ≡ no Size
+  pub count-full : (k : ℤ) → noLess s (pos 1) WrongVolume at ≡ ok k e → deckRows < rows + laterPaths (natAbs k) → pathCount s rows at ≡ no Size
   count-full k p h = rw p (rw (lt-ltb deckRows (rows + laterPaths (natAbs k)) h))
 
-  pub count-no : (why : Refusal) → least s (pos 1) WrongVolume at ≡ no why → pathCount s rows at ≡ no why
+  pub count-no : (why : Refusal) → noLess s (pos 1) WrongVolume at ≡ no why → pathCount s rows at ≡ no why
   count-no why p = rw p
 
 -- a count of paths that was read is no less than 1, and its rows have room
 pub count-in : (s : List ℕ) (rows at k e : ℕ) → pathCount s rows at ≡ ok k e → (1 ≤ k) × (rows + laterPaths k ≤ deckRows)
-count-in s rows at k e h = go (least s (pos 1) WrongVolume at) refl h
+count-in s rows at k e h = go (noLess s (pos 1) WrongVolume at) refl h
   where
     by : (j : ℕ) (p : ℕ) (t : Bool) → 1 ≤ j → ltb deckRows (rows + laterPaths j) ≡ t → cond t (no Size) (ok j p) ≡ ok k e
         → (1 ≤ k) × (rows + laterPaths k ≤ deckRows)
@@ -92,9 +93,9 @@ count-in s rows at k e h = go (least s (pos 1) WrongVolume at) refl h
     by j p false l f g =
         subst (λ (i : ℕ). (1 ≤ i) × (rows + laterPaths i ≤ deckRows)) (same-ok g) (l, ltb-false deckRows (rows + laterPaths j) f)
 
-    go : (o : Outcome ℤ) → least s (pos 1) WrongVolume at ≡ o → then o (λ v p. withRows rows (natAbs v) p) ≡ ok k e
+    go : (o : Outcome ℤ) → noLess s (pos 1) WrongVolume at ≡ o → then o (λ v p. withRows rows (natAbs v) p) ≡ ok k e
         → (1 ≤ k) × (rows + laterPaths k ≤ deckRows)
-    go (ok v p) f g = by (natAbs v) p (ltb deckRows (rows + laterPaths (natAbs v))) (least-in s 1 WrongVolume v at p f) refl g
+    go (ok v p) f g = by (natAbs v) p (ltb deckRows (rows + laterPaths (natAbs v))) (no-less-in s 1 WrongVolume v at p f) refl g
     go (no why) f g = absurd (ok-not-no g)
 
 module _ (s : List ℕ) (count rows at e : ℕ) where
@@ -122,8 +123,8 @@ module _ (s : List ℕ) (count rows : ℕ) (done : List Volume) (at e : ℕ) whe
 
 -- ---- the section
 module _ (s : List ℕ) (count rows at e : ℕ) where
-  pub section-read : (k : ℤ) → least s (pos 0) WrongVolume at ≡ ok k e → volumeSection s count rows at ≡ volumes s (natAbs k) count rows [] e
+  pub section-read : (k : ℤ) → noLess s (pos 0) WrongVolume at ≡ ok k e → volumeSection s count rows at ≡ volumes s (natAbs k) count rows [] e
   section-read k p = rw p
 
-  pub section-no : (why : Refusal) → least s (pos 0) WrongVolume at ≡ no why → volumeSection s count rows at ≡ no why
+  pub section-no : (why : Refusal) → noLess s (pos 0) WrongVolume at ≡ no why → volumeSection s count rows at ≡ no why
   section-no why p = rw p

@@ -9,7 +9,6 @@
 -- Assumes nothing.
 use mathlib.Core.Bool.{cond}
 use mathlib.Core.List.{List, [], _∷_, _++_, map}
-use Prim.Native.Nat.{ℕ}
 use lib.IntN.{ℤ, pos, negsuc}
 use Rattle.problem.specs.declared.Kind.the-variants.{Equal}
 use Rattle.sections.specs.Sections.{Line}

@@ -16,10 +16,10 @@ use mathlib.Core.Bool.{Bool, false, cond, _||_}
 use mathlib.Core.List.{List, [], _∷_, _++_}
 use Prim.Native.Nat.{ℕ, zero, suc, _+_, _-_}
 use lib.Dec.{eqb, ltb}
-use lib.IntN.{ℤ, pos, natAbs}
+use lib.IntN.{pos, natAbs}
 use lib.ListN.{length}
 use Rattle.problem.specs.declared.Refusal.the-variants.{Size, Volume as WrongVolume}
-use Rattle.sections.specs.Rules.{Outcome, ok, no, then, within, least}
+use Rattle.sections.specs.Rules.{Outcome, ok, no, then, within, noLess}
 use Rattle.sections.specs.Sections.{deckRows}
 
 abbrev pub SweepPath : Type 0
@@ -45,7 +45,7 @@ indices s (suc k) count done at = then (index s count done at) (λ j at. indices
 
 -- "a count .. of a path's intervals below 1"
 abbrev pub path : List ℕ → ℕ → ℕ → Outcome SweepPath
-path s count at = then (least s (pos 1) WrongVolume at) (λ k at. indices s (natAbs k) count [] at)
+path s count at = then (noLess s (pos 1) WrongVolume at) (λ k at. indices s (natAbs k) count [] at)
 
 -- k paths, after those done
 unfoldable pub paths : List ℕ → ℕ → ℕ → Volume → ℕ → Outcome Volume
@@ -64,7 +64,7 @@ withRows rows k at = cond (ltb deckRows (rows + laterPaths k)) (no Size) (ok k a
 
 -- "a count of paths .. below 1"
 abbrev pub pathCount : List ℕ → ℕ → ℕ → Outcome ℕ
-pathCount s rows at = then (least s (pos 1) WrongVolume at) (λ k at. withRows rows (natAbs k) at)
+pathCount s rows at = then (noLess s (pos 1) WrongVolume at) (λ k at. withRows rows (natAbs k) at)
 
 abbrev pub volume : List ℕ → ℕ → ℕ → ℕ → Outcome Volume
 volume s count rows at = then (pathCount s rows at) (λ k at. paths s k count [] at)
@@ -77,4 +77,4 @@ volumes s (suc k) count rows done at =
 
 -- "a negative count of volumes"
 abbrev pub volumeSection : List ℕ → ℕ → ℕ → ℕ → Outcome (List Volume)
-volumeSection s count rows at = then (least s (pos 0) WrongVolume at) (λ k at. volumes s (natAbs k) count rows [] at)
+volumeSection s count rows at = then (noLess s (pos 0) WrongVolume at) (λ k at. volumes s (natAbs k) count rows [] at)

@@ -5,8 +5,8 @@ use sections::Cursor;
 use sections::Got;
 use sections::Section;
 use sections::Sizes;
-use sections::rules::least;
 use sections::rules::natural;
+use sections::rules::no_less;
 use sections::rules::signed;
 use sections::rules::within;
 use text::buffers::copy;
@@ -58,7 +58,7 @@ fn read_path(s: &[u8], at: usize, count: usize, marks: &mut [i64]) -> Step
     requires { ⌜ (count ≤ deckColumns) × (now marks ≡ blank deckColumns) ⌝ }
     ensures { λ r. ⌜ PathRead (path (now (s .entry)) count at) r (now (marks .exit)) ⌝ }
 {
-    let g = least(s, at, 1, Refusal::Volume);
+    let g = no_less(s, at, 1, Refusal::Volume);
     match g {
         Got::Value(k, e) => read_indices(s, e, natural(k), count, marks),
         Got::Refused(why) => Step::Refused(why),
@@ -131,7 +131,7 @@ fn count_paths(s: &[u8], at: usize, rows: usize) -> Got
     requires { ⌜ rows ≤ deckRows ⌝ }
     ensures { λ r. ⌜ pathCount (now (s .entry)) rows at ≡ countGotOf r ⌝ }
 {
-    let g = least(s, at, 1, Refusal::Volume);
+    let g = no_less(s, at, 1, Refusal::Volume);
     match g {
         Got::Value(k, e) => {
             if Sizes::ROWS - rows < natural(k) - 1 {
@@ -178,7 +178,7 @@ fn scan_volumes(s: &[u8], start: Cursor, table: &mut [i64]) -> Section
     ensures { λ r. ⌜ SectionRead start (now (table .entry))
         (volumeSection (now (s .entry)) (start .intervals) (start .rows) (start .at)) r (now (table .exit)) ⌝ }
 {
-    let a = least(s, start.at, 0, Refusal::Volume);
+    let a = no_less(s, start.at, 0, Refusal::Volume);
     match a {
         Got::Value(v, e) => {
             let k = natural(v);

@@ -111,10 +111,11 @@ enum-known-b c = search needs
 read-volumes-requires : tie.Need-read-volumes-requires
 read-volumes-requires c κs =
     let d = c .before .before in
-    let a = after-a (after-rows d) in
-    (omega (arith, rows d .intervals, few-intervals (found a) (long a)),
-    few-lines (text a) (cursor a) (d .b .given .0 .0) (columns a) _ _ _ (found a) (rows d) (long-rights d),
-    long-table d)
+    let a = after-a (after-rows d) in (
+      omega (arith, rows d .intervals, few-intervals (found a) (long a)),
+      few-lines (text a) (cursor a) (d .b .given .0 .0) (columns a) _ _ _ (found a) (rows d) (long-rights d),
+      long-table d,
+    )
 
 enum-known-v : tie.Need-enum-known-v
 enum-known-v c = search needs

@@ -6,14 +6,14 @@ use mir.Syntax.{w64}
 use mir.Val.{toZ, ofZ}
 use Rattle.problem.specs.declared.Refusal.the-variants.{Volume}
 use Rattle.sections.specs.SectionsRead.{gotOf}
-use Rattle.sections.proofs.Numbers.{least-in}
+use Rattle.sections.proofs.Numbers.{no-less-in}
 use Rattle.volumes.proofs.Turns.{count-room, count-full, count-no}
 use borrow.Author.Needs.{needs}
 use Rattle.volumes.proofs.count_paths.Statement.{statement}
 use Rattle.volumes.proofs.count_paths.Tie as tie
 
-least-requires : tie.Need-least-requires
-least-requires c κs = search needs
+no-less-requires : tie.Need-no-less-requires
+no-less-requires c κs = search needs
 
 enum-known-g : tie.Need-enum-known-g
 enum-known-g c = search needs
@@ -26,42 +26,54 @@ natural-requires c κs = search needs
 
 sub-if1-2 : tie.Need-sub-if1-2
 sub-if1-2 c =
-    let x = c .before .before .before .before .before .before .args in
+    let after-no-less = c .before .before .before .before in
+    let start = after-no-less .before .before in
+    let x = start .args in
     let v : ℤ = c .before .before .g .given .0 .0 in
     let b : toZ w64 (ofZ w64 v) ≡ v = search needs in
     let n : c .natural .result ≡ natAbs v = rw b at (c .natural .ensures) in
-    omega (arith, n, least-in (x .s .now) 1 Volume v (x .at) _ (c .before .before .before .before .least .ensures ∙ ap gotOf (c .before .before .g .given .1)))
+    omega (arith, n, no-less-in (x .s .now) 1 Volume v (x .at) _ (after-no-less .no-less .ensures ∙ ap gotOf (c .before .before .g .given .1)))
 
 enum-known-g-2 : tie.Need-enum-known-g-2
 enum-known-g-2 c = search needs
 
 returns : tie.Need-returns
 returns c =
-    let x = c .before .before .before .before .before .before .before .args in
-    let v : ℤ = c .before .before .before .g .given .0 .0 in
+    let after-g = c .before .before .before in
+    let after-no-less = after-g .before .before in
+    let start = after-no-less .before .before in
+    let x = start .args in
+    let v : ℤ = after-g .g .given .0 .0 in
     let b : toZ w64 (ofZ w64 v) ≡ v = search needs in
     let n : c .before .natural .result ≡ natAbs v = rw b at (c .before .natural .ensures) in
-    count-full (x .s .now) (x .rows) (x .at) _ v (c .before .before .before .before .before .least .ensures ∙ ap gotOf (c .before .before .before .g .given .1)) (omega (arith, n, c .if1 .taken))
+    count-full (x .s .now) (x .rows) (x .at) _ v (after-no-less .no-less .ensures ∙ ap gotOf (after-g .g .given .1))
+    (omega (arith, n, c .if1 .taken))
 
 returns-2 : tie.Need-returns-2
 returns-2 c =
-    let x = c .before .before .before .before .before .before .before .args in
-    let v : ℤ = c .before .before .before .g .given .0 .0 in
+    let after-g = c .before .before .before in
+    let after-no-less = after-g .before .before in
+    let start = after-no-less .before .before in
+    let x = start .args in
+    let v : ℤ = after-g .g .given .0 .0 in
     let b : toZ w64 (ofZ w64 v) ≡ v = search needs in
     let n : c .before .natural .result ≡ natAbs v = rw b at (c .before .natural .ensures) in
-    let few = c .before .before .before .before .before .before .before .pre in
-    count-room (x .s .now) (x .rows) (x .at) _ v (c .before .before .before .before .before .least .ensures ∙ ap gotOf (c .before .before .before .g .given .1)) (omega (arith, n, c .if1 .left, few)) ∙ (rw b)
+    let few = start .pre in
+    count-room (x .s .now) (x .rows) (x .at) _ v (after-no-less .no-less .ensures ∙ ap gotOf (after-g .g .given .1))
+    (omega (arith, n, c .if1 .left, few)) ∙ (rw b)
 
 returns-3 : tie.Need-returns-3
 returns-3 c =
-    let x = c .before .before .before .before .before .args in
-    count-no (x .s .now) (x .rows) (x .at) 0 _ (c .before .before .before .least .ensures ∙ ap gotOf (c .before .g2 .given .1))
+    let after-no-less = c .before .before .before in
+    let start = after-no-less .before .before in
+    let x = start .args in
+    count-no (x .s .now) (x .rows) (x .at) 0 _ (after-no-less .no-less .ensures ∙ ap gotOf (c .before .g2 .given .1))
 
 pub count-paths-spec : {M : Type 1} → statement M
 count-paths-spec =
     tie.close
     (tie.spec
-    least-requires
+    no-less-requires
     enum-known-g
     sub-if1
     natural-requires

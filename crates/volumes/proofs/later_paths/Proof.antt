@@ -10,8 +10,6 @@ use lib.ListN.{length, length-append}
 use Rattle.lattice.specs.Rows.{flat}
 use Rattle.text.specs.Overwriting.{overwritten}
 use Rattle.text.proofs.Copying.{written-none, written-then}
-use Rattle.problem.specs.declared.Refusal.{Refusal}
-use Rattle.sections.specs.Rules.{no}
 use Rattle.sections.specs.Sections.{deckColumns, deckRows, coefficientCount}
 use Rattle.sections.specs.declared.Cursor.{Cursor}
 use Rattle.sections.specs.declared.Section.{Section}
@@ -50,7 +48,8 @@ named-end : (n : ℕ) (ps : List SweepPath) (p : SweepPath) → EachNamed n ps �
 named-end n [] p w h = (h, tt)
 named-end n (q ∷ ps) p w h = (w .0, named-end n ps p (w .1) h)
 
-more : {s : List ℕ} {end : ℕ} {a : Cursor} {f t₀ : List ℤ} {c d : Cursor} {t t' : List ℤ} → end ≤ deckRows → length f ≡ deckColumns → length t₀ ≡ coefficientCount
+more : {s : List ℕ} {end : ℕ} {a : Cursor} {f t₀ : List ℤ} {c d : Cursor} {t t' : List ℤ} → end ≤ deckRows → length f ≡ deckColumns → length t₀
+    ≡ coefficientCount
     → Sofar s end a f t₀ c t → c .rows < end → LaterStored (path s (c .intervals) (c .at)) c d f t t' → length t' ≡ length t
     → Sofar s end a f t₀ d t'
 more {s} {end} {a} {f} {t₀} {c} {d} {t} {t'} e w b v h o l =
@@ -86,13 +85,16 @@ abbrev μ-loop : tie.MeasureT-loop
 
 loop-holds : tie.Need-loop-holds Inv-loop μ-loop
 loop-holds c =
-    let x = c .before .args in
-    begin (x .s .now) (x .end) (x .start) (x .first .now) (x .table .now) (c .before .pre .0 .1) (c .before .pre .1 .1)
+    let start = c .before in
+    let x = start .args in
+    begin (x .s .now) (x .end) (x .start) (x .first .now) (x .table .now) (start .pre .0 .1) (start .pre .1 .1)
 
 next-path-requires : tie.Need-next-path-requires Inv-loop μ-loop
 next-path-requires c κs =
-    let v = c .before .before .before .loop .inv in
-    let p = c .before .before .before .before .before .pre in
+    let at-loop = c .before .before .before in
+    let start = at-loop .before .before in
+    let v = at-loop .loop .inv in
+    let p = start .pre in
     ((omega (arith, v .intervals, p .0 .0), omega (arith, p .0 .2, c .before .if1 .taken)), (p .1 .0, v .size))
 
 enum-known-g : tie.Need-enum-known-g Inv-loop μ-loop
@@ -106,21 +108,31 @@ went : (d : tie.After-known-told Inv-loop μ-loop)
     (d .before .before .before .before .before .before .before .before .loop .c .at))
     (d .before .before .before .before .before .before .before .before .loop .c) (d .before .g .given .0 .0)
     (d .before .before .before .before .before .before .before .before .before .before .args .first .now)
-    (d .before .before .before .before .before .before .before .before .loop .table) (d .before .before .before .before .next-path .last .1 .1 .1 .0)
+    (d .before .before .before .before .before .before .before .before .loop .table)
+    (d .before .before .before .before .next-path .last .1 .1 .1 .0)
 went d =
-    let l = d .before .before .before .before .before .before .before .before .loop in
-    let x = d .before .before .before .before .before .before .before .before .before .before .args in
-    let w = d .before .before .before .before .next-path in
+    let after-next-path = d .before .before .before .before in
+    let at-loop = after-next-path .before .before .before .before in
+    let start = at-loop .before .before in
+    let l = at-loop .loop in
+    let x = start .args in
+    let w = after-next-path .next-path in
     subst (λ (r : Section). LaterRead (path (x .s .now) (l .c .intervals) (l .c .at)) (l .c) r (x .first .now) (l .table) (w .last .1 .1 .1 .0))
     (d .before .g .given .1) (w .ensures)
 
 loop-less : tie.Need-loop-less Inv-loop μ-loop
-loop-less c = omega (arith, went c .rows, c .before .before .before .before .before .before .if1 .taken)
+loop-less c =
+    let after-if1 = c .before .before .before .before .before .before in
+    omega (arith, went c .rows, after-if1 .if1 .taken)
 
 loop-again : tie.Need-loop-again Inv-loop μ-loop
 loop-again c =
-    let p = c .before .before .before .before .before .before .before .before .before .before .pre in
-    more (p .0 .2) (p .1 .0 .wide) (p .1 .1) (c .before .before .before .before .before .before .before .before .loop .inv) (c .before .before .before .before .before .before .if1 .taken) (went c) (c .before .before .before .before .next-path .kept .1 .1 .1 .0)
+    let after-next-path = c .before .before .before .before in
+    let after-if1 = after-next-path .before .before in
+    let at-loop = after-if1 .before .before in
+    let start = at-loop .before .before in
+    let p = start .pre in
+    more (p .0 .2) (p .1 .0 .wide) (p .1 .1) (at-loop .loop .inv) (after-if1 .if1 .taken) (went c) (after-next-path .next-path .kept .1 .1 .1 .0)
 
 enum-known-g-2 : tie.Need-enum-known-g-2 Inv-loop μ-loop
 enum-known-g-2 c = search needs
@@ -130,18 +142,26 @@ same-length c = search needs
 
 returns : tie.Need-returns Inv-loop μ-loop
 returns c =
-    let x = c .before .before .before .before .before .before .before .before .before .before .args in
-    let l = c .before .before .before .before .before .before .before .before .loop in
-    let r = rw (l .inv .intervals) at ((rw (c .before .g2 .given .1) at (c .before .before .before .before .next-path .ensures))) in
+    let after-next-path = c .before .before .before .before in
+    let after-if1 = after-next-path .before .before in
+    let at-loop = after-if1 .before .before in
+    let start = at-loop .before .before in
+    let x = start .args in
+    let l = at-loop .loop in
+    let r = rw (l .inv .intervals) at ((rw (c .before .g2 .given .1) at (after-next-path .next-path .ensures))) in
     λ done. sym (l .inv .rest done)
-    ∙ paths-stop (x .s .now) (x .start .intervals) (done ++ l .inv .later) (l .c .at) 0 (x .end - l .c .rows) _ (omega (arith, c .before .before .before .before .before .before .if1 .taken)) r
+    ∙ paths-stop (x .s .now) (x .start .intervals) (done ++ l .inv .later) (l .c .at) 0 (x .end - l .c .rows) _
+    (omega (arith, after-if1 .if1 .taken)) r
 
 same-length-2 : tie.Need-same-length-2 Inv-loop μ-loop
-same-length-2 c = c .before .before .loop .inv .size ∙ sym (c .before .before .before .before .pre .1 .1)
+same-length-2 c =
+    let start = c .before .before .before .before in
+    c .before .before .loop .inv .size ∙ sym (start .pre .1 .1)
 
 returns-2 : tie.Need-returns-2 Inv-loop μ-loop
 returns-2 c =
-    let x = c .before .before .before .before .args in
+    let start = c .before .before .before .before in
+    let x = start .args in
     let l = c .before .before .loop in
     let e : x .end - l .c .rows ≡ 0 = omega (arith, l .inv .small, c .if1 .left) in
     record {
@@ -151,7 +171,7 @@ returns-2 c =
       intervals = l .inv .intervals;
       columns = l .inv .columns;
       rows = l .inv .many;
-      few = omega (arith, l .inv .small, c .before .before .before .before .pre .0 .2);
+      few = omega (arith, l .inv .small, start .pre .0 .2);
       table-is = l .inv .table-is;
     }
 

@@ -1,9 +1,6 @@
 -- `volumes::next_path` meets its contract: the path's marks are taken from path 1's, and the row is stored at the cursor. Assumes nothing.
-use mathlib.Core.List.{List}
-use mathlib.Core.Path.{_≡_, refl, sym, ap, _∙_, subst}
-use Prim.Native.Nat.{ℕ, _*_}
-use native.Mathlib.Omega.{arith}
-use lib.IntN.{ℤ}
+use mathlib.Core.Path.{refl, sym, ap, _∙_, subst}
+use Prim.Native.Nat.{_*_}
 use Rattle.lattice.specs.Rows.{minus}
 use Rattle.text.specs.Overwriting.{overwritten}
 use Rattle.sections.specs.Sections.{deckColumns}
@@ -28,7 +25,8 @@ module _ (d : tie.After-g) where
   abbrev cursor : Cursor
   cursor = start .args .c
 
-  found : PathStored (path (start .args .s .now) (cursor .intervals) (cursor .at)) (d .g .given .0 .0) (after-read-path .read-path .last .1 .1 .1 .0)
+  found : PathStored (path (start .args .s .now) (cursor .intervals) (cursor .at)) (d .g .given .0 .0)
+      (after-read-path .read-path .last .1 .1 .1 .0)
   found =
       subst (λ (r : Step). PathRead (path (start .args .s .now) (cursor .intervals) (cursor .at)) r (after-read-path .read-path .last .1 .1 .1 .0))
       (d .g .given .1) (after-read-path .read-path .ensures)
@@ -74,8 +72,11 @@ same-length c = search needs
 
 returns : tie.Need-returns
 returns c =
+    let after-subtract = c .before .before .before .before .before .before .before in
+    let after-before = after-subtract .before .before in
+    let start = after-before .before .before .before .before .before .before .before in
     let d = c .before .before .before .before .before .before .before .before .before .before in
-    let x = c .before .before .before .before .before .before .before .before .before .before .before .before .before .before .before .before .args in
+    let x = start .args in
     record {
       path = found d .path;
       read = found d .read;
@@ -83,11 +84,14 @@ returns c =
       intervals = refl;
       columns = refl;
       rows = refl;
-      table-is = c .before .before .copy .ensures ∙ ap (overwritten (x .table .now) (x .c .rows * deckColumns)) (c .before .before .before .before .before .before .before .subtract .ensures ∙ ap (minus (x .first .now)) (found d .marks));
+      table-is = c .before .before .copy .ensures ∙ ap (overwritten (x .table .now) (x .c .rows * deckColumns))
+          (after-subtract .subtract .ensures ∙ ap (minus (x .first .now)) (found d .marks));
     }
 
 returns-2 : tie.Need-returns-2
-returns-2 c = rw (c .before .g2 .given .1) at (c .before .before .before .before .read-path .ensures)
+returns-2 c =
+    let after-read-path = c .before .before .before .before in
+    rw (c .before .g2 .given .1) at (after-read-path .read-path .ensures)
 
 pub next-path-spec : {M : Type 1} → statement M
 next-path-spec =

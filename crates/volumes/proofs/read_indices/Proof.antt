@@ -51,7 +51,8 @@ twice : {s : List ℕ} {at k count i p : ℕ} {u : List ℤ} {v : ℤ} {e n : �
     → (natAbs (entry (n - 1) u) ≡ 0 → ⊥) → indices s k count [] at ≡ no Volume
 twice {s} {at} {k} {count} {i} {p} {u} {v} {e} {n} f h r z =
     let o : isOn n (f .done) ≡ true = marked-on (f .done) deckColumns n (f .named) (r .low) (r .high) .0 (rw (f .marks) at z) in
-    sym (f .rest) ∙ indices-stop s count (f .done) p 0 (k - i) Volume (omega arith) (index-twice s count (f .done) p e v (r .read) (rw (r .is) at o))
+    sym (f .rest) ∙ indices-stop s count (f .done) p 0 (k - i) Volume (omega arith) (index-twice s count (f .done) p e v (r .read)
+    (rw (r .is) at o))
 
 -- another one is marked
 more : {s : List ℕ} {at k count i p : ℕ} {u : List ℤ} {v : ℤ} {e n : ℕ} → Sofar s at k count i p u → i < k → Read s count p v e n
@@ -59,7 +60,8 @@ more : {s : List ℕ} {at k count i p : ℕ} {u : List ℤ} {v : ℤ} {e n : ℕ
 more {s} {at} {k} {count} {i} {p} {u} {v} {e} {n} f h r z =
     let j : k - (i + 1) ≡ k - i - 1 = omega arith in
     let o : isOn n (f .done) ≡ false = marked-on (f .done) deckColumns n (f .named) (r .low) (r .high) .1 (rw (f .marks) at z) in
-    let q : index s count (f .done) p ≡ ok n e = index-read s count (f .done) p e v (r .read) (rw (r .is) at o) ∙ ap (λ (j : ℕ). ok j e) (sym (r .is)) in
+    let q : index s count (f .done) p ≡ ok n e = index-read s count (f .done) p e v (r .read) (rw (r .is) at o) ∙ ap (λ (j : ℕ). ok j e)
+    (sym (r .is)) in
     record {
       small = omega arith;
       done = f .done ++ (n ∷ []);
@@ -104,14 +106,17 @@ found : (d : tie.After-natural Inv-loop μ-loop)
     (d .before .before .before .before .before .before .before .loop .p) (d .before .before .g .given .0 .0) (d .before .before .g .given .0 .1 .0)
     (d .natural .result)
 found d =
-    let start = d .before .before .before .before .before .before .before .before .before in
+    let after-within = d .before .before .before .before in
+    let after-signed = after-within .before in
+    let at-loop = after-signed .before .before in
+    let start = at-loop .before .before in
     let x = start .args in
-    let sg = d .before .before .before .before .before .signed in
+    let sg = after-signed .signed in
     let g = d .before .before .g .given in
     let b : toZ w64 (ofZ w64 (g .0 .0)) ≡ g .0 .0 = search needs in
     let h : toZ w64 (ofZ w64 (sg .result)) ≡ pos (x .count) = toZ-ofZ (sfits-of (sg .ok)) ∙ sg .ensures in
-    let r : within (x .s .now) (pos 1) (pos (x .count)) Volume (d .before .before .before .before .before .before .before .loop .p)
-    ≡ ok (g .0 .0) (g .0 .1 .0) = (rw h at (d .before .before .before .before .within .ensures)) ∙ ap gotOf (g .1) in
+    let r : within (x .s .now) (pos 1) (pos (x .count)) Volume (at-loop .loop .p)
+    ≡ ok (g .0 .0) (g .0 .1 .0) = (rw h at (after-within .within .ensures)) ∙ ap gotOf (g .1) in
     let n : d .natural .result ≡ natAbs (g .0 .0) = rw b at (d .natural .ensures) in
     let w = count-in (x .s .now) 1 (x .count) Volume (g .0 .0) _ _ r in
     record { read = r; is = n; low = omega (arith, n, w .0); high = omega (arith, n, w .1, start .pre .0) }
@@ -123,19 +128,27 @@ mul-natural : tie.Need-mul-natural Inv-loop μ-loop
 mul-natural c = omega (arith, found c .high)
 
 slice-copy-out-natural : tie.Need-slice-copy-out-natural Inv-loop μ-loop
-slice-copy-out-natural c = omega (arith, found c .low, found c .high, room (c .before .before .before .before .before .before .before .loop .inv))
+slice-copy-out-natural c =
+    let at-loop = c .before .before .before .before .before .before .before in
+    omega (arith, found c .low, found c .high, room (at-loop .loop .inv))
 
 natural-requires-2 : tie.Need-natural-requires-2 Inv-loop μ-loop
 natural-requires-2 c κs = search needs
 
 same-length : tie.Need-same-length Inv-loop μ-loop
-same-length c = room (c .before .before .before .before .before .before .before .before .before .before .loop .inv) ∙ sym (long (c .before .before .before .before .before .before .before .before .before .before .before .before .pre .1))
+same-length c =
+    let at-loop = c .before .before .before .before .before .before .before .before .before .before in
+    let start = at-loop .before .before in
+    room (at-loop .loop .inv) ∙ sym (long (start .pre .1))
 
 returns : tie.Need-returns Inv-loop μ-loop
 returns c =
-    let f = found (c .before .before .before) in
-    let l = c .before .before .before .before .before .before .before .before .before .before .loop in
-    let b : toZ w64 (ofZ w64 (entry (c .before .before .before .natural .result - 1) (l .marks))) ≡ entry (c .before .before .before .natural .result - 1) (l .marks) = search needs in
+    let after-natural = c .before .before .before in
+    let at-loop = after-natural .before .before .before .before .before .before .before in
+    let f = found (after-natural) in
+    let l = at-loop .loop in
+    let b : toZ w64 (ofZ w64 (entry (after-natural .natural .result - 1) (l .marks))) ≡ entry (after-natural .natural .result - 1)
+    (l .marks) = search needs in
     twice (l .inv) (omega arith) f (rw (rw b at (c .before .natural2 .ensures)) at (c .if1 .taken))
 
 mul-marks : tie.Need-mul-marks Inv-loop μ-loop
@@ -145,22 +158,31 @@ mul-marks c =
 
 slice-set-of-marks : tie.Need-slice-set-of-marks Inv-loop μ-loop
 slice-set-of-marks c =
+    let at-loop = c .before .before .before .before .before .before .before .before .before .before in
     let f = found (c .before .before .before) in
-    omega (arith, f .low, f .high, room (c .before .before .before .before .before .before .before .before .before .before .loop .inv))
+    omega (arith, f .low, f .high, room (at-loop .loop .inv))
 
 enum-known-g-2 : tie.Need-enum-known-g-2 Inv-loop μ-loop
 enum-known-g-2 c = search needs
 
 same-length-2 : tie.Need-same-length-2 Inv-loop μ-loop
-same-length-2 c = room (c .before .before .before .before .before .before .loop .inv) ∙ sym (long (c .before .before .before .before .before .before .before .before .pre .1))
+same-length-2 c =
+    let at-loop = c .before .before .before .before .before .before in
+    let start = at-loop .before .before in
+    room (at-loop .loop .inv) ∙ sym (long (start .pre .1))
 
 returns-2 : tie.Need-returns-2 Inv-loop μ-loop
 returns-2 c =
-    let x = c .before .before .before .before .before .before .before .before .args in
-    let l = c .before .before .before .before .before .before .loop in
-    let h : toZ w64 (ofZ w64 (c .before .before .before .before .signed .result)) ≡ pos (x .count) = toZ-ofZ (sfits-of (c .before .before .before .before .signed .ok)) ∙ c .before .before .before .before .signed .ensures in
+    let after-within = c .before .before .before in
+    let after-signed = after-within .before in
+    let at-loop = after-signed .before .before in
+    let start = at-loop .before .before in
+    let x = start .args in
+    let l = at-loop .loop in
+    let h : toZ w64 (ofZ w64 (after-signed .signed .result)) ≡ pos (x .count) = toZ-ofZ (sfits-of (after-signed .signed .ok))
+    ∙ after-signed .signed .ensures in
     sym (l .inv .rest) ∙ indices-stop (x .s .now) (x .count) (l .inv .done) (l .p) 0 (x .k - l .i) _ (omega arith)
-    (index-no (x .s .now) (x .count) (l .inv .done) (l .p) 0 _ ((rw h at (c .before .before .before .within .ensures)) ∙ ap gotOf (c .before .g2 .given .1)))
+    (index-no (x .s .now) (x .count) (l .inv .done) (l .p) 0 _ ((rw h at (after-within .within .ensures)) ∙ ap gotOf (c .before .g2 .given .1)))
 
 add-i : tie.Need-add-i Inv-loop μ-loop
 add-i c = omega arith
@@ -170,17 +192,23 @@ loop-less c = omega arith
 
 loop-again : tie.Need-loop-again Inv-loop μ-loop
 loop-again c =
-    let f = found (c .before .before .before) in
-    let l = c .before .before .before .before .before .before .before .before .before .before .loop in
-    let b : toZ w64 (ofZ w64 (entry (c .before .before .before .natural .result - 1) (l .marks))) ≡ entry (c .before .before .before .natural .result - 1) (l .marks) = search needs in
+    let after-natural = c .before .before .before in
+    let at-loop = after-natural .before .before .before .before .before .before .before in
+    let f = found (after-natural) in
+    let l = at-loop .loop in
+    let b : toZ w64 (ofZ w64 (entry (after-natural .natural .result - 1) (l .marks))) ≡ entry (after-natural .natural .result - 1)
+    (l .marks) = search needs in
     more (l .inv) (omega arith) f (rw (rw b at (c .before .natural2 .ensures)) at (c .if1 .left))
 
 same-length-3 : tie.Need-same-length-3 Inv-loop μ-loop
-same-length-3 c = room (c .before .loop .inv) ∙ sym (long (c .before .before .before .pre .1))
+same-length-3 c =
+    let start = c .before .before .before in
+    room (c .before .loop .inv) ∙ sym (long (start .pre .1))
 
 returns-3 : tie.Need-returns-3 Inv-loop μ-loop
 returns-3 c =
-    let x = c .before .before .before .args in
+    let start = c .before .before .before in
+    let x = start .args in
     let l = c .before .loop in
     let e : x .k - l .i ≡ 0 = omega arith in
     record {

@@ -12,8 +12,8 @@ use borrow.Author.Needs.{needs}
 use Rattle.volumes.proofs.read_path.Statement.{statement}
 use Rattle.volumes.proofs.read_path.Tie as tie
 
-least-requires : tie.Need-least-requires
-least-requires c κs = search needs
+no-less-requires : tie.Need-no-less-requires
+no-less-requires c κs = search needs
 
 enum-known-g : tie.Need-enum-known-g
 enum-known-g c = search needs
@@ -32,24 +32,30 @@ same-length c = search needs
 
 returns : tie.Need-returns
 returns c =
-    let x = c .before .before .before .before .before .before .before .before .before .args in
-    let v : ℤ = c .before .before .before .before .before .g .given .0 .0 in
+    let after-natural = c .before .before .before in
+    let after-g = after-natural .before .before in
+    let after-no-less = after-g .before .before in
+    let start = after-no-less .before .before in
+    let x = start .args in
+    let v : ℤ = after-g .g .given .0 .0 in
     let b : toZ w64 (ofZ w64 v) ≡ v = search needs in
-    let n : c .before .before .before .natural .result ≡ natAbs v = rw b at (c .before .before .before .natural .ensures) in
-    let h = path-read (x .s .now) (x .count) (x .at) _ v (c .before .before .before .before .before .before .before .least .ensures ∙ ap gotOf (c .before .before .before .before .before .g .given .1)) in
+    let n : after-natural .natural .result ≡ natAbs v = rw b at (after-natural .natural .ensures) in
+    let h = path-read (x .s .now) (x .count) (x .at) _ v (after-no-less .no-less .ensures ∙ ap gotOf (after-g .g .given .1)) in
     let w = c .before .read-indices in
     subst (λ (o : Outcome SweepPath). PathRead o (w .result) (w .last .1 .1 .1 .1 .0)) (sym h) (rw n at (w .ensures))
 
 returns-2 : tie.Need-returns-2
 returns-2 c =
-    let x = c .before .before .before .before .before .args in
-    path-no (x .s .now) (x .count) (x .at) 0 _ (c .before .before .before .least .ensures ∙ ap gotOf (c .before .g2 .given .1))
+    let after-no-less = c .before .before .before in
+    let start = after-no-less .before .before in
+    let x = start .args in
+    path-no (x .s .now) (x .count) (x .at) 0 _ (after-no-less .no-less .ensures ∙ ap gotOf (c .before .g2 .given .1))
 
 pub read-path-spec : {M : Type 1} → statement M
 read-path-spec =
     tie.close
     (tie.spec
-    least-requires
+    no-less-requires
     enum-known-g
     natural-requires
     read-indices-requires

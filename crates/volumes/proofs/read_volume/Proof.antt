@@ -4,7 +4,6 @@ use mathlib.Core.Path.{_≡_, refl, sym, ap, _∙_, subst}
 use Prim.Native.Nat.{ℕ, _+_, _-_, _*_, _≤_}
 use native.Mathlib.Omega.{arith}
 use lib.IntN.{ℤ, natAbs}
-use lib.ListN.{length}
 use mir.Syntax.{w64}
 use mir.Val.{toZ, ofZ}
 use Rattle.lattice.specs.Rows.{flat}
@@ -16,7 +15,7 @@ use Rattle.sections.specs.SectionsRead.{cursor}
 use Rattle.sections.specs.declared.Cursor.{Cursor}
 use Rattle.sections.specs.declared.Section.{Section}
 use Rattle.sections.specs.declared.Section.the-variants.{Read, Refused}
-use Rattle.volumes.specs.Volumes.{SweepPath, Volume, path, paths, laterPaths, pathCount, volume}
+use Rattle.volumes.specs.Volumes.{SweepPath, path, paths, laterPaths, pathCount, volume}
 use Rattle.volumes.specs.VolumesRead.{countGotOf, Named, Marks, marksOf, laterRow, PathStored, PathRead, PathsRead, VolumeRead}
 use Rattle.volumes.specs.declared.Step.{Step}
 use Rattle.volumes.proofs.Marks.{marks-are}
@@ -61,7 +60,8 @@ module _ (d : tie.After-natural) where
   abbrev start : tie.Start
   start = d .before .before .before .before .before .before
 
-  counted : pathCount (start .args .s .now) (start .args .c .rows) (start .args .c .at) ≡ ok (d .natural .result) (d .before .before .g .given .0 .1 .0)
+  counted : pathCount (start .args .s .now) (start .args .c .rows) (start .args .c .at)
+      ≡ ok (d .natural .result) (d .before .before .g .given .0 .1 .0)
   counted =
       let g = d .before .before .g .given in
       let b : toZ w64 (ofZ w64 (g .0 .0)) ≡ g .0 .0 = search needs in
@@ -76,8 +76,8 @@ module _ (d : tie.After-a) where
   abbrev after-natural : tie.After-natural
   after-natural = d .before .before .before .before .before
 
-  found : PathStored (path (start after-natural .args .s .now) (start after-natural .args .c .intervals) (after-natural .before .before .g .given .0 .1 .0))
-      (d .a .given .0 .0) (d .before .before .before .read-path .last .1 .1 .1 .0)
+  found : PathStored (path (start after-natural .args .s .now) (start after-natural .args .c .intervals)
+      (after-natural .before .before .g .given .0 .1 .0)) (d .a .given .0 .0) (d .before .before .before .read-path .last .1 .1 .1 .0)
   found =
       let w = d .before .before .before .read-path in
       subst (λ (r : Step). PathRead
@@ -101,7 +101,9 @@ slice-aggregate-read-path c = search needs
 
 read-path-requires : tie.Need-read-path-requires
 unfolding blank
-read-path-requires c κs = (c .before .before .before .before .before .before .before .pre .0, refl)
+read-path-requires c κs =
+    let start = c .before .before .before .before .before .before .before in
+    (start .pre .0, refl)
 
 enum-known-a : tie.Need-enum-known-a
 enum-known-a c = search needs
@@ -117,6 +119,7 @@ slice-aggregate-later-paths c = search needs
 
 later-paths-requires : tie.Need-later-paths-requires
 later-paths-requires c κs =
+    let after-before = c .before .before .before in
     let d = c .before .before .before .before in
     let p = start (after-natural d) .pre in
     let f = fits (after-natural d) in
@@ -133,24 +136,31 @@ same-length c = search needs
 
 returns : tie.Need-returns
 returns c =
+    let after-before = c .before .before .before .before .before in
     let d = c .before .before .before .before .before .before in
     let n = after-natural d in
     let x = start n .args in
     let w = c .before .later-paths in
-    rejoined (x .s .now) (x .c) _ (x .table .now) (w .last .1 .1 .1 .1 .0) (counted n) (found d .read) (found d .named) (found d .marks) (w .result) (w .ensures)
+    rejoined (x .s .now) (x .c) _ (x .table .now) (w .last .1 .1 .1 .1 .0) (counted n) (found d .read) (found d .named) (found d .marks)
+    (w .result) (w .ensures)
 
 returns-2 : tie.Need-returns-2
 returns-2 c =
+    let after-read-path = c .before .before .before .before in
+    let after-before = after-read-path .before in
     let n = c .before .before .before .before .before .before in
     let x = start n .args in
-    let r = rw (c .before .a2 .given .1) at (c .before .before .before .before .read-path .ensures) in
+    let r = rw (c .before .a2 .given .1) at (after-read-path .read-path .ensures) in
     volume-read (x .s .now) (x .c .intervals) (x .c .rows) (x .c .at) _ _ (counted n)
     ∙ paths-stop (x .s .now) (x .c .intervals) [] _ 0 (n .natural .result) _ (omega (arith, fits n .0)) r
 
 returns-3 : tie.Need-returns-3
 returns-3 c =
-    let x = c .before .before .before .before .before .args in
-    volume-no (x .s .now) (x .c .intervals) (x .c .rows) (x .c .at) 0 _ (c .before .before .before .count-paths .ensures ∙ ap countGotOf (c .before .g2 .given .1))
+    let after-count-paths = c .before .before .before in
+    let start = after-count-paths .before .before in
+    let x = start .args in
+    volume-no (x .s .now) (x .c .intervals) (x .c .rows) (x .c .at) 0 _ (after-count-paths .count-paths .ensures ∙ ap countGotOf
+    (c .before .g2 .given .1))
 
 pub read-volume-spec : {M : Type 1} → statement M
 read-volume-spec =

@@ -26,17 +26,24 @@ same-length : tie.Need-same-length
 same-length c = search needs
 
 returns : tie.Need-returns
-returns c = rw (c .before .a .given .1) at (c .before .before .before .before .scan-volumes .ensures)
+returns c =
+    let after-scan-volumes = c .before .before .before .before in
+    rw (c .before .a .given .1) at (after-scan-volumes .scan-volumes .ensures)
 
 same-length-2 : tie.Need-same-length-2
 same-length-2 c = search needs
 
 returns-2 : tie.Need-returns-2
 returns-2 c =
-    let x = c .before .before .before .before .before .before .before .before .before .before .args in
-    let v = c .before .before .before .before .before .before .before .scan-volumes in
-    let why = c .before .before .before .before .a2 .given .0 .0 in
-    let o : volumeSection (x .s .now) (x .start .intervals) (x .start .rows) (x .start .at) ≡ no why = rw (c .before .before .before .before .a2 .given .1) at (v .ensures) in
+    let after-a2 = c .before .before .before .before in
+    let after-scan-volumes = after-a2 .before .before .before in
+    let after-before = after-scan-volumes .before .before in
+    let start-state = after-before .before in
+    let x = start-state .args in
+    let v = after-scan-volumes .scan-volumes in
+    let why = after-a2 .a2 .given .0 .0 in
+    let o : volumeSection (x .s .now) (x .start .intervals) (x .start .rows) (x .start .at) ≡ no why = rw (after-a2 .a2 .given .1) at
+    (v .ensures) in
     let start = c .before .before .before .before .before .before .before .before .before .before in
     let t = wiped coefficientCount (v .last .1 .1 .0) _ (v .kept .1 .1 .0 ∙ start .pre .2) (c .before .wipe .ensures) in
     ap (volumesDone (Refused why)) t ∙ sym (ap (volumesLeft (x .start) (x .table .now)) o)

@@ -20,7 +20,7 @@ use Rattle.sections.specs.declared.Interval.{Interval}
 use Rattle.sections.specs.declared.Section.{Section}
 use Rattle.sections.specs.declared.Section.the-variants.{Read}
 use Rattle.sections.proofs.Storage.{rows-two, length-rows}
-use Rattle.volumes.specs.Volumes.{Volume, laterPaths, volume, volumes, volumeSection}
+use Rattle.volumes.specs.Volumes.{Volume, volume, volumes, volumeSection}
 use Rattle.volumes.specs.PathLines.{volumeLines, sweptLines}
 use Rattle.volumes.specs.VolumesRead.{VolumeStored, VolumeRead, volumesDone, volumesLeft}
 use Rattle.volumes.proofs.Turns.{volumes-more, volumes-stop, volumes-end, section-read, section-no}
@@ -109,8 +109,8 @@ Inv-loop s table₀ v e k c₀ i₀ table c i = Sofar s k c₀ table₀ c table 
 abbrev μ-loop : tie.MeasureT-loop
 μ-loop s table₀ v e k c₀ i₀ table c i = k - i
 
-least-requires : tie.Need-least-requires Inv-loop μ-loop
-least-requires c κs = search needs
+no-less-requires : tie.Need-no-less-requires Inv-loop μ-loop
+no-less-requires c κs = search needs
 
 enum-known-a : tie.Need-enum-known-a Inv-loop μ-loop
 enum-known-a c = search needs
@@ -120,13 +120,15 @@ natural-requires c κs = search needs
 
 loop-holds : tie.Need-loop-holds Inv-loop μ-loop
 loop-holds c =
-    let p = c .before .before .before .before .before .before .pre in
+    let start = c .before .before .before .before .before .before in
+    let p = start .pre in
     begin _ _ _ _ (p .1) (p .2)
 
 read-volume-requires : tie.Need-read-volume-requires Inv-loop μ-loop
 read-volume-requires c κs =
+    let start = c .before .before .before .before .before .before .before .before .before in
     let v = c .before .before .loop .inv in
-    let p = c .before .before .before .before .before .before .before .before .before .pre in
+    let p = start .pre in
     (omega (arith, v .intervals, p .0), v .few, v .size)
 
 enum-known-g : tie.Need-enum-known-g Inv-loop μ-loop
@@ -140,16 +142,23 @@ same-length c = search needs
 
 returns : tie.Need-returns Inv-loop μ-loop
 returns c =
-    let x = c .before .before .before .before .before .before .before .before .before .before .before .before .before .before .args in
-    let l = c .before .before .before .before .before .before .before .loop in
-    let a = c .before .before .before .before .before .before .before .before .before .before .a .given in
+    let after-read-volume = c .before .before .before .before in
+    let at-loop = after-read-volume .before .before .before in
+    let after-natural = at-loop .before in
+    let after-a = after-natural .before .before in
+    let after-no-less = after-a .before .before in
+    let start = after-no-less .before .before in
+    let x = start .args in
+    let l = at-loop .loop in
+    let a = after-a .a .given in
     let b : toZ w64 (ofZ w64 (a .0 .0)) ≡ a .0 .0 = search needs in
-    let n : c .before .before .before .before .before .before .before .before .natural .result ≡ natAbs (a .0 .0) = rw b at (c .before .before .before .before .before .before .before .before .natural .ensures) in
-    let r = rw (l .inv .intervals) at ((rw (c .before .g2 .given .1) at (c .before .before .before .before .read-volume .ensures))) in
-    section-read (x .s .now) (x .start .intervals) (x .start .rows) (x .start .at) _ (a .0 .0) (c .before .before .before .before .before .before .before .before .before .before .before .before .least .ensures ∙ ap gotOf (a .1))
+    let n : after-natural .natural .result ≡ natAbs (a .0 .0) = rw b at (after-natural .natural .ensures) in
+    let r = rw (l .inv .intervals) at ((rw (c .before .g2 .given .1) at (after-read-volume .read-volume .ensures))) in
+    section-read (x .s .now) (x .start .intervals) (x .start .rows) (x .start .at) _ (a .0 .0) (after-no-less .no-less .ensures ∙ ap gotOf (a .1))
     ∙ ap (λ (k : ℕ). volumes (x .s .now) k (x .start .intervals) (x .start .rows) [] (a .0 .1 .0)) (sym n)
     ∙ sym (l .inv .rest)
-    ∙ volumes-stop (x .s .now) (x .start .intervals) (l .c .rows) (l .inv .done) (l .c .at) 0 (c .before .before .before .before .before .before .before .before .natural .result - l .i) _ (omega arith) r
+    ∙ volumes-stop (x .s .now) (x .start .intervals) (l .c .rows) (l .inv .done) (l .c .at) 0 (after-natural .natural .result - l .i) _
+    (omega arith) r
 
 add-i : tie.Need-add-i Inv-loop μ-loop
 add-i c = omega arith
@@ -159,10 +168,14 @@ loop-less c = omega arith
 
 loop-again : tie.Need-loop-again Inv-loop μ-loop
 loop-again c =
-    let p = c .before .before .before .before .before .before .before .before .before .before .before .before .before .before .pre in
-    let l = c .before .before .before .before .before .before .before .loop in
-    let w = c .before .before .before .before .read-volume in
-    let o = subst (λ (r : Section). VolumeRead (volume (c .before .before .before .before .before .before .before .before .before .before .before .before .before .before .args .s .now) (l .c .intervals) (l .c .rows) (l .c .at)) (l .c) r (l .table) (w .last .1 .1 .0))
+    let after-read-volume = c .before .before .before .before in
+    let at-loop = after-read-volume .before .before .before in
+    let start = at-loop .before .before .before .before .before .before .before in
+    let p = start .pre in
+    let l = at-loop .loop in
+    let w = after-read-volume .read-volume in
+    let o = subst (λ (r : Section). VolumeRead (volume (start .args .s .now) (l .c .intervals) (l .c .rows) (l .c .at)) (l .c) r (l .table)
+    (w .last .1 .1 .0))
     (c .before .g .given .1) (w .ensures) in
     more (p .2) (l .inv) (omega arith) o (w .kept .1 .1 .0)
 
@@ -170,18 +183,24 @@ enum-known-a-2 : tie.Need-enum-known-a-2 Inv-loop μ-loop
 enum-known-a-2 c = search needs
 
 same-length-2 : tie.Need-same-length-2 Inv-loop μ-loop
-same-length-2 c = c .before .loop .inv .size ∙ sym (c .before .before .before .before .before .before .before .before .pre .2)
+same-length-2 c =
+    let start = c .before .before .before .before .before .before .before .before in
+    c .before .loop .inv .size ∙ sym (start .pre .2)
 
 returns-2 : tie.Need-returns-2 Inv-loop μ-loop
 returns-2 c =
-    let x = c .before .before .before .before .before .before .before .before .args in
+    let after-natural = c .before .before in
+    let after-a = after-natural .before .before in
+    let after-no-less = after-a .before .before in
+    let start = after-no-less .before .before in
+    let x = start .args in
     let l = c .before .loop in
-    let a = c .before .before .before .before .a .given in
+    let a = after-a .a .given in
     let b : toZ w64 (ofZ w64 (a .0 .0)) ≡ a .0 .0 = search needs in
-    let n : c .before .before .natural .result ≡ natAbs (a .0 .0) = rw b at (c .before .before .natural .ensures) in
-    let z : c .before .before .natural .result - l .i ≡ 0 = omega arith in
+    let n : after-natural .natural .result ≡ natAbs (a .0 .0) = rw b at (after-natural .natural .ensures) in
+    let z : after-natural .natural .result - l .i ≡ 0 = omega arith in
     let h : volumeSection (x .s .now) (x .start .intervals) (x .start .rows) (x .start .at) ≡ ok (l .inv .done) (l .c .at) =
-    section-read (x .s .now) (x .start .intervals) (x .start .rows) (x .start .at) _ (a .0 .0) (c .before .before .before .before .before .before .least .ensures ∙ ap gotOf (a .1))
+    section-read (x .s .now) (x .start .intervals) (x .start .rows) (x .start .at) _ (a .0 .0) (after-no-less .no-less .ensures ∙ ap gotOf (a .1))
     ∙ ap (λ (k : ℕ). volumes (x .s .now) k (x .start .intervals) (x .start .rows) [] (a .0 .1 .0)) (sym n)
     ∙ sym (l .inv .rest)
     ∙ (rw z (volumes-end (x .s .now) (x .start .intervals) (l .c .rows) (l .inv .done) (l .c .at) 0)) in
@@ -189,8 +208,11 @@ returns-2 c =
 
 returns-3 : tie.Need-returns-3 Inv-loop μ-loop
 returns-3 c =
-    let x = c .before .before .before .before .before .args in
-    section-no (x .s .now) (x .start .intervals) (x .start .rows) (x .start .at) 0 _ (c .before .before .before .least .ensures ∙ ap gotOf (c .before .a2 .given .1))
+    let after-no-less = c .before .before .before in
+    let start = after-no-less .before .before in
+    let x = start .args in
+    section-no (x .s .now) (x .start .intervals) (x .start .rows) (x .start .at) 0 _ (after-no-less .no-less .ensures ∙ ap gotOf
+    (c .before .a2 .given .1))
 
 pub scan-volumes-spec : {M : Type 1} → statement M
 scan-volumes-spec =
@@ -198,7 +220,7 @@ scan-volumes-spec =
     (tie.spec
     Inv-loop
     μ-loop
-    least-requires
+    no-less-requires
     enum-known-a
     natural-requires
     loop-holds

@@ -2,10 +2,10 @@ use mir.Facts.{toZ-ofZ}
 -- `volumes::subtract` meets its contract: from the left, each difference is stored. Assumes nothing.
 use mathlib.Core.Path.{_≡_, sym, _∙_, ap}
 use mathlib.Core.List.{List}
-use Prim.Native.Nat.{ℕ, _-_, _≤_}
+use Prim.Native.Nat.{_-_, _≤_}
 use native.Mathlib.Omega.{arith}
 use borrow.Author.Needs.{needs}
-use lib.IntN.{ℤ, pos, negsuc, negℤ, natAbs, _+ℤ_, _-ℤ_, _*ℤ_}
+use lib.IntN.{ℤ, negsuc, negℤ, natAbs, _+ℤ_, _-ℤ_, _*ℤ_}
 use lib.ListN.{length}
 use mir.Syntax.{w64}
 use mir.Val.{toZ, ofZ, SFits}
@@ -49,12 +49,15 @@ mul-line-2 : tie.Need-mul-line-2 Inv-loop μ-loop
 mul-line-2 c = search needs
 
 slice-copy-out-line : tie.Need-slice-copy-out-line Inv-loop μ-loop
-slice-copy-out-line c = omega (arith, c .before .before .loop .inv .same, c .before .before .before .pre .1 .wide)
+slice-copy-out-line c =
+    let start = c .before .before .before in
+    omega (arith, c .before .before .loop .inv .same, start .pre .1 .wide)
 
 sub-line : tie.Need-sub-line Inv-loop μ-loop
 sub-line c =
+    let at-loop = c .before .before .before in
     let start = c .before .before .before .before in
-    let l = c .before .before .before .loop in
+    let l = at-loop .loop in
     let x = entry (l .j) (start .args .first .now) in
     let y = entry (l .j) (l .line) in
     let p : toZ w64 (ofZ w64 x) ≡ x = search needs in
@@ -66,7 +69,10 @@ mul-t12 : tie.Need-mul-t12 Inv-loop μ-loop
 mul-t12 c = search needs
 
 slice-set-from-line : tie.Need-slice-set-from-line Inv-loop μ-loop
-slice-set-from-line c = omega (arith, c .before .before .before .loop .inv .same, c .before .before .before .before .pre .1 .wide)
+slice-set-from-line c =
+    let at-loop = c .before .before .before in
+    let start = at-loop .before in
+    omega (arith, at-loop .loop .inv .same, start .pre .1 .wide)
 
 add-j : tie.Need-add-j Inv-loop μ-loop
 add-j c = omega arith
@@ -76,8 +82,9 @@ loop-less c = omega arith
 
 loop-again : tie.Need-loop-again Inv-loop μ-loop
 loop-again c =
+    let at-loop = c .before .before .before in
     let start = c .before .before .before .before in
-    let l = c .before .before .before .loop in
+    let l = at-loop .loop in
     let first = start .args .first .now in
     let line = start .args .line .now in
     let x = entry (l .j) first in

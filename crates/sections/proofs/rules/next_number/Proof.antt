@@ -4,7 +4,6 @@ use borrow.Author.Needs.{needs}
 use lib.IntN.{ℤ}
 use mir.Syntax.{w64}
 use mir.Val.{toZ, ofZ}
-use mir.Facts.{toZ-ofZ}
 use Rattle.text.specs.declared.Next.the-variants.{Found}
 use Rattle.sections.proofs.Numbers.{number-token, number-bad, number-end}
 use Rattle.sections.proofs.rules.next_number.Statement.{statement}

@@ -1,8 +1,7 @@
-use lib.IntN.{ℤ}
 use mir.Syntax.{w64}
 use mir.Val.{toZ, ofZ}
 -- `sections::rules::within` meets its contract: the next number, held to its range. Assumes nothing.
-use mathlib.Core.Path.{_≡_, sym, _∙_, ap}
+use mathlib.Core.Path.{_≡_, _∙_, ap}
 use borrow.Author.Needs.{needs}
 use mir.Facts.{toZ-ofZ}
 use Rattle.sections.specs.Rules.{then, inside}
@@ -24,16 +23,24 @@ enum-known-g-2 c = search needs
 
 returns : tie.Need-returns
 returns c =
-    let x = c .before .before .before .before .before .before .args in
-    let b : toZ w64 (ofZ w64 (c .before .before .g .given .0 .0)) ≡ c .before .before .g .given .0 .0 = search needs in
-    ap (λ o. then o (λ v e. inside (x .low) (x .high) (x .why) v e)) (c .before .before .before .before .next-number .ensures ∙ ap gotOf (c .before .before .g .given .1)) ∙
-    (rw (b, toZ-ofZ (c .before .before .before .before .before .before .fits .low),
-    toZ-ofZ (c .before .before .before .before .before .before .fits .high)) at (c .in-range .ensures))
+    let after-g = c .before .before in
+    let after-next-number = after-g .before .before in
+    let start = after-next-number .before .before in
+    let x = start .args in
+    let b : toZ w64 (ofZ w64 (after-g .g .given .0 .0)) ≡ after-g .g .given .0 .0 = search needs in
+    ap (λ o. then o (λ v e. inside (x .low) (x .high) (x .why) v e)) (after-next-number .next-number .ensures ∙ ap gotOf (after-g .g .given .1)) ∙
+    (rw (
+      b,
+      toZ-ofZ (start .fits .low),
+      toZ-ofZ (start .fits .high),
+    ) at (c .in-range .ensures))
 
 returns-2 : tie.Need-returns-2
 returns-2 c =
-    let x = c .before .before .before .before .before .args in
-    ap (λ o. then o (λ v e. inside (x .low) (x .high) (x .why) v e)) (c .before .before .before .next-number .ensures ∙ ap gotOf (c .before .g2 .given .1))
+    let after-next-number = c .before .before .before in
+    let start = after-next-number .before .before in
+    let x = start .args in
+    ap (λ o. then o (λ v e. inside (x .low) (x .high) (x .why) v e)) (after-next-number .next-number .ensures ∙ ap gotOf (c .before .g2 .given .1))
 
 pub within-spec : {M : Type 1} → statement M
 within-spec =
