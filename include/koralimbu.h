@@ -268,6 +268,9 @@ uint32_t koralimbu_preview(size_t n, size_t m,
  *   the count of rows; for each its kind, its number, its count of terms; for each term the index of its curve, from 1, and its coefficient
  *   the count of swept volumes; for each its count of paths; for each path its count of curves, and their indices in any order
  *
+ * Kind 0: the sum equals the number; 1: it is at least the number; 2: it is at most the number; 3: it is even, and its half is at least the
+ * number. The indices of a row rise.
+ *
  * A deck without swept volumes ends with a 0: "1 1 9 3000 0 0" is one curve, no row and no volume. All paths of a volume get equal sums: for each
  * path after its first a row is added, path 1 less that path equals 0, behind all rows so far and in the order of the text. A curve on both paths
  * cancels: its coefficient is 0. A path like the first makes a row of zeros, and a volume of one path adds none. These are equal rows like any

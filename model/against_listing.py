@@ -158,6 +158,11 @@ def cases(count, seed):
     yield from by_hand()
     yield from samples()
     yield from long_texts()
+    yield from made(count, seed)
+
+
+def made(count, seed):
+    """The random texts among the cases."""
     for number in range(1, count + 1):
         data = text_case(rng_for(seed, number))
         yield "text %d of seed %d" % (number, seed), data, listing(data)
@@ -182,7 +187,7 @@ def main(arguments):
         sys.exit("rt check listing failed")
     needs.built(PROGRAM, "rt check listing")
     passed = failed = 0
-    met = volumes_met(data for _, data, _ in cases(count, seed))
+    met = volumes_met(data for _, data, _ in made(count, seed))
     print("texts: " + ", ".join("%s %d" % pair for pair in met.items()))
     for kind in (kind for kind in met if met[kind] == 0):
         failed += 1

@@ -174,6 +174,11 @@ def cases(count, seed):
                        ("a text too long", deck.ljust(MAX_TEXT + 1))]:
         for what, lengths in wrong_lengths():
             yield "%s, %s" % (kind, what), data, lengths
+    yield from made(count, seed)
+
+
+def made(count, seed):
+    """The random texts among the cases."""
     for number in range(1, count + 1):
         rng = rng_for(seed, number)
         yield "text %d of seed %d" % (number, seed), text_case(rng), random_lengths(rng)
@@ -193,7 +198,7 @@ def ideals_met(after):
 def compare_readings(tally, reader, count, seed):
     """Every case, on buffers that hold anything."""
     met = dict.fromkeys(IDEALS, 0)
-    met.update(volumes_met(data for _, data, lengths in cases(count, seed)
+    met.update(volumes_met(data for _, data, lengths in made(count, seed)
                            if lengths == LENGTHS))
     for number, (what, data, lengths) in enumerate(cases(count, seed)):
         lists = noisy_lists(rng_for(seed + 1, number), lengths)

@@ -164,7 +164,7 @@ def swept_hold():
     for curves, shown in lines:
         check("swept-hold: what curves %s have" % curves, [values[i - 1] for i in curves], shown)
         check("swept-hold: the sum along %s" % curves, sum(shown), 21)
-    check("swept-hold: curve 1 starts at", (deck.given[0], deck.ideals[0]), (1, 9))
+    check("swept-hold: the ideal of curve 1", (deck.given[0], deck.ideals[0]), (1, 9))
     # the page's second paragraph on the deck, on one line
     said = " ".join(page.split("\nThe swash plate ")[1].split("\n\n")[0].split())
     for words in ("curves 1 and 2 are equal", "it starts at 9,", "and sees 21."):

@@ -3,7 +3,7 @@
 use std::error::Error;
 use std::fmt;
 
-/// Document 01's table "Turned back". The text says what to mend.
+/// Document 01's table "Turned back", with what document 02 adds. The text says what to mend.
 #[derive(Clone, Copy, PartialEq, Eq, Hash)]
 #[non_exhaustive]
 pub enum Refusal {

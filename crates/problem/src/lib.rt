@@ -87,7 +87,7 @@ pub struct Row {
     pub right: i64,
 }
 
-// Why a call is turned back: document 01's table, in its order.
+// Why a call is turned back: document 01's table with what document 02 adds, by number.
 pub enum Refusal {
     Size,
     Length,

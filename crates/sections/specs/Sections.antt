@@ -1,4 +1,4 @@
--- Document 01, "Continue, text, listing": the sections of a text. "Sections: the count of intervals, then for each its lower, upper and goal; the
+-- Document 01, "Continue, text, listing": the first two sections of a text. "Sections: the count of intervals, then for each its lower, upper and goal; the
 -- count of rows, then for each its kind, its number, its count of terms (0 to the count of intervals), then index and coefficient for each term."
 --   deckColumns, deckRows   the most columns and rows of a text: the problem's
 --   coefficientCount        the most coefficients
@@ -13,7 +13,7 @@
 --   line, lines             a row with its terms, and so many of them
 --   intervalSection s at    the section of intervals of the text s, from a place on
 --   rowSection s n at       the section of rows of a text with n intervals
--- Each section starts at the place where the one before ended, so that another can be put between them.
+-- Each section starts at the place where the one before ended, so that another can be put between or behind them.
 -- Assumes nothing.
 use mathlib.Core.Bool.{cond}
 use mathlib.Core.List.{List, [], _∷_, _++_}

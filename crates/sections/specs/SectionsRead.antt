@@ -37,8 +37,8 @@ use Rattle.sections.specs.declared.rows.KindGot.{KindGot}
 use Rattle.sections.specs.declared.rows.KindGot.the-variants as kind-got
 use Rattle.sections.specs.declared.rows.TermGot.{TermGot}
 use Rattle.sections.specs.declared.rows.TermGot.the-variants as term-got
-use Rattle.sections.specs.declared.rows.Step.{Step}
-use Rattle.sections.specs.declared.rows.Step.the-variants as step
+use Rattle.sections.specs.declared.Past.{Past}
+use Rattle.sections.specs.declared.Past.the-variants as past
 use Rattle.sections.specs.declared.rows.Slack.{Slack}
 use Rattle.sections.specs.declared.rows.Slack.the-variants as slack-got
 
@@ -69,9 +69,9 @@ pub record TermsStored (o : Outcome (List Term)) (e : ℕ) (u v : List ℤ) : Ty
   pub read : o ≡ ok terms e
   pub line : v ≡ placed terms u
 
-abbrev pub TermsRead : Outcome (List Term) → Step → List ℤ → List ℤ → Type 0
-TermsRead o (step.Went e) u v = TermsStored o e u v
-TermsRead o (step.Refused why) u v = o ≡ no why
+abbrev pub TermsRead : Outcome (List Term) → Past → List ℤ → List ℤ → Type 0
+TermsRead o (past.Went e) u v = TermsStored o e u v
+TermsRead o (past.Refused why) u v = o ≡ no why
 
 pub record LineStored (o : Outcome Line) (r : Row) (e : ℕ) (v : List ℤ) : Type 0 where
   pub terms : List Term

@@ -1,4 +1,4 @@
-// The sections of a text. Each takes the cursor that the one before left, and hands one on; a refused one leaves its buffers 0.
+// The first two sections of a text. Each takes the cursor that the one before left, and hands one on; a refused one leaves its buffers 0.
 mod columns;
 pub mod intervals;
 pub mod rows;
@@ -75,6 +75,12 @@ pub struct Cursor {
 // A section, or a line of one, that was read up to a cursor.
 pub enum Section {
     Read(Cursor),
+    Refused(Refusal),
+}
+
+// The place after a part of a section.
+pub enum Past {
+    Went(usize),
     Refused(Refusal),
 }
 

@@ -2,6 +2,7 @@
 use crate::Cursor;
 use crate::Got;
 use crate::Interval;
+use crate::Past;
 use crate::Section;
 use crate::Sizes;
 use crate::Term;
@@ -46,12 +47,6 @@ enum KindGot {
 // A term and the place after it.
 enum TermGot {
     Read(Term, usize),
-    Refused(Refusal),
-}
-
-// The place after a row's terms.
-enum Step {
-    Went(usize),
     Refused(Refusal),
 }
 
@@ -205,7 +200,7 @@ fn read_term(s: &[u8], at: usize, last: usize, count: usize) -> TermGot
 }
 
 // A row's k terms, into its line.
-fn read_terms(s: &[u8], at: usize, k: usize, count: usize, line: &mut [i64]) -> Step
+fn read_terms(s: &[u8], at: usize, k: usize, count: usize, line: &mut [i64]) -> Past
     requires { ⌜ count ≤ deckColumns ⌝ }
     requires { ⌜ length (now line) ≡ deckColumns ⌝ }
     ensures { λ r. ⌜ TermsRead (terms (now (s .entry)) k 0 count [] at) r (now (line .entry)) (now (line .exit)) ⌝ }
@@ -223,11 +218,11 @@ fn read_terms(s: &[u8], at: usize, k: usize, count: usize, line: &mut [i64]) -> 
                 p = e;
             }
             TermGot::Refused(why) => {
-                return Step::Refused(why);
+                return Past::Refused(why);
             }
         }
     }
-    Step::Went(p)
+    Past::Went(p)
 }
 
 // A row with its terms, into a line that holds 0.
@@ -245,8 +240,8 @@ fn read_line(s: &[u8], c: Cursor, line: &mut [i64]) -> RowGot
                 Got::Value(k, q) => {
                     let u = read_terms(s, q, natural(k), count, line);
                     match u {
-                        Step::Went(e) => RowGot::Read(row, e),
-                        Step::Refused(why) => RowGot::Refused(why),
+                        Past::Went(e) => RowGot::Read(row, e),
+                        Past::Refused(why) => RowGot::Refused(why),
                     }
                 }
                 Got::Refused(why) => RowGot::Refused(why),

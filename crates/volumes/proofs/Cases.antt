@@ -62,7 +62,7 @@ pub record VolumeCases : Type 0 where
   index-twice : reads (digit 1 (digit 2 (digit 3 (digit 1 (digit 2 (digit 1 [])))))) ≡ no WrongVolume
   -- an index may come again on another path
   index-again : reads (digit 1 (digit 2 (digit 1 (digit 1 (digit 1 (digit 1 [])))))) ≡ ok (((1 ∷ []) ∷ (1 ∷ []) ∷ []) ∷ []) 11
-  -- "a count of paths that makes a 49th row is 1", before a path is read: with one row there, 48 paths make 48 rows
+  -- "a count of paths that makes a 49th row is 1", before a path is read: with one row there, 48 paths make 48 rows, with two 49
   row-48 : reads (digit 1 (fortyEight (digit 0 []))) ≡ no WrongVolume
   row-49 : volumeSection (digit 1 (fortyEight (digit 0 []))) 4 2 0 ≡ no Size
   -- the rows of volumes before count too

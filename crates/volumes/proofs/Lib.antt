@@ -1,5 +1,5 @@
 -- The root of the laws that the proofs cite.
-pub mod Marks
+pub mod Ones
 pub mod Turns
 pub mod Lines
 pub mod Rows

@@ -19,7 +19,7 @@ use Rattle.sections.specs.Rules.{Outcome, ok, no, then, within, noLess}
 use Rattle.sections.proofs.Numbers.{same-ok, ok-not-no, count-in}
 use Rattle.volumes.specs.Volumes.{SweepPath, Volume, isOn, index, indices, path, paths, laterPaths, pathCount, volume, volumes, volumeSection}
 use Rattle.volumes.specs.VolumesRead.{Named}
-use Rattle.volumes.proofs.Marks.{named-end}
+use Rattle.volumes.proofs.Ones.{named-end}
 
 abbrev pub Distinct : SweepPath → Type 0
 Distinct [] = Unit {0}

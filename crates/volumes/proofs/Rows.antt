@@ -19,19 +19,19 @@ use Rattle.sections.specs.StatedColumns.{coefficientRows}
 use Rattle.sections.proofs.Storage.{map-two}
 use Rattle.volumes.specs.Volumes.{SweepPath, Volume, laterPaths}
 use Rattle.volumes.specs.PathLines.{pathLine, volumeLines, sweptLines}
-use Rattle.volumes.specs.VolumesRead.{Named, EachNamed, marksOf, laterRow}
-use Rattle.volumes.proofs.Marks.{swept-row}
+use Rattle.volumes.specs.VolumesRead.{Named, EachNamed, onesOf, laterRow}
+use Rattle.volumes.proofs.Ones.{swept-row}
 
 module _ (f : List ℤ) (w : length f ≡ deckColumns) where
   later-wide : (ps : List SweepPath) → All (Len deckColumns) (map (laterRow f) ps)
   later-wide [] = tt
-  later-wide (p ∷ ps) = (length-plus (negsuc 0) (marksOf p) f ∙ w, later-wide ps)
+  later-wide (p ∷ ps) = (length-plus (negsuc 0) (onesOf p) f ∙ w, later-wide ps)
 
   pub length-later : (ps : List SweepPath) → length (flat (map (laterRow f) ps)) ≡ length ps * deckColumns
   length-later ps = length-flat deckColumns (map (laterRow f) ps) (later-wide ps) ∙ ap (λ (k : ℕ). k * deckColumns) (length-map ps (laterRow f))
 
   pub length-row : (p : SweepPath) → length (laterRow f p) ≡ deckColumns
-  length-row p = length-plus (negsuc 0) (marksOf p) f ∙ w
+  length-row p = length-plus (negsuc 0) (onesOf p) f ∙ w
 
 pub later-end : (f : List ℤ) (ps : List SweepPath) (p : SweepPath)
     → flat (map (laterRow f) (ps ++ (p ∷ []))) ≡ flat (map (laterRow f) ps) ++ laterRow f p
@@ -41,7 +41,7 @@ later-end f ps p =
     ∙ ap (λ (u : List ℤ). flat (map (laterRow f) ps) ++ u) (append-nil (laterRow f p))
 
 pub later-lines : (k c : ℕ) (first : SweepPath) (ps : List SweepPath) → Named k first → EachNamed k ps
-    → flat (map (laterRow (marksOf first)) ps) ≡ coefficientRows deckColumns c (map (pathLine first) ps)
+    → flat (map (laterRow (onesOf first)) ps) ≡ coefficientRows deckColumns c (map (pathLine first) ps)
 unfolding coefficientRows
 later-lines k c first [] v w = refl
 later-lines k c first (p ∷ ps) v w =

@@ -1,5 +1,5 @@
 -- The rows of volumes and sums along paths.
---   dot-path      the marks of a path, times a list: the list's sum along it
+--   dot-path      the line of a path, times a list: the list's sum along it
 --   dot-later     the row of a later path, times a list: the sum along path 1 less that along the later one
 --   swept-zero    the rows of volumes, times a list, are 0 exactly when all paths of each volume have equal sums
 -- Assumes nothing.
@@ -29,7 +29,7 @@ use Rattle.volumes.specs.PathLines.{termsOf, pathTerms, pathLine, sweptL
 use Rattle.volumes.specs.Sweeping.{along, EqualSums, Sweeps}
 use Rattle.volumes.specs.VolumesRead.{Named}
 use Rattle.volumes.proofs.Lines.{termRow}
-use Rattle.volumes.proofs.Marks.{path-row}
+use Rattle.volumes.proofs.Ones.{path-row}
 use Rattle.volumes.proofs.Reading.{Proper, EachProper, AllProper}
 
 -- ---- a row that is 0 wherever the path goes

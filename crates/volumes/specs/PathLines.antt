@@ -3,7 +3,7 @@
 --   without q p         the indices of the path p that are not on the path q
 --   termsOf c p         a term with the coefficient c for each index of the path p
 --   pathTerms first p   path 1 less path k: what is on the one of them alone
---   pathLine first p    the row of a later path, as the text might have stated it
+--   pathLine first p    the row of a later path, as a line; its terms need not rise
 --   volumeLines v       the rows of a volume, one for each later path
 --   sweptLines vs       those of all volumes, in text order
 -- Assumes nothing.

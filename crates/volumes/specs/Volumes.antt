@@ -5,12 +5,12 @@
 --   isOn j p                the index j stands on the path p
 --   index, indices          an index after those of its path so far, and so many of them
 --   path, paths             a path of a text with so many intervals, and so many of them
---   laterPaths k            the paths after the first one, of k
+--   laterPaths k            how many paths come after the first, of k
 --   withRows, pathCount     a count of paths, where there are rows already
 --   volume, volumes         a volume, and so many of them, where there are rows already
 --   volumeSection s n m at  the section of volumes of a text with n intervals and m rows
--- "volume" and "path" are document 02's own terms. 13 and the new 1 come "at that number's place in the text": a count that is only too large is not
--- refused there, and then the text ends (11) or an index comes twice (13).
+-- "volume" and "path" are document 02's own terms. 13 and the new 1 come "at that number's place in the text": a count of volumes or of
+-- intervals that is only too large is not refused there, and then the text ends (11) or an index comes twice (13).
 -- Assumes nothing.
 use mathlib.Core.Bool.{Bool, false, cond, _||_}
 use mathlib.Core.List.{List, [], _∷_, _++_}

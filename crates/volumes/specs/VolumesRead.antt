@@ -1,11 +1,11 @@
 -- What the functions of the section of volumes answer, as outcomes, and what they leave in the buffers that they are lent.
 --   countGotOf               a count that was read, as an outcome
 --   Named n p                each index of the path p names one of n intervals; EachNamed, so it is on each path
---   marksOf p                the marks of the path p, a line of the largest size: 1 for each of its intervals, 0 for the others
---   Marks v                  a line of the largest size of 0 and 1 alone
---   PathRead                 a path, as an outcome, with its marks where it was not refused: PathStored
---   laterRow f p             the row of the later path p, where path 1 has the marks f
---   LaterRead, PathsRead     the next later path, and all of a volume, as outcomes, with the rows that they left: LaterStored, PathsStored
+--   onesOf p                 the line of the path p, of the largest size: 1 for each of its intervals, 0 for the others
+--   Ones v                   a line of the largest size, of numbers no larger than 1
+--   PathRead                 a path, as an outcome, with its line where it was not refused: PathStored
+--   laterRow f p             the row of the later path p, where path 1 has the line f
+--   LaterRead, PathsRead     the next later path, and all later ones of a volume, as outcomes, with the rows that they left: LaterStored, PathsStored
 --   VolumeRead               a volume, likewise: VolumeStored
 --   VolumesDone              what the section of volumes answers and leaves; `volumesDone` makes one
 --   volumesLeft c t o        that of the outcome o, from the cursor c on in the table t: the rows behind those that are there, or 0
@@ -30,8 +30,8 @@ use Rattle.sections.specs.declared.Section.{Section}
 use Rattle.sections.specs.declared.Section.the-variants as section
 use Rattle.volumes.specs.Volumes.{SweepPath, Volume, laterPaths}
 use Rattle.volumes.specs.PathLines.{termsOf, volumeLines, sweptLines}
-use Rattle.volumes.specs.declared.Step.{Step}
-use Rattle.volumes.specs.declared.Step.the-variants as step
+use Rattle.sections.specs.declared.Past.{Past}
+use Rattle.sections.specs.declared.Past.the-variants as past
 
 abbrev pub countGotOf : Got → Outcome ℕ
 countGotOf (got.Value v e) = ok (natAbs v) e
@@ -46,10 +46,10 @@ abbrev pub EachNamed : ℕ → List SweepPath → Type 0
 EachNamed n [] = Unit {0}
 EachNamed n (p ∷ ps) = Named n p × EachNamed n ps
 
-abbrev pub marksOf : SweepPath → List ℤ
-marksOf p = placed (termsOf (pos 1) p) (blank deckColumns)
+abbrev pub onesOf : SweepPath → List ℤ
+onesOf p = placed (termsOf (pos 1) p) (blank deckColumns)
 
-pub record Marks (v : List ℤ) : Type 0 where
+pub record Ones (v : List ℤ) : Type 0 where
   pub wide : length v ≡ deckColumns
   pub small : (j : ℕ) → natAbs (entry j v) ≤ 1
 
@@ -57,15 +57,15 @@ pub record PathStored (o : Outcome SweepPath) (e : ℕ) (v : List ℤ) : Type 0 
   pub path : SweepPath
   pub read : o ≡ ok path e
   pub named : Named deckColumns path
-  pub marks : v ≡ marksOf path
+  pub ones : v ≡ onesOf path
 
-abbrev pub PathRead : Outcome SweepPath → Step → List ℤ → Type 0
-PathRead o (step.Went e) v = PathStored o e v
-PathRead o (step.Refused why) v = o ≡ no why
+abbrev pub PathRead : Outcome SweepPath → Past → List ℤ → Type 0
+PathRead o (past.Went e) v = PathStored o e v
+PathRead o (past.Refused why) v = o ≡ no why
 
 -- ---- later paths: their rows in the table, deckColumns to a row
 abbrev pub laterRow : List ℤ → SweepPath → List ℤ
-laterRow f p = minus f (marksOf p)
+laterRow f p = minus f (onesOf p)
 
 -- from the cursor c up to the cursor d
 pub record LaterStored (o : Outcome SweepPath) (c d : Cursor) (f t₀ t : List ℤ) : Type 0 where

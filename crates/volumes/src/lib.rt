@@ -1,8 +1,9 @@
-// Document 02, (iii): the section of volumes. A path is read into a line of marks, 1 for each of its intervals; the row of a later path is path 1's
-// marks less its own. The right sides behind the rows are 0 already, as these rows' are.
+// Document 02, (iii): the section of volumes. A path is read into a line of 0 and 1, a 1 for each of its intervals; the row of a later path is
+// path 1's line less its own. The right sides behind the rows are 0 already, as these rows' are.
 use problem::Refusal;
 use sections::Cursor;
 use sections::Got;
+use sections::Past;
 use sections::Section;
 use sections::Sizes;
 use sections::rules::natural;
@@ -19,19 +20,13 @@ ghost use Rattle.lattice.specs.Rows.{minus};
 ghost use Rattle.sections.specs.Sections.{deckColumns, deckRows, coefficientCount};
 ghost use Rattle.sections.specs.StatedColumns.{blank};
 ghost use Rattle.volumes.specs.Volumes.{indices, path, paths, pathCount, volume, volumeSection};
-ghost use Rattle.volumes.specs.VolumesRead.{countGotOf, Marks, PathRead, LaterRead, PathsRead, VolumeRead, SectionRead};
+ghost use Rattle.volumes.specs.VolumesRead.{countGotOf, Ones, PathRead, LaterRead, PathsRead, VolumeRead, SectionRead};
 ghost use Rattle.volumes.specs.VolumesRead.{volumesDone, volumesLeft};
 
-// The place after a path.
-enum Step {
-    Went(usize),
-    Refused(Refusal),
-}
-
-// A path's k indices, into marks that hold 0: an index that is marked comes twice.
-fn read_indices(s: &[u8], at: usize, k: usize, count: usize, marks: &mut [i64]) -> Step
-    requires { ⌜ (count ≤ deckColumns) × (now marks ≡ blank deckColumns) ⌝ }
-    ensures { λ r. ⌜ PathRead (indices (now (s .entry)) k count [] at) r (now (marks .exit)) ⌝ }
+// A path's k indices, each a 1 in a line that holds 0: an index whose place holds a 1 comes twice.
+fn read_indices(s: &[u8], at: usize, k: usize, count: usize, ones: &mut [i64]) -> Past
+    requires { ⌜ (count ≤ deckColumns) × (now ones ≡ blank deckColumns) ⌝ }
+    ensures { λ r. ⌜ PathRead (indices (now (s .entry)) k count [] at) r (now (ones .exit)) ⌝ }
 {
     let mut p = at;
     for i in 0..k {
@@ -39,35 +34,35 @@ fn read_indices(s: &[u8], at: usize, k: usize, count: usize, marks: &mut [i64]) 
         match g {
             Got::Value(v, e) => {
                 let j = natural(v) - 1;
-                if natural(marks[j]) != 0 {
-                    return Step::Refused(Refusal::Volume);
+                if natural(ones[j]) != 0 {
+                    return Past::Refused(Refusal::Volume);
                 }
-                marks[j] = 1;
+                ones[j] = 1;
                 p = e;
             }
             Got::Refused(why) => {
-                return Step::Refused(why);
+                return Past::Refused(why);
             }
         }
     }
-    Step::Went(p)
+    Past::Went(p)
 }
 
 // A path: its count of intervals, and their indices.
-fn read_path(s: &[u8], at: usize, count: usize, marks: &mut [i64]) -> Step
-    requires { ⌜ (count ≤ deckColumns) × (now marks ≡ blank deckColumns) ⌝ }
-    ensures { λ r. ⌜ PathRead (path (now (s .entry)) count at) r (now (marks .exit)) ⌝ }
+fn read_path(s: &[u8], at: usize, count: usize, ones: &mut [i64]) -> Past
+    requires { ⌜ (count ≤ deckColumns) × (now ones ≡ blank deckColumns) ⌝ }
+    ensures { λ r. ⌜ PathRead (path (now (s .entry)) count at) r (now (ones .exit)) ⌝ }
 {
     let g = no_less(s, at, 1, Refusal::Volume);
     match g {
-        Got::Value(k, e) => read_indices(s, e, natural(k), count, marks),
-        Got::Refused(why) => Step::Refused(why),
+        Got::Value(k, e) => read_indices(s, e, natural(k), count, ones),
+        Got::Refused(why) => Past::Refused(why),
     }
 }
 
 // The first line less the second, in the second one's place.
 fn subtract(first: &[i64], line: &mut [i64])
-    requires { ⌜ Marks (now first) × Marks (now line) ⌝ }
+    requires { ⌜ Ones (now first) × Ones (now line) ⌝ }
     ensures { λ _. ⌜ now (line .exit) ≡ minus (now (first .entry)) (now (line .entry)) ⌝ }
 {
     for j in 0..Sizes::COLUMNS {
@@ -78,14 +73,14 @@ fn subtract(first: &[i64], line: &mut [i64])
 // The next later path, and its row.
 fn next_path(s: &[u8], c: Cursor, first: &[i64], table: &mut [i64]) -> Section
     requires { ⌜ (c .intervals ≤ deckColumns) × (c .rows < deckRows) ⌝ }
-    requires { ⌜ Marks (now first) × (length (now table) ≡ coefficientCount) ⌝ }
+    requires { ⌜ Ones (now first) × (length (now table) ≡ coefficientCount) ⌝ }
     ensures { λ r. ⌜ LaterRead (path (now (s .entry)) (c .intervals) (c .at)) c r
         (now (first .entry)) (now (table .entry)) (now (table .exit)) ⌝ }
 {
     let mut line = [0i64; Sizes::COLUMNS];
     let g = read_path(s, c.at, c.intervals, &mut line);
     match g {
-        Step::Went(e) => {
+        Past::Went(e) => {
             subtract(first, &mut line);
             copy(table, c.rows * Sizes::COLUMNS, &line);
             Section::Read(Cursor {
@@ -95,14 +90,14 @@ fn next_path(s: &[u8], c: Cursor, first: &[i64], table: &mut [i64]) -> Section
                 rows: c.rows + 1,
             })
         }
-        Step::Refused(why) => Section::Refused(why),
+        Past::Refused(why) => Section::Refused(why),
     }
 }
 
 // The later paths of a volume, up to a count of rows.
 fn later_paths(s: &[u8], start: Cursor, end: usize, first: &[i64], table: &mut [i64]) -> Section
     requires { ⌜ (start .intervals ≤ deckColumns) × (start .rows ≤ end) × (end ≤ deckRows) ⌝ }
-    requires { ⌜ Marks (now first) × (length (now table) ≡ coefficientCount) ⌝ }
+    requires { ⌜ Ones (now first) × (length (now table) ≡ coefficientCount) ⌝ }
     ensures { λ r. ⌜ PathsRead (λ done. paths (now (s .entry)) (end - start .rows) (start .intervals) done (start .at)) start r
         (now (first .entry)) (now (table .entry)) (now (table .exit)) ⌝ }
 {
@@ -156,7 +151,7 @@ fn read_volume(s: &[u8], c: Cursor, table: &mut [i64]) -> Section
             let mut first = [0i64; Sizes::COLUMNS];
             let a = read_path(s, p, c.intervals, &mut first);
             match a {
-                Step::Went(e) => {
+                Past::Went(e) => {
                     let start = Cursor {
                         at: e,
                         intervals: c.intervals,
@@ -165,14 +160,14 @@ fn read_volume(s: &[u8], c: Cursor, table: &mut [i64]) -> Section
                     };
                     later_paths(s, start, c.rows + (k - 1), &first, table)
                 }
-                Step::Refused(why) => Section::Refused(why),
+                Past::Refused(why) => Section::Refused(why),
             }
         }
         Got::Refused(why) => Section::Refused(why),
     }
 }
 
-// The count of volumes and then each of them. A refused section leaves some rows.
+// The count of volumes and then each of them. A refused section may leave some rows.
 fn scan_volumes(s: &[u8], start: Cursor, table: &mut [i64]) -> Section
     requires { ⌜ (start .intervals ≤ deckColumns) × (start .rows ≤ deckRows) × (length (now table) ≡ coefficientCount) ⌝ }
     ensures { λ r. ⌜ SectionRead start (now (table .entry))

@@ -1,4 +1,4 @@
--- `volumes::next_path` meets its contract: the path's marks are taken from path 1's, and the row is stored at the cursor. Assumes nothing.
+-- `volumes::next_path` meets its contract: the path's line is taken from path 1's, and the row is stored at the cursor. Assumes nothing.
 use mathlib.Core.Path.{refl, sym, ap, _∙_, subst}
 use Prim.Native.Nat.{_*_}
 use Rattle.lattice.specs.Rows.{minus}
@@ -7,9 +7,9 @@ use Rattle.sections.specs.Sections.{deckColumns}
 use Rattle.sections.specs.StatedColumns.{blank}
 use Rattle.sections.specs.declared.Cursor.{Cursor}
 use Rattle.volumes.specs.Volumes.{path}
-use Rattle.volumes.specs.VolumesRead.{Marks, PathStored, PathRead}
-use Rattle.volumes.specs.declared.Step.{Step}
-use Rattle.volumes.proofs.Marks.{marks-are}
+use Rattle.volumes.specs.VolumesRead.{Ones, PathStored, PathRead}
+use Rattle.sections.specs.declared.Past.{Past}
+use Rattle.volumes.proofs.Ones.{ones-are}
 use borrow.Author.Needs.{needs}
 use Rattle.volumes.proofs.next_path.Statement.{statement}
 use Rattle.volumes.proofs.next_path.Tie as tie
@@ -28,11 +28,11 @@ module _ (d : tie.After-g) where
   found : PathStored (path (start .args .s .now) (cursor .intervals) (cursor .at)) (d .g .given .0 .0)
       (after-read-path .read-path .last .1 .1 .1 .0)
   found =
-      subst (λ (r : Step). PathRead (path (start .args .s .now) (cursor .intervals) (cursor .at)) r (after-read-path .read-path .last .1 .1 .1 .0))
+      subst (λ (r : Past). PathRead (path (start .args .s .now) (cursor .intervals) (cursor .at)) r (after-read-path .read-path .last .1 .1 .1 .0))
       (d .g .given .1) (after-read-path .read-path .ensures)
 
-  marks : Marks (after-read-path .read-path .last .1 .1 .1 .0)
-  marks = subst Marks (sym (found .marks)) (marks-are (found .path) deckColumns (found .named))
+  ones : Ones (after-read-path .read-path .last .1 .1 .1 .0)
+  ones = subst Ones (sym (found .ones)) (ones-are (found .path) deckColumns (found .named))
 
 slice-aggregate-read-path : tie.Need-slice-aggregate-read-path
 slice-aggregate-read-path c = search needs
@@ -50,7 +50,7 @@ slice-aggregate-subtract c = search needs
 subtract-requires : tie.Need-subtract-requires
 subtract-requires c κs =
     let d = c .before .before in
-    (start d .pre .1 .0, marks d)
+    (start d .pre .1 .0, ones d)
 
 mul-copy : tie.Need-mul-copy
 mul-copy c = search needs
@@ -85,7 +85,7 @@ returns c =
       columns = refl;
       rows = refl;
       table-is = c .before .before .copy .ensures ∙ ap (overwritten (x .table .now) (x .c .rows * deckColumns))
-          (after-subtract .subtract .ensures ∙ ap (minus (x .first .now)) (found d .marks));
+          (after-subtract .subtract .ensures ∙ ap (minus (x .first .now)) (found d .ones));
     }
 
 returns-2 : tie.Need-returns-2

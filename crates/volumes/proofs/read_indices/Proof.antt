@@ -1,4 +1,4 @@
--- `volumes::read_indices` meets its contract. The invariant: what is left to read, after the indices done, is what was to be read, and the marks are
+-- `volumes::read_indices` meets its contract. The invariant: what is left to read, after the indices done, is what was to be read, and the ones are
 -- those of the indices done. Assumes nothing.
 use mathlib.Core.Path.{_≡_, sym, _∙_, ap}
 use mathlib.Core.Bool.{true, false}
@@ -20,8 +20,8 @@ use Rattle.sections.specs.SectionsRead.{gotOf}
 use Rattle.sections.proofs.Numbers.{count-in}
 use Rattle.sections.proofs.Storage.{length-blank}
 use Rattle.volumes.specs.Volumes.{SweepPath, isOn, index, indices}
-use Rattle.volumes.specs.VolumesRead.{Named, marksOf}
-use Rattle.volumes.proofs.Marks.{named-end, marked-on, marks-none, marks-more, length-marks}
+use Rattle.volumes.specs.VolumesRead.{Named, onesOf}
+use Rattle.volumes.proofs.Ones.{named-end, one-on, ones-none, ones-more, length-ones}
 use Rattle.volumes.proofs.Turns.{index-read, index-twice, index-no, indices-more, indices-stop, indices-end}
 use Rattle.volumes.proofs.read_indices.Statement.{statement}
 use Rattle.volumes.proofs.read_indices.Tie as tie
@@ -31,10 +31,10 @@ record Sofar (s : List ℕ) (at k count i p : ℕ) (u : List ℤ) : Type 0 where
   done : SweepPath
   named : Named deckColumns done
   rest : indices s (k - i) count done p ≡ indices s k count [] at
-  marks : u ≡ marksOf done
+  ones : u ≡ onesOf done
 
 room : {s : List ℕ} {at k count i p : ℕ} {u : List ℤ} → Sofar s at k count i p u → length u ≡ deckColumns
-room v = ap length (v .marks) ∙ length-marks (v .done)
+room v = ap length (v .ones) ∙ length-ones (v .done)
 
 long : {u : List ℤ} → u ≡ blank deckColumns → length u ≡ deckColumns
 long e = ap length e ∙ length-blank deckColumns
@@ -46,20 +46,20 @@ record Read (s : List ℕ) (count p : ℕ) (v : ℤ) (e n : ℕ) : Type 0 where
   low : 1 ≤ n
   high : n ≤ deckColumns
 
--- a marked index comes twice
+-- an index that is there already
 twice : {s : List ℕ} {at k count i p : ℕ} {u : List ℤ} {v : ℤ} {e n : ℕ} → Sofar s at k count i p u → i < k → Read s count p v e n
     → (natAbs (entry (n - 1) u) ≡ 0 → ⊥) → indices s k count [] at ≡ no Volume
 twice {s} {at} {k} {count} {i} {p} {u} {v} {e} {n} f h r z =
-    let o : isOn n (f .done) ≡ true = marked-on (f .done) deckColumns n (f .named) (r .low) (r .high) .0 (rw (f .marks) at z) in
+    let o : isOn n (f .done) ≡ true = one-on (f .done) deckColumns n (f .named) (r .low) (r .high) .0 (rw (f .ones) at z) in
     sym (f .rest) ∙ indices-stop s count (f .done) p 0 (k - i) Volume (omega arith) (index-twice s count (f .done) p e v (r .read)
     (rw (r .is) at o))
 
--- another one is marked
+-- an index that is not
 more : {s : List ℕ} {at k count i p : ℕ} {u : List ℤ} {v : ℤ} {e n : ℕ} → Sofar s at k count i p u → i < k → Read s count p v e n
     → natAbs (entry (n - 1) u) ≡ 0 → Sofar s at k count (i + 1) e (set u (n - 1) (pos 1))
 more {s} {at} {k} {count} {i} {p} {u} {v} {e} {n} f h r z =
     let j : k - (i + 1) ≡ k - i - 1 = omega arith in
-    let o : isOn n (f .done) ≡ false = marked-on (f .done) deckColumns n (f .named) (r .low) (r .high) .1 (rw (f .marks) at z) in
+    let o : isOn n (f .done) ≡ false = one-on (f .done) deckColumns n (f .named) (r .low) (r .high) .1 (rw (f .ones) at z) in
     let q : index s count (f .done) p ≡ ok n e = index-read s count (f .done) p e v (r .read) (rw (r .is) at o) ∙ ap (λ (j : ℕ). ok j e)
     (sym (r .is)) in
     record {
@@ -67,14 +67,14 @@ more {s} {at} {k} {count} {i} {p} {u} {v} {e} {n} f h r z =
       done = f .done ++ (n ∷ []);
       named = named-end deckColumns (f .done) n (f .named) (r .low, r .high);
       rest = rw j (sym (indices-more s count (f .done) p e (k - i) n (omega arith) q) ∙ f .rest);
-      marks = ap (λ (w : List ℤ). set w (n - 1) (pos 1)) (f .marks) ∙ marks-more (f .done) n;
+      ones = ap (λ (w : List ℤ). set w (n - 1) (pos 1)) (f .ones) ∙ ones-more (f .done) n;
     }
 
 abbrev Inv-loop : tie.InvT-loop
-Inv-loop s at k count marks₀ p₀ i₀ marks p i = Sofar s at k count i p marks
+Inv-loop s at k count ones₀ p₀ i₀ ones p i = Sofar s at k count i p ones
 
 abbrev μ-loop : tie.MeasureT-loop
-μ-loop s at k count marks₀ p₀ i₀ marks p i = k - i
+μ-loop s at k count ones₀ p₀ i₀ ones p i = k - i
 
 loop-holds : tie.Need-loop-holds Inv-loop μ-loop
 loop-holds c =
@@ -85,7 +85,7 @@ loop-holds c =
       done = [];
       named = tt;
       rest = ap (λ (j : ℕ). indices (x .s .now) j (x .count) [] (x .at)) z;
-      marks = c .before .pre .1 ∙ marks-none;
+      ones = c .before .pre .1 ∙ ones-none;
     }
 
 signed-requires : tie.Need-signed-requires Inv-loop μ-loop
@@ -147,17 +147,17 @@ returns c =
     let at-loop = after-natural .before .before .before .before .before .before .before in
     let f = found (after-natural) in
     let l = at-loop .loop in
-    let b : toZ w64 (ofZ w64 (entry (after-natural .natural .result - 1) (l .marks))) ≡ entry (after-natural .natural .result - 1)
-    (l .marks) = search needs in
+    let b : toZ w64 (ofZ w64 (entry (after-natural .natural .result - 1) (l .ones))) ≡ entry (after-natural .natural .result - 1)
+    (l .ones) = search needs in
     twice (l .inv) (omega arith) f (rw (rw b at (c .before .natural2 .ensures)) at (c .if1 .taken))
 
-mul-marks : tie.Need-mul-marks Inv-loop μ-loop
-mul-marks c =
+mul-ones : tie.Need-mul-ones Inv-loop μ-loop
+mul-ones c =
     let f = found (c .before .before .before) in
     omega (arith, f .high)
 
-slice-set-of-marks : tie.Need-slice-set-of-marks Inv-loop μ-loop
-slice-set-of-marks c =
+slice-set-of-ones : tie.Need-slice-set-of-ones Inv-loop μ-loop
+slice-set-of-ones c =
     let at-loop = c .before .before .before .before .before .before .before .before .before .before in
     let f = found (c .before .before .before) in
     omega (arith, f .low, f .high, room (at-loop .loop .inv))
@@ -196,8 +196,8 @@ loop-again c =
     let at-loop = after-natural .before .before .before .before .before .before .before in
     let f = found (after-natural) in
     let l = at-loop .loop in
-    let b : toZ w64 (ofZ w64 (entry (after-natural .natural .result - 1) (l .marks))) ≡ entry (after-natural .natural .result - 1)
-    (l .marks) = search needs in
+    let b : toZ w64 (ofZ w64 (entry (after-natural .natural .result - 1) (l .ones))) ≡ entry (after-natural .natural .result - 1)
+    (l .ones) = search needs in
     more (l .inv) (omega arith) f (rw (rw b at (c .before .natural2 .ensures)) at (c .if1 .left))
 
 same-length-3 : tie.Need-same-length-3 Inv-loop μ-loop
@@ -215,7 +215,7 @@ returns-3 c =
       path = l .inv .done;
       read = sym (l .inv .rest) ∙ (rw e (indices-end (x .s .now) (x .count) (l .inv .done) (l .p) 0));
       named = l .inv .named;
-      marks = l .inv .marks;
+      ones = l .inv .ones;
     }
 
 pub read-indices-spec : {M : Type 1} → statement M
@@ -235,8 +235,8 @@ read-indices-spec =
     natural-requires-2
     same-length
     returns
-    mul-marks
-    slice-set-of-marks
+    mul-ones
+    slice-set-of-ones
     enum-known-g-2
     same-length-2
     returns-2

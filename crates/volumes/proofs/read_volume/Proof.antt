@@ -16,9 +16,9 @@ use Rattle.sections.specs.declared.Cursor.{Cursor}
 use Rattle.sections.specs.declared.Section.{Section}
 use Rattle.sections.specs.declared.Section.the-variants.{Read, Refused}
 use Rattle.volumes.specs.Volumes.{SweepPath, path, paths, laterPaths, pathCount, volume}
-use Rattle.volumes.specs.VolumesRead.{countGotOf, Named, Marks, marksOf, laterRow, PathStored, PathRead, PathsRead, VolumeRead}
-use Rattle.volumes.specs.declared.Step.{Step}
-use Rattle.volumes.proofs.Marks.{marks-are}
+use Rattle.volumes.specs.VolumesRead.{countGotOf, Named, Ones, onesOf, laterRow, PathStored, PathRead, PathsRead, VolumeRead}
+use Rattle.sections.specs.declared.Past.{Past}
+use Rattle.volumes.proofs.Ones.{ones-are}
 use Rattle.volumes.proofs.Turns.{paths-more, paths-stop, count-in, volume-read, volume-no}
 use Rattle.volumes.proofs.Rows.{later-lines}
 use borrow.Author.Needs.{needs}
@@ -27,7 +27,7 @@ use Rattle.volumes.proofs.read_volume.Tie as tie
 
 -- path 1, and the later ones with their rows
 rejoined : (s : List ℕ) (c : Cursor) (f t₀ t : List ℤ) {k p e : ℕ} {first : SweepPath} → pathCount s (c .rows) (c .at) ≡ ok k p
-    → path s (c .intervals) p ≡ ok first e → Named deckColumns first → f ≡ marksOf first → (r : Section)
+    → path s (c .intervals) p ≡ ok first e → Named deckColumns first → f ≡ onesOf first → (r : Section)
     → PathsRead (λ done. paths s (c .rows + (k - 1) - c .rows) (c .intervals) done e) (cursor e (c .intervals) (c .columns) (c .rows)) r f t₀ t
     → VolumeRead (volume s (c .intervals) (c .rows) (c .at)) c r t₀ t
 rejoined s c f t₀ t {k} {p} {e} {first} a b n m r o =
@@ -80,12 +80,12 @@ module _ (d : tie.After-a) where
       (after-natural .before .before .g .given .0 .1 .0)) (d .a .given .0 .0) (d .before .before .before .read-path .last .1 .1 .1 .0)
   found =
       let w = d .before .before .before .read-path in
-      subst (λ (r : Step). PathRead
+      subst (λ (r : Past). PathRead
       (path (start after-natural .args .s .now) (start after-natural .args .c .intervals) (after-natural .before .before .g .given .0 .1 .0)) r
       (w .last .1 .1 .1 .0)) (d .a .given .1) (w .ensures)
 
-  marks : Marks (d .before .before .before .read-path .last .1 .1 .1 .0)
-  marks = subst Marks (sym (found .marks)) (marks-are (found .path) deckColumns (found .named))
+  ones : Ones (d .before .before .before .read-path .last .1 .1 .1 .0)
+  ones = subst Ones (sym (found .ones)) (ones-are (found .path) deckColumns (found .named))
 
 count-paths-requires : tie.Need-count-paths-requires
 count-paths-requires c κs = search needs
@@ -123,7 +123,7 @@ later-paths-requires c κs =
     let d = c .before .before .before .before in
     let p = start (after-natural d) .pre in
     let f = fits (after-natural d) in
-    ((p .0, omega arith, omega (arith, f .1)), (marks d, p .2))
+    ((p .0, omega arith, omega (arith, f .1)), (ones d, p .2))
 
 enum-known-a-2 : tie.Need-enum-known-a-2
 enum-known-a-2 c = search needs
@@ -141,7 +141,7 @@ returns c =
     let n = after-natural d in
     let x = start n .args in
     let w = c .before .later-paths in
-    rejoined (x .s .now) (x .c) _ (x .table .now) (w .last .1 .1 .1 .1 .0) (counted n) (found d .read) (found d .named) (found d .marks)
+    rejoined (x .s .now) (x .c) _ (x .table .now) (w .last .1 .1 .1 .1 .0) (counted n) (found d .read) (found d .named) (found d .ones)
     (w .result) (w .ensures)
 
 returns-2 : tie.Need-returns-2

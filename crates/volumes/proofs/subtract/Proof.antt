@@ -16,14 +16,14 @@ use Rattle.whole.proofs.Writing.{WrittenTo, starts, goes-on, ends, unread}
 use Rattle.lattice.specs.Rows.{minus}
 use Rattle.lattice.proofs.RowLaws.{length-plus, entry-plus}
 use Rattle.sections.specs.Sections.{deckColumns}
-use Rattle.volumes.specs.VolumesRead.{Marks}
+use Rattle.volumes.specs.VolumesRead.{Ones}
 use Rattle.volumes.proofs.subtract.Statement.{statement}
 use Rattle.volumes.proofs.subtract.Tie as tie
 
-wide : {first : List ℤ} (line : List ℤ) → Marks first → length (minus first line) ≡ deckColumns
+wide : {first : List ℤ} (line : List ℤ) → Ones first → length (minus first line) ≡ deckColumns
 wide {first} line m = length-plus (negsuc 0) line first ∙ m .wide
 
--- a difference of marks is small
+-- a difference of such numbers is small
 less-fits : (x y : ℤ) → natAbs x ≤ 1 → natAbs y ≤ 1 → SFits w64 (x -ℤ y)
 less-fits x y h k = sfits-abs (x -ℤ y) (omega (arith, abs-add x (negℤ y), abs-neg y))
 

@@ -1,8 +1,8 @@
--- Laws of the marks of a path, and of the row that two paths make.
+-- Laws of the line of a path, and of the row that two paths make.
 --   named-end                  one more index that names an interval
 --   entry-termed               what stands at a place once the terms of a path are placed
---   entry-marks, marked-on     the mark of an interval, and whether it tells that the interval is on the path
---   marks-none, -more, -are    the marks of no index, of one more, and what all of them are; length-marks, how many
+--   entry-ones, one-on         what stands at an interval's place, and whether it tells that the interval is on the path
+--   ones-none, -more, -are    the line of no index, of one more, and what all of them are; length-ones, how long
 --   on-without, named-without  the indices of a path that are not on another
 --   path-row                   path 1 less path k, as a row of n numbers; swept-row, of the largest size
 -- Assumes nothing.
@@ -26,7 +26,7 @@ use Rattle.sections.specs.declared.Term.{Term}
 use Rattle.sections.proofs.Storage.{blank-is, length-blank, length-placed, placed-none, placed-more}
 use Rattle.volumes.specs.Volumes.{SweepPath, isOn}
 use Rattle.volumes.specs.PathLines.{without, termsOf, pathTerms}
-use Rattle.volumes.specs.VolumesRead.{Named, marksOf, Marks, laterRow}
+use Rattle.volumes.specs.VolumesRead.{Named, onesOf, Ones, laterRow}
 
 pub named-end : (n : ℕ) (p : SweepPath) (j : ℕ) → Named n p → (1 ≤ j) × (j ≤ n) → Named n (p ++ (j ∷ []))
 named-end n [] j w h = (h, tt)
@@ -58,58 +58,58 @@ unfolding placed
 placed-two [] b u = refl
 placed-two (t ∷ a) b u = placed-two a b (set u (t .index - 1) (t .coefficient))
 
--- ---- marks
-pub length-marks : (p : SweepPath) → length (marksOf p) ≡ deckColumns
-length-marks p = length-placed (termsOf (pos 1) p) (blank deckColumns) ∙ length-blank deckColumns
+-- ---- the line of a path
+pub length-ones : (p : SweepPath) → length (onesOf p) ≡ deckColumns
+length-ones p = length-placed (termsOf (pos 1) p) (blank deckColumns) ∙ length-blank deckColumns
 
 entry-blank : (n i : ℕ) → entry i (blank n) ≡ pos 0
 entry-blank n i = ap (entry i) (blank-is n) ∙ entry-zeros i n
 
-pub entry-marks : (p : SweepPath) (n i : ℕ) → Named n p → i < deckColumns → entry i (marksOf p) ≡ cond (isOn (suc i) p) (pos 1) (pos 0)
-entry-marks p n i w h =
+pub entry-ones : (p : SweepPath) (n i : ℕ) → Named n p → i < deckColumns → entry i (onesOf p) ≡ cond (isOn (suc i) p) (pos 1) (pos 0)
+entry-ones p n i w h =
     entry-termed (pos 1) p (blank deckColumns) n i w (omega (arith, length-blank deckColumns))
     ∙ ap (cond (isOn (suc i) p) (pos 1)) (entry-blank deckColumns i)
 
-pub marked-on : (p : SweepPath) (n j : ℕ) → Named n p → 1 ≤ j → j ≤ deckColumns
-    → ((natAbs (entry (j - 1) (marksOf p)) ≡ 0 → ⊥) → isOn j p ≡ true) × (natAbs (entry (j - 1) (marksOf p)) ≡ 0 → isOn j p ≡ false)
-marked-on p n j w h k =
+pub one-on : (p : SweepPath) (n j : ℕ) → Named n p → 1 ≤ j → j ≤ deckColumns
+    → ((natAbs (entry (j - 1) (onesOf p)) ≡ 0 → ⊥) → isOn j p ≡ true) × (natAbs (entry (j - 1) (onesOf p)) ≡ 0 → isOn j p ≡ false)
+one-on p n j w h k =
     let s : suc (j - 1) ≡ j = omega arith in
-    let e : entry (j - 1) (marksOf p) ≡ cond (isOn j p) (pos 1) (pos 0) =
-    entry-marks p n (j - 1) w (omega arith) ∙ ap (λ (i : ℕ). cond (isOn i p) (pos 1) (pos 0)) s in
+    let e : entry (j - 1) (onesOf p) ≡ cond (isOn j p) (pos 1) (pos 0) =
+    entry-ones p n (j - 1) w (omega arith) ∙ ap (λ (i : ℕ). cond (isOn i p) (pos 1) (pos 0)) s in
     go (isOn j p) (ap natAbs e)
   where
-    go : (t : Bool) → natAbs (entry (j - 1) (marksOf p)) ≡ natAbs (cond t (pos 1) (pos 0))
-        → ((natAbs (entry (j - 1) (marksOf p)) ≡ 0 → ⊥) → t ≡ true) × (natAbs (entry (j - 1) (marksOf p)) ≡ 0 → t ≡ false)
+    go : (t : Bool) → natAbs (entry (j - 1) (onesOf p)) ≡ natAbs (cond t (pos 1) (pos 0))
+        → ((natAbs (entry (j - 1) (onesOf p)) ≡ 0 → ⊥) → t ≡ true) × (natAbs (entry (j - 1) (onesOf p)) ≡ 0 → t ≡ false)
     go true e = ((λ f. refl), (λ f. absurd (omega arith)))
     go false e = ((λ f. absurd (f e)), (λ f. refl))
 
-pub marks-none : blank deckColumns ≡ marksOf []
+pub ones-none : blank deckColumns ≡ onesOf []
 unfolding termsOf
-marks-none = placed-none (blank deckColumns)
+ones-none = placed-none (blank deckColumns)
 
 terms-end : (c : ℤ) (p : SweepPath) (j : ℕ) → termsOf c (p ++ (j ∷ [])) ≡ termsOf c p ++ (record { index = j; coefficient = c } ∷ [])
 unfolding termsOf
 terms-end c [] j = refl
 terms-end c (i ∷ p) j = ap (λ (ts : List Term). record { index = i; coefficient = c } ∷ ts) (terms-end c p j)
 
-pub marks-more : (p : SweepPath) (j : ℕ) → set (marksOf p) (j - 1) (pos 1) ≡ marksOf (p ++ (j ∷ []))
-marks-more p j =
+pub ones-more : (p : SweepPath) (j : ℕ) → set (onesOf p) (j - 1) (pos 1) ≡ onesOf (p ++ (j ∷ []))
+ones-more p j =
     placed-more (termsOf (pos 1) p) (record { index = j; coefficient = pos 1 }) (blank deckColumns)
     ∙ ap (λ (ts : List Term). placed ts (blank deckColumns)) (sym (terms-end (pos 1) p j))
 
-pub marks-are : (p : SweepPath) (n : ℕ) → Named n p → Marks (marksOf p)
-marks-are p n w = record { wide = length-marks p; small = λ j. go j (ltb j deckColumns) refl }
+pub ones-are : (p : SweepPath) (n : ℕ) → Named n p → Ones (onesOf p)
+ones-are p n w = record { wide = length-ones p; small = λ j. go j (ltb j deckColumns) refl }
   where
     one : (t : Bool) → natAbs (cond t (pos 1) (pos 0)) ≤ 1
     one true = omega arith
     one false = omega arith
 
-    go : (j : ℕ) (t : Bool) → ltb j deckColumns ≡ t → natAbs (entry j (marksOf p)) ≤ 1
+    go : (j : ℕ) (t : Bool) → ltb j deckColumns ≡ t → natAbs (entry j (onesOf p)) ≤ 1
     go j true e =
-        subst (λ (x : ℤ). natAbs x ≤ 1) (sym (entry-marks p n j w (ltb-true j deckColumns e))) (one (isOn (suc j) p))
+        subst (λ (x : ℤ). natAbs x ≤ 1) (sym (entry-ones p n j w (ltb-true j deckColumns e))) (one (isOn (suc j) p))
     go j false e =
-        let l : length (marksOf p) ≤ j = omega (arith, length-marks p, ltb-false j deckColumns e) in
-        rw (List·getD-eq-default (marksOf p) (pos 0) l) (omega arith)
+        let l : length (onesOf p) ≤ j = omega (arith, length-ones p, ltb-false j deckColumns e) in
+        rw (List·getD-eq-default (onesOf p) (pos 0) l) (omega arith)
 
 -- ---- what is on one path alone
 pub on-without : (j : ℕ) (q p : SweepPath) → isOn j (without q p) ≡ (isOn j p && not (isOn j q))
@@ -158,8 +158,8 @@ module _ (n k : ℕ) (first p : SweepPath) (v : Named k first) (w : Named k p) w
       (entry-termed (pos 1) a (zeros n) k i (named-without k p first v) (omega (arith, z))
       ∙ ap₂ (λ (t : Bool) (x : ℤ). cond t (pos 1) x) (on-without (suc i) p first) (entry-zeros i n))
 
-  mark : (q : SweepPath) → Named k q → (i : ℕ) → i < n → entry i (placed (termsOf (pos 1) q) (zeros n)) ≡ cond (isOn (suc i) q) (pos 1) (pos 0)
-  mark q r i h =
+  own : (q : SweepPath) → Named k q → (i : ℕ) → i < n → entry i (placed (termsOf (pos 1) q) (zeros n)) ≡ cond (isOn (suc i) q) (pos 1) (pos 0)
+  own q r i h =
       entry-termed (pos 1) q (zeros n) k i r (omega (arith, length-replicate n (pos 0))) ∙ ap (cond (isOn (suc i) q) (pos 1)) (entry-zeros i n)
 
   less : (f g : Bool)
@@ -179,9 +179,9 @@ module _ (n k : ℕ) (first p : SweepPath) (v : Named k first) (w : Named k p) w
       ext-getD (pos 0) (placed (pathTerms first p) (zeros n)) (minus ours theirs) (l ∙ sym o ∙ sym (length-plus (negsuc 0) theirs ours))
       (λ i h. alone i (omega (arith, l, z)) ∙ less (isOn (suc i) first) (isOn (suc i) p)
       ∙ sym (entry-plus i (negsuc 0) theirs ours (omega (arith, l, o))
-      ∙ ap₂ (λ (x y : ℤ). x +ℤ negsuc 0 *ℤ y) (mark first v i (omega (arith, l, z))) (mark p w i (omega (arith, l, z)))))
+      ∙ ap₂ (λ (x y : ℤ). x +ℤ negsuc 0 *ℤ y) (own first v i (omega (arith, l, z))) (own p w i (omega (arith, l, z)))))
 
-pub swept-row : (k : ℕ) (first p : SweepPath) → Named k first → Named k p → laterRow (marksOf first) p ≡ placed (pathTerms first p)
+pub swept-row : (k : ℕ) (first p : SweepPath) → Named k first → Named k p → laterRow (onesOf first) p ≡ placed (pathTerms first p)
     (zeros deckColumns)
 swept-row k first p v w =
     ap (λ (z : List ℤ). minus (placed (termsOf (pos 1) first) z) (placed (termsOf (pos 1) p) z)) (blank-is deckColumns)
