@@ -34,7 +34,7 @@ use Rattle.volumes.specs.Sweeping.{Sweeps}
 use Rattle.volumes.proofs.Lines.{tables-two, swept-rights, no-column, termRow, swept-table}
 use Rattle.volumes.proofs.Reading.{AllProper, then-ok, section-proper}
 use Rattle.volumes.proofs.Sums.{swept-zero}
-use Rattle.deck.specs.Posing.{Deck, deck, readDeck, allLines, countOf, posed}
+use Rattle.deck.specs.Posing.{Deck, deck, readDeck, allLines, columnsOf, countOf, posed}
 use Rattle.solve.specs.Swept.{unswept, VolumesSatisfied}
 
 -- ---- what was read
@@ -95,9 +95,13 @@ none-swept : (d : Deck) → allLines (unswept d) ≡ d .lines
 unfolding sweptLines
 none-swept d = append-nil (d .lines)
 
-pub volumes-satisfied : VolumesSatisfied
+same-columns : (d : Deck) → columnsOf d ≡ columnsOf (unswept d)
+same-columns d = ap (λ (u : List Interval). d .intervals ++ u) (no-column (d .lines) (d .volumes) ∙ sym (no-column (d .lines) []))
+
+rows-satisfied : (s : List ℕ) (d : Deck) (at limit : ℕ) → readDeck s ≡ ok d at
+    → (x : List ℤ) → SatisfiesRows (posed limit d) x ↔ (SatisfiesRows (posed limit (unswept d)) x × Sweeps x (d .volumes))
 unfolding posed
-volumes-satisfied s d at limit h x =
+rows-satisfied s d at limit h x =
     let is = d .intervals in
     let ls = d .lines in
     let vs = d .volumes in
@@ -111,3 +115,6 @@ volumes-satisfied s d at limit h x =
     (subst (λ (S : Type 0). Lines n c (allLines d) x ↔ (S × Sweeps x vs))
     (ap₂ (λ (k : ℕ) (ms : List Line). Lines k c ms x) (sym old) (sym (none-swept d)))
     (lines-satisfied n c c ls vs x wide (deck-proper s d at h)))
+
+pub volumes-satisfied : VolumesSatisfied
+volumes-satisfied s d at limit h = record { columns = same-columns d; rows = rows-satisfied s d at limit h }
