@@ -27,6 +27,7 @@ STATEMENTS = {
     "whole/specs/Divisor.antt": ["DivisorGreatest"],
     "settling/specs/Strides.antt": ["StrideGreatest"],
     "neighbours/specs/Rule.antt": ["ReadersRule"],
+    "deck/specs/Older.antt": ["OlderTexts"],
     "solve/specs/Cases.antt": ["DeckCases"],
     "solve/specs/Program.antt": ["ListedWhole"],
     "solve/specs/Swept.antt": ["VolumesSatisfied"],

@@ -2,3 +2,4 @@
 pub mod Lists
 pub mod Handing
 pub mod Whole
+pub mod Older

@@ -3,6 +3,7 @@
 --   RowsFound, rows-found, -refused             what the section of rows answered
 --   VolumesFound, volumes-found, -refused       what the section of volumes answered
 --   left-some, left-none                        what is left of the text
+--   afterVolumes, deck-read                     a deck by its section of volumes, where the others are read
 --   deck-intervals, -rows, -volumes, left-over  a deck whose sections are refused, or that something is left behind
 --   deck-within                                 the intervals of a deck that is read lie within the limits
 --   stored                                      a deck that is read, in the tables
@@ -171,7 +172,7 @@ closed-not a at (Found t e) h = refl
 
 -- ---- a deck is its sections, one after the other
 module _ (s : List ℕ) where
-  abbrev afterVolumes : List Interval → List Line → Outcome (List Volume) → Outcome Deck
+  abbrev pub afterVolumes : List Interval → List Line → Outcome (List Volume) → Outcome Deck
   afterVolumes is ls o = then o (λ vs at. closed s (record { intervals = is; lines = ls; volumes = vs }) at)
 
   abbrev afterRows : List Interval → Outcome (List Line) → Outcome Deck
@@ -208,7 +209,7 @@ module _ (s : List ℕ) where
       first (ok is at) g f = behind is (rowSection s (length is) at) (section-within s 0 at is g) f
       first (no why) g f = absurd (ok-not-no f)
 
-  deck-read : (is : List Interval) (ls : List Line) (p q : ℕ) → intervalSection s 0 ≡ ok is p → rowSection s (length is) p ≡ ok ls q
+  pub deck-read : (is : List Interval) (ls : List Line) (p q : ℕ) → intervalSection s 0 ≡ ok is p → rowSection s (length is) p ≡ ok ls q
       → deck s ≡ afterVolumes is ls (volumeSection s (length is) (length ls) q)
   deck-read is ls p q e f = ap afterIntervals e ∙ ap (afterRows is) f
 

@@ -2,3 +2,4 @@
 pub mod Posing
 pub mod Reader
 pub mod ReaderTables
+pub mod Older

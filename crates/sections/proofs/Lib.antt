@@ -3,3 +3,4 @@ pub mod Numbers
 pub mod Parts
 pub mod Storage
 pub mod Limits
+pub mod Extending

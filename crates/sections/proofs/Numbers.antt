@@ -1,5 +1,7 @@
 -- Laws of numbers read in a range, and of what a range says of them.
 --   same-ok, ok-not-no                equal outcomes were read alike, and none of them is a refusal
+--   Then o f b e                      what stood between, where one thing was read after another; then-ok finds it
+--   closed-ok                         what was read is all that there is
 --   number-token, -bad, -end          a number at a place, by the token there
 --   within-in, abs-between, abs-within, count-in, no-less-in   what a range or a least number says of the number that was read
 --   coefficient-zero, -read, -no      a coefficient
@@ -14,12 +16,13 @@ use lib.Dec.{T}
 use lib.IntN.{ℤ, pos, negsuc, natAbs}
 use lib.Signed.{leZ}
 use Rattle.text.specs.declared.Token.the-variants.{Number, Bad}
+use Rattle.text.specs.declared.Next.{Next}
 use Rattle.text.specs.declared.Next.the-variants.{Found, End}
 use Rattle.text.specs.Positions.{nextAt}
 use Rattle.problem.specs.declared.Refusal.{Refusal}
 use Rattle.problem.specs.declared.Refusal.the-variants.{Layout, Coefficient, Term as WrongTerm}
 use Rattle.problem.specs.Limits.{maxCoefficient}
-use Rattle.sections.specs.Rules.{Outcome, ok, no, then, inside, number, within, noLess}
+use Rattle.sections.specs.Rules.{Outcome, ok, no, then, inside, number, within, noLess, onEnd}
 use Rattle.sections.specs.Sections.{spanning, coefficient}
 
 -- ---- outcomes
@@ -28,6 +31,21 @@ same-ok h = cc
 
 pub ok-not-no : {A : Type 0} {a : A} {p : ℕ} {why : Refusal} → no why ≡ ok a p → ⊥
 ok-not-no h = let z : _≡_ {A = ℕ} 0 1 = cc in omega arith
+
+-- ---- one after the other
+pub record Then {A B : Type 0} (o : Outcome A) (f : A → ℕ → Outcome B) (b : B) (e : ℕ) : Type 0 where
+  pub what : A
+  pub at : ℕ
+  pub first : o ≡ ok what at
+  pub second : f what at ≡ ok b e
+
+pub then-ok : {A B : Type 0} (o : Outcome A) (f : A → ℕ → Outcome B) (b : B) (e : ℕ) → then o f ≡ ok b e → Then o f b e
+then-ok (ok a at) f b e h = record { what = a; at = at; first = refl; second = h }
+then-ok (no why) f b e h = absurd (ok-not-no h)
+
+pub closed-ok : {A : Type 0} (a b : A) (p q : ℕ) (t : Next) → onEnd a p t ≡ ok b q → (a ≡ b) × (t ≡ End)
+closed-ok a b p q (Found t e) h = absurd (ok-not-no h)
+closed-ok a b p q End h = (same-ok h, refl)
 
 -- ---- a number at a place, by the token there
 module _ (s : List ℕ) (at : ℕ) where

@@ -6,7 +6,7 @@
 use mathlib.Core.Path.{_≡_, sym, _∙_, ap, ap₂, subst}
 use mathlib.Core.Logic.{_↔_}
 use mathlib.Core.Bool.{Bool, true, false, cond}
-use mathlib.Core.List.{List, [], _++_, map, append-nil}
+use mathlib.Core.List.{List, [], _++_, map}
 use Prim.Native.Nat.{ℕ, _+_, _≤_}
 use native.Mathlib.Omega.{arith}
 use lib.Dec.{ltb}
@@ -18,23 +18,22 @@ use Rattle.lattice.specs.Sums.{Satisfies}
 use Rattle.lattice.proofs.FlatLaws.{length-chop}
 use Rattle.lattice.proofs.SumLaws.{satisfies-append, satisfies-zeros}
 use Rattle.text.specs.Positions.{nextAt}
-use Rattle.text.specs.declared.Next.{Next}
-use Rattle.text.specs.declared.Next.the-variants.{Found, End}
 use Rattle.problem.specs.declared.Refusal.the-variants.{Layout}
 use Rattle.engine.specs.Demand.{SatisfiesRows}
-use Rattle.sections.specs.Rules.{ok, no, closed, onEnd}
+use Rattle.sections.specs.Rules.{ok, no, closed}
 use Rattle.sections.specs.Sections.{maxText, Line, intervalSection, rowSection}
 use Rattle.sections.specs.StatedColumns.{slackColumns, coefficientRows, rightOf}
 use Rattle.sections.specs.declared.Interval.{Interval}
-use Rattle.sections.proofs.Numbers.{same-ok, ok-not-no}
+use Rattle.sections.proofs.Numbers.{ok-not-no, then-ok, closed-ok}
 use Rattle.sections.proofs.Storage.{map-two}
 use Rattle.volumes.specs.Volumes.{Volume, volumeSection}
 use Rattle.volumes.specs.PathLines.{sweptLines}
 use Rattle.volumes.specs.Sweeping.{Sweeps}
 use Rattle.volumes.proofs.Lines.{tables-two, swept-rights, no-column, termRow, swept-table}
-use Rattle.volumes.proofs.Reading.{AllProper, then-ok, section-proper}
+use Rattle.volumes.proofs.Reading.{AllProper, section-proper}
 use Rattle.volumes.proofs.Sums.{swept-zero}
 use Rattle.deck.specs.Posing.{Deck, deck, readDeck, allLines, columnsOf, countOf, posed}
+use Rattle.deck.proofs.Older.{lines-alone}
 use Rattle.solve.specs.Swept.{unswept, VolumesSatisfied}
 
 -- ---- what was read
@@ -43,10 +42,6 @@ made is ls vs = record { intervals = is; lines = ls; volumes = vs }
 
 abbrev ProperDeck : Deck → Type 0
 ProperDeck d = AllProper (length (d .intervals)) (d .volumes)
-
-closed-same : {A : Type 0} (a b : A) (p q : ℕ) (t : Next) → onEnd a p t ≡ ok b q → a ≡ b
-closed-same a b p q (Found t e) h = absurd (ok-not-no h)
-closed-same a b p q End h = same-ok h
 
 deck-proper : (s : List ℕ) (d : Deck) (at : ℕ) → readDeck s ≡ ok d at → ProperDeck d
 unfolding readDeck
@@ -59,7 +54,7 @@ deck-proper s d at h = go (ltb maxText (length s)) h
         let b = then-ok (rowSection s (length is) (a .at)) _ d at (a .second) in
         let ls = b .what in
         let c = then-ok (volumeSection s (length is) (length ls) (b .at)) (λ vs at. closed s (made is ls vs) at) d at (b .second) in
-        let e : made is ls (c .what) ≡ d = closed-same (made is ls (c .what)) d (c .at) at (nextAt s (c .at)) (c .second) in
+        let e : made is ls (c .what) ≡ d = closed-ok (made is ls (c .what)) d (c .at) at (nextAt s (c .at)) (c .second) .0 in
         subst ProperDeck {x = made is ls (c .what)} e (section-proper s (length is) (length ls) (b .at) (c .at) (c .what) (c .first))
 
     go : (t : Bool) → cond t (no Layout) (deck s) ≡ ok d at → ProperDeck d
@@ -91,10 +86,6 @@ lines-satisfied n c k ls vs x h w =
     (sym (ap₂ (λ (T : List (List ℤ)) (r : List ℤ). Satisfies n T r x) table rights)) parts
 
 -- ---- the theorem
-none-swept : (d : Deck) → allLines (unswept d) ≡ d .lines
-unfolding sweptLines
-none-swept d = append-nil (d .lines)
-
 same-columns : (d : Deck) → columnsOf d ≡ columnsOf (unswept d)
 same-columns d = ap (λ (u : List Interval). d .intervals ++ u) (no-column (d .lines) (d .volumes) ∙ sym (no-column (d .lines) []))
 
@@ -113,7 +104,7 @@ rows-satisfied s d at limit h x =
     subst (λ (S : Type 0). S ↔ (SatisfiesRows (posed limit (unswept d)) x × Sweeps x vs))
     (ap (λ (k : ℕ). Lines k c (allLines d) x) (sym count))
     (subst (λ (S : Type 0). Lines n c (allLines d) x ↔ (S × Sweeps x vs))
-    (ap₂ (λ (k : ℕ) (ms : List Line). Lines k c ms x) (sym old) (sym (none-swept d)))
+    (ap₂ (λ (k : ℕ) (ms : List Line). Lines k c ms x) (sym old) (sym (lines-alone is ls)))
     (lines-satisfied n c c ls vs x wide (deck-proper s d at h)))
 
 pub volumes-satisfied : VolumesSatisfied

@@ -1,4 +1,5 @@
 -- The root of the laws that the proofs cite.
 pub mod Scanning
+pub mod Extending
 pub mod Copying
 pub mod Digits

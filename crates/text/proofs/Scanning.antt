@@ -7,6 +7,7 @@
 --   unsigned-is, -not, minus-is, -not   a run's token, from what its digits are worth
 --   token-none, -minus, -plain  a run by its first byte
 --   next-is, next-end           what stands at or after a position
+--   found-start, end-start      where the gap ends, by what was found; found-end: what was found ends within the text
 --   tokens-found, tokens-end    what `nextAt` finds from a position on is the head of the tokens from there, and the rest stands after it
 -- Assumes nothing.
 -- ---- gaps and runs, a byte at a time
@@ -285,6 +286,22 @@ module _ (s : List ℕ) (at : ℕ) where
       by : (t : Bool) → ltb start (length s) ≡ t → X
       by true k = f (ltb-true start (length s) k)
       by false k = g (ltb-false start (length s) k)
+
+  pub found-start : (t : Token) (e : ℕ) → nextAt s at ≡ Found t e → at + gap (drop at s) < length s
+  unfolding start
+  found-start t e h = inside (λ p. p) (λ p. absurd (never-end (sym h ∙ next-none p)))
+
+  pub end-start : nextAt s at ≡ End → length s ≤ at + gap (drop at s)
+  unfolding start
+  end-start h = inside (λ p. absurd (never-end (sym (next-some p) ∙ h))) (λ p. p)
+
+  pub found-end : (t : Token) (e : ℕ) → nextAt s at ≡ Found t e → e ≤ length s
+  unfolding start stop
+  found-end t e h =
+      let p = found-start t e h in
+      let k : Found first stop ≡ Found t e = sym (next-some p) ∙ h in
+      let b : stop ≡ e = cc in
+      omega (arith, run-le (drop start s), length-drop start s)
 
   pub tokens-found : (t : Token) (e : ℕ) → nextAt s at ≡ Found t e → tokens (drop at s) ≡ t ∷ tokens (drop e s)
   tokens-found t e h =

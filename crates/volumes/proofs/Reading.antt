@@ -2,7 +2,6 @@
 --   Distinct p             no index comes twice on the path p
 --   Proper n p             the path p of a text with n intervals: its indices name intervals, none comes twice
 --   EachProper, AllProper  so it is on each path of a volume, and of all volumes
---   Then o f b e           what stood between, where one thing was read after another; then-ok finds it
 --   section-proper         the volumes that were read are so
 -- Assumes nothing.
 use mathlib.Core.Path.{_≡_, refl, sym, subst}
@@ -15,8 +14,8 @@ use lib.IntN.{pos, natAbs}
 use lib.ListN.{length}
 use Rattle.whole.proofs.Tests.{neither}
 use Rattle.problem.specs.declared.Refusal.the-variants.{Volume as WrongVolume}
-use Rattle.sections.specs.Rules.{Outcome, ok, no, then, within, noLess}
-use Rattle.sections.proofs.Numbers.{same-ok, ok-not-no, count-in}
+use Rattle.sections.specs.Rules.{ok, no, within, noLess}
+use Rattle.sections.proofs.Numbers.{same-ok, ok-not-no, then-ok, count-in}
 use Rattle.volumes.specs.Volumes.{SweepPath, Volume, isOn, index, indices, path, paths, laterPaths, pathCount, volume, volumes, volumeSection}
 use Rattle.volumes.specs.VolumesRead.{Named}
 use Rattle.volumes.proofs.Ones.{named-end}
@@ -56,17 +55,6 @@ each-end n (q ∷ ps) p w h = (w .0, each-end n ps p (w .1) h)
 all-end : (n : ℕ) (vs : List Volume) (v : Volume) → AllProper n vs → EachProper n v → AllProper n (vs ++ (v ∷ []))
 all-end n [] v w h = (h, tt)
 all-end n (u ∷ vs) v w h = (w .0, all-end n vs v (w .1) h)
-
--- ---- one after the other
-pub record Then {A B : Type 0} (o : Outcome A) (f : A → ℕ → Outcome B) (b : B) (e : ℕ) : Type 0 where
-  pub what : A
-  pub at : ℕ
-  pub first : o ≡ ok what at
-  pub second : f what at ≡ ok b e
-
-pub then-ok : {A B : Type 0} (o : Outcome A) (f : A → ℕ → Outcome B) (b : B) (e : ℕ) → then o f ≡ ok b e → Then o f b e
-then-ok (ok a at) f b e h = record { what = a; at = at; first = refl; second = h }
-then-ok (no why) f b e h = absurd (ok-not-no h)
 
 -- ---- the section
 module _ (s : List ℕ) (count : ℕ) where
