@@ -1,5 +1,6 @@
--- Document 01, "Continue, text, listing": the first two sections of a text. "Sections: the count of intervals, then for each its lower, upper and goal; the
--- count of rows, then for each its kind, its number, its count of terms (0 to the count of intervals), then index and coefficient for each term."
+-- Document 01, "Continue, text, listing": the first two sections of a text. "Sections: the count of intervals, then for each its lower, upper and
+-- goal; the count of rows, then for each its kind, its number, its count of terms (0 to the count of intervals), then index and coefficient for each
+-- term."
 --   deckColumns, deckRows   the most columns and rows of a text: the problem's
 --   coefficientCount        the most coefficients
 --   maxText                 "a text over 32,768 bytes is 11"
