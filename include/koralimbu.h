@@ -73,7 +73,8 @@ uint32_t koralimbu_version(void);
 #define KORALIMBU_MOST_TABLEAU 4608
 #define KORALIMBU_MOST_STEPS 65535
 
-/* The most that a deck has, with the bytes of its text. Another version may take larger problems than decks, so these are names of their own. */
+/* The most that a deck has, with the columns and rows that are added counted, and the bytes of its text. Another version may take larger problems
+ * than decks, so these are names of their own. */
 #define KORALIMBU_DECK_COLUMNS 48
 #define KORALIMBU_DECK_ROWS 48
 #define KORALIMBU_DECK_COEFFICIENTS 2304

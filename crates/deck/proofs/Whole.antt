@@ -1,11 +1,11 @@
 -- A whole text: what its sections left in the tables is the deck that they state, and what the call then leaves.
 --   IntervalsFound, intervals-found, -refused   what the section of intervals answered; few-intervals, which are not too many
---   RowsFound, rows-found, -refused             what the section of rows answered
+--   RowsFound, rows-found, -refused             what the section of rows answered; few-lines, which are not too many
 --   VolumesFound, volumes-found, -refused       what the section of volumes answered
 --   left-some, left-none                        what is left of the text
 --   afterVolumes, deck-read                     a deck by its section of volumes, where the others are read
 --   deck-intervals, -rows, -volumes, left-over  a deck whose sections are refused, or that something is left behind
---   deck-within                                 the intervals of a deck that is read lie within the limits
+--   Parts, deck-parts                           the sections of a deck that is read; deck-within: its intervals lie within the limits
 --   stored                                      a deck that is read, in the tables
 --   read-short, -long, -is, -not                the call by what it meets
 --   Largest, sizes                              the lengths that fit
@@ -48,7 +48,7 @@ use Rattle.deck.specs.Posing.{Deck, deck, readDeck, columnsOf, allLines,
 use Rattle.deck.specs.Reader.{DeckBuffers, deckBuffers, readDone, lengthsFit, turnedBack, accepted, read}
 use Rattle.deck.specs.ReaderTables.{noneLeft, DeckStored, compacted, picked}
 use Rattle.deck.specs.declared.Reading.the-variants.{Read}
-use Rattle.sections.proofs.Numbers.{same-ok, ok-not-no}
+use Rattle.sections.proofs.Numbers.{then-ok, closed-ok}
 use Rattle.sections.proofs.Limits.{Within, section-within}
 use Rattle.sections.proofs.Storage.{map-two, rows-two, padded-written, from-blank, wiped, cells-two, length-cells, length-rows, few-cells}
 use Rattle.volumes.specs.Volumes.{Volume, volumeSection}
@@ -171,9 +171,12 @@ closed-not a at End h = absurd (subst T h tt)
 closed-not a at (Found t e) h = refl
 
 -- ---- a deck is its sections, one after the other
+abbrev made : List Interval → List Line → List Volume → Deck
+made is ls vs = record { intervals = is; lines = ls; volumes = vs }
+
 module _ (s : List ℕ) where
   abbrev pub afterVolumes : List Interval → List Line → Outcome (List Volume) → Outcome Deck
-  afterVolumes is ls o = then o (λ vs at. closed s (record { intervals = is; lines = ls; volumes = vs }) at)
+  afterVolumes is ls o = then o (λ vs at. closed s (made is ls vs) at)
 
   abbrev afterRows : List Interval → Outcome (List Line) → Outcome Deck
   afterRows is o = then o (λ ls at. afterVolumes is ls (volumeSection s (length is) (length ls) at))
@@ -188,26 +191,28 @@ module _ (s : List ℕ) where
       → deck s ≡ no why
   deck-rows is at why p q = ap afterIntervals p ∙ ap (afterRows is) q
 
+  -- the sections of a deck that was read, with the places where they end
+  pub record Parts (d : Deck) : Type 0 where
+    pub first : ℕ
+    pub second : ℕ
+    pub third : ℕ
+    pub intervals : intervalSection s 0 ≡ ok (d .intervals) first
+    pub rows : rowSection s (length (d .intervals)) first ≡ ok (d .lines) second
+    pub volumes : volumeSection s (length (d .intervals)) (length (d .lines)) second ≡ ok (d .volumes) third
+
+  pub deck-parts : (d : Deck) (e : ℕ) → deck s ≡ ok d e → Parts d
+  deck-parts d e h =
+      let a = then-ok (intervalSection s 0) _ d e h in
+      let is = a .what in
+      let b = then-ok (rowSection s (length is) (a .at)) _ d e (a .second) in
+      let ls = b .what in
+      let c = then-ok (volumeSection s (length is) (length ls) (b .at)) (λ vs at. closed s (made is ls vs) at) d e (b .second) in
+      subst Parts {x = made is ls (c .what)} (closed-ok (made is ls (c .what)) d (c .at) e (nextAt s (c .at)) (c .second) .0)
+      (record { first = a .at; second = b .at; third = c .at; intervals = a .first; rows = b .first; volumes = c .first })
+
   -- the intervals of a deck that was read lie within the limits
   deck-within : (d : Deck) (e : ℕ) → deck s ≡ ok d e → Within (d .intervals)
-  deck-within d e h = first (intervalSection s 0) refl h
-    where
-      last : (is : List Interval) (ls : List Line) (vs : List Volume) (at : ℕ) (n : Next) → Within is
-          → onEnd (record { intervals = is; lines = ls; volumes = vs }) at n ≡ ok d e → Within (d .intervals)
-      last is ls vs at (Found t p) w f = absurd (ok-not-no f)
-      last is ls vs at End w f = subst (λ (x : Deck). Within (x .intervals)) (same-ok f) w
-
-      swept : (is : List Interval) (ls : List Line) (o : Outcome (List Volume)) → Within is → afterVolumes is ls o ≡ ok d e → Within (d .intervals)
-      swept is ls (ok vs at) w f = last is ls vs at (nextAt s at) w f
-      swept is ls (no why) w f = absurd (ok-not-no f)
-
-      behind : (is : List Interval) (o : Outcome (List Line)) → Within is → afterRows is o ≡ ok d e → Within (d .intervals)
-      behind is (ok ls at) w f = swept is ls (volumeSection s (length is) (length ls) at) w f
-      behind is (no why) w f = absurd (ok-not-no f)
-
-      first : (o : Outcome (List Interval)) → intervalSection s 0 ≡ o → afterIntervals o ≡ ok d e → Within (d .intervals)
-      first (ok is at) g f = behind is (rowSection s (length is) at) (section-within s 0 at is g) f
-      first (no why) g f = absurd (ok-not-no f)
+  deck-within d e h = let p = deck-parts d e h in section-within s 0 (p .first) (d .intervals) (p .intervals)
 
   pub deck-read : (is : List Interval) (ls : List Line) (p q : ℕ) → intervalSection s 0 ≡ ok is p → rowSection s (length is) p ≡ ok ls q
       → deck s ≡ afterVolumes is ls (volumeSection s (length is) (length ls) q)
@@ -260,7 +265,7 @@ module _ (s : List ℕ) (p q : Cursor) (k k' b t : List ℤ) (i : IntervalsFound
 
   module _ (c : Cursor) (t' : List ℤ) (v : VolumesFound q t (volumeSection s (q .intervals) (q .rows) (q .at)) c t') where
     abbrev whole : Deck
-    whole = record { intervals = i .is; lines = w .ls; volumes = v .vs }
+    whole = made (i .is) (w .ls) (v .vs)
 
     read-whole : deck s ≡ closed s whole (c .at)
     read-whole = sections ∙ ap (afterVolumes s (i .is) (w .ls)) (v .read)

@@ -29,12 +29,15 @@ pub all-both : (Q R S : List ℤ → Type 0) → ((r : List ℤ) → Q r → R r
 all-both Q R S f [] a b = tt
 all-both Q R S f (r ∷ T) a b = (f r (a .0) (b .0), all-both Q R S f T (a .1) (b .1))
 
-pub all-append : (Q : List ℤ → Type 0) (T U : List (List ℤ)) → All Q (T ++ U) ↔ (All Q T × All Q U)
+pub all-append : {A : Type 0} (Q : A → Type 0) (T U : List A) → All Q (T ++ U) ↔ (All Q T × All Q U)
 all-append Q [] U = ((λ a. (tt, a)), (λ a. a .1))
 all-append Q (r ∷ T) U = (
   (λ a. ((a .0, all-append Q T U .0 (a .1) .0), all-append Q T U .0 (a .1) .1)),
   (λ a. (a .0 .0, all-append Q T U .1 (a .0 .1, a .1))),
 )
+
+pub all-end : {A : Type 0} (Q : A → Type 0) (T : List A) (r : A) → All Q T → Q r → All Q (T ++ (r ∷ []))
+all-end Q T r a q = all-append Q T (r ∷ []) .1 (a, (q, tt))
 
 pub all-at : (Q : List ℤ → Type 0) (T : List (List ℤ)) (j : ℕ) (d : List ℤ) → j < length T → All Q T → Q (getD T j d)
 all-at Q [] j d h a = absurd (omega arith)

@@ -1,5 +1,5 @@
 -- The integer row span of a table, and the elementary row steps.
---   All Q T             every row of T has the property Q
+--   All Q T             every element of the list T, a row of a table mostly, has the property Q
 --   Len n r             r has n numbers
 --   Span T v            some whole multiples of T's rows, added to v, give zeros: v lies in the row span of T
 --   Same n T U          T and U span the same lists of n numbers
@@ -15,7 +15,7 @@ use lib.IntN.{ℤ, pos}
 use Rattle.whole.specs.Lists.{zeros}
 use Rattle.lattice.specs.Rows.{plus, neg, Zero}
 
-abbrev pub All : (List ℤ → Type 0) → List (List ℤ) → Type 0
+abbrev pub All : {A : Type 0} → (A → Type 0) → List A → Type 0
 All Q [] = Unit {0}
 All Q (r ∷ T) = Q r × All Q T
 

@@ -1,26 +1,28 @@
--- A text that goes on, behind a line end, is read as before up to where it ended.
---   Extends f                          what the rule f reads of a text it reads of the longer one, and from a place within a text it comes to one
+-- A text that has from a place on what another has, and more behind it, is read as that other is.
+--   Goes s at z w p                    from the place p on the text w has the tokens of s from the place at on, and then z
+--   Kept o a s e z w                   the outcome o is a, and from its place on w goes so from the place e of s on
+--   Extends f                          what the rule f reads of a text it reads of every one that goes so
 --   ok-extends, no-extends             a rule that reads nothing; is-extends, not-extends, by a test that holds or that fails
 --   then-extends                       one rule after the other
 --   number-extends, within-extends     a number
 --   interval-extends, intervals-extend, kind-, row-, coefficient-, term-, terms-, line-, lines-   the parts of the sections
 --   interval-section-extends, row-section-extends   the sections
 -- Assumes nothing.
-use mathlib.Core.Path.{_≡_, refl, _∙_, ap}
+use mathlib.Core.Path.{_≡_, refl, _∙_, ap, subst}
 use mathlib.Core.Bool.{Bool, true, false, cond}
 use mathlib.Core.List.{List, [], _∷_, _++_}
-use Prim.Native.Nat.{ℕ, zero, suc, _+_, _≤_}
-use native.Mathlib.Omega.{arith}
+use Prim.Native.Nat.{ℕ, zero, suc, _+_}
 use lib.Dec.{ltb}
 use lib.IntN.{ℤ, pos, natAbs, negℤ}
-use lib.ListN.{length}
+use lib.ListN.{drop}
 use Rattle.whole.specs.Tests.{isZero, inRange}
+use Rattle.text.specs.Tokens.{tokens}
 use Rattle.text.specs.Positions.{nextAt}
+use Rattle.text.specs.declared.Token.{Token}
 use Rattle.text.specs.declared.Token.the-variants.{Number, Bad}
 use Rattle.text.specs.declared.Next.{Next}
 use Rattle.text.specs.declared.Next.the-variants.{Found, End}
-use Rattle.text.proofs.Scanning.{found-end}
-use Rattle.text.proofs.Extending.{next-kept}
+use Rattle.text.proofs.Scanning.{Met, tokens-found, found-token}
 use Rattle.problem.specs.Limits.{maxCoefficient, maxRight, maxBound}
 use Rattle.problem.specs.Kinds.{slackCount}
 use Rattle.problem.specs.declared.Refusal.{Refusal}
@@ -30,24 +32,29 @@ use Rattle.sections.specs.Sections.{deckColumns, deckRows, spanning, upp
 use Rattle.sections.specs.Sections.{rowOf, kindOf, kindNumber, leastNumber, row, coefficient, term, terms, Line, line, lines, rowSection}
 use Rattle.sections.specs.declared.Interval.{Interval}
 use Rattle.sections.specs.declared.Term.{Term}
-use Rattle.sections.proofs.Numbers.{ok-not-no, Then, then-ok}
+use Rattle.sections.proofs.Numbers.{same-ok, ok-not-no, Then, then-ok}
+
+abbrev pub Goes : List ℕ → ℕ → List Token → List ℕ → ℕ → Type 0
+Goes s at z w p = tokens (drop p w) ≡ tokens (drop at s) ++ z
+
+pub record Kept {A : Type 0} (o : Outcome A) (a : A) (s : List ℕ) (e : ℕ) (z : List Token) (w : List ℕ) : Type 0 where
+  pub end : ℕ
+  pub read : o ≡ ok a end
+  pub goes : Goes s e z w end
 
 pub record Extends {A : Type 0} (f : List ℕ → ℕ → Outcome A) : Type 0 where
-  pub kept : (s z : List ℕ) (a : A) (at e : ℕ) → f s at ≡ ok a e → f (s ++ 10 ∷ z) at ≡ ok a e
-  pub ends : (s : List ℕ) (a : A) (at e : ℕ) → at ≤ length s → f s at ≡ ok a e → e ≤ length s
+  pub kept : (s w : List ℕ) (z : List Token) (a : A) (at p e : ℕ) → Goes s at z w p → f s at ≡ ok a e → Kept (f w p) a s e z w
 
 -- ---- what reads nothing
 ok-extends : {A : Type 0} (a : A) → Extends (λ s at. ok a at)
 ok-extends a = record {
-  kept = λ s z b at e h. h;
-  ends = λ s b at e l h. let p : at ≡ e = cc in omega arith;
+  kept = λ s w z b at p e g h.
+      let q : at ≡ e = cc in
+      record { end = p; read = ap (λ x. ok x p) (same-ok h); goes = subst (λ (i : ℕ). Goes s i z w p) q g };
 }
 
 no-extends : {A : Type 0} (why : Refusal) → Extends {A = A} (λ s at. no why)
-no-extends why = record {
-  kept = λ s z b at e h. h;
-  ends = λ s b at e l h. absurd (ok-not-no h);
-}
+no-extends why = record { kept = λ s w z b at p e g h. absurd (ok-not-no h) }
 
 is-extends : {A : Type 0} (t : Bool) (a : A) (why : Refusal) → Extends (λ s at. cond t (ok a at) (no why))
 is-extends true a why = ok-extends a
@@ -61,27 +68,30 @@ not-extends false a why = ok-extends a
 then-extends : {A B : Type 0} (f : List ℕ → ℕ → Outcome A) (g : A → List ℕ → ℕ → Outcome B)
     → Extends f → ((a : A) → Extends (g a)) → Extends (λ s at. then (f s at) (λ a p. g a s p))
 then-extends f g x y = record {
-  kept = λ s z b at e h.
-      let t : Then (f s at) (λ a p. g a s p) b e = then-ok (f s at) (λ a p. g a s p) b e h in
-      ap (λ o. then o (λ a p. g a (s ++ 10 ∷ z) p)) (x .kept s z (t .what) at (t .at) (t .first)) ∙ y (t .what) .kept s z b (t .at) e (t .second);
-  ends = λ s b at e l h.
-      let t : Then (f s at) (λ a p. g a s p) b e = then-ok (f s at) (λ a p. g a s p) b e h in
-      y (t .what) .ends s b (t .at) e (x .ends s (t .what) at (t .at) l (t .first)) (t .second);
+  kept = λ s w z b at p e k h.
+      let t : Then (f s at) (λ a q. g a s q) b e = then-ok (f s at) (λ a q. g a s q) b e h in
+      let u = x .kept s w z (t .what) at p (t .at) k (t .first) in
+      let v = y (t .what) .kept s w z b (t .at) (u .end) e (u .goes) (t .second) in
+      record { end = v .end; read = ap (λ o. then o (λ a q. g a w q)) (u .read) ∙ v .read; goes = v .goes };
 }
 
 -- ---- a number
 number-extends : Extends number
-number-extends = record { kept = λ s z a at e h. kept s z a at e (nextAt s at) refl h; ends = λ s a at e l h. ends s a at e (nextAt s at) refl h }
+number-extends = record { kept = λ s w z a at p e g h. kept s w z a at p e g (nextAt s at) refl h }
   where
-    kept : (s z : List ℕ) (a : ℤ) (at e : ℕ) (n : Next) → nextAt s at ≡ n → onNumber n ≡ ok a e → number (s ++ 10 ∷ z) at ≡ ok a e
-    kept s z a at e (Found (Number v) p) k h = ap onNumber (next-kept s z at (Number v) p k) ∙ h
-    kept s z a at e (Found Bad p) k h = absurd (ok-not-no h)
-    kept s z a at e End k h = absurd (ok-not-no h)
-
-    ends : (s : List ℕ) (a : ℤ) (at e : ℕ) (n : Next) → nextAt s at ≡ n → onNumber n ≡ ok a e → e ≤ length s
-    ends s a at e (Found (Number v) p) k h = let q : p ≡ e = cc in omega (arith, found-end s at (Number v) p k)
-    ends s a at e (Found Bad p) k h = absurd (ok-not-no h)
-    ends s a at e End k h = absurd (ok-not-no h)
+    kept : (s w : List ℕ) (z : List Token) (a : ℤ) (at p e : ℕ) → Goes s at z w p → (n : Next) → nextAt s at ≡ n → onNumber n ≡ ok a e
+        → Kept (number w p) a s e z w
+    kept s w z a at p e g (Found (Number v) q) k h =
+        let r : q ≡ e = cc in
+        let m : Met w p (Number v) (tokens (drop q s) ++ z) =
+        found-token w p (Number v) (tokens (drop q s) ++ z) (g ∙ ap (λ (ts : List Token). ts ++ z) (tokens-found s at (Number v) q k)) in
+        record {
+          end = m .end;
+          read = ap onNumber (m .found) ∙ ap (λ (x : ℤ). ok x (m .end)) (same-ok h);
+          goes = subst (λ (i : ℕ). Goes s i z w (m .end)) r (m .rest);
+        }
+    kept s w z a at p e g (Found Bad q) k h = absurd (ok-not-no h)
+    kept s w z a at p e g End k h = absurd (ok-not-no h)
 
 within-extends : (lo hi : ℤ) (why : Refusal) → Extends (λ s. within s lo hi why)
 within-extends lo hi why = then-extends number _ number-extends (λ v. is-extends (inRange lo hi v) v why)

@@ -3,7 +3,7 @@
 --   padded-none, padded-written, from-blank, wiped   a buffer of 0 that is filled from the front, and one that is set to 0
 --   cells-two, -one, -more, length-cells       columns side by side in their table
 --   length-slack, slacks-two, -more            the y's of rows: end to end, and one more row
---   placed-none, -more, length-placed, length-withSlack, length-row   a row's coefficients
+--   placed-none, -two, -more, length-placed, length-withSlack, length-row   a row's coefficients
 --   rows-two, -more, length-rows, few-cells    rows end to end, one more, and how many numbers they have within the limits
 --   columns-more, rights-more, table-more      the next row's column, right side and coefficients
 -- Assumes nothing.
@@ -113,10 +113,14 @@ pub placed-none : (u : List ℤ) → u ≡ placed [] u
 unfolding placed
 placed-none u = refl
 
+pub placed-two : (a b : List Term) (u : List ℤ) → placed (a ++ b) u ≡ placed b (placed a u)
+unfolding placed
+placed-two [] b u = refl
+placed-two (t ∷ a) b u = placed-two a b (set u (t .index - 1) (t .coefficient))
+
 pub placed-more : (done : List Term) (t : Term) (u : List ℤ) → set (placed done u) (t .index - 1) (t .coefficient) ≡ placed (done ++ (t ∷ [])) u
 unfolding placed
-placed-more [] t u = refl
-placed-more (d ∷ done) t u = placed-more done t (set u (d .index - 1) (d .coefficient))
+placed-more done t u = sym (placed-two done (t ∷ []) u)
 
 pub length-placed : (done : List Term) (u : List ℤ) → length (placed done u) ≡ length u
 unfolding placed

@@ -17,49 +17,35 @@ use Rattle.lattice.specs.Rows.{chop}
 use Rattle.lattice.specs.Sums.{Satisfies}
 use Rattle.lattice.proofs.FlatLaws.{length-chop}
 use Rattle.lattice.proofs.SumLaws.{satisfies-append, satisfies-zeros}
-use Rattle.text.specs.Positions.{nextAt}
 use Rattle.problem.specs.declared.Refusal.the-variants.{Layout}
 use Rattle.engine.specs.Demand.{SatisfiesRows}
-use Rattle.sections.specs.Rules.{ok, no, closed}
-use Rattle.sections.specs.Sections.{maxText, Line, intervalSection, rowSection}
+use Rattle.sections.specs.Rules.{ok, no}
+use Rattle.sections.specs.Sections.{maxText, Line}
 use Rattle.sections.specs.StatedColumns.{slackColumns, coefficientRows, rightOf}
 use Rattle.sections.specs.declared.Interval.{Interval}
-use Rattle.sections.proofs.Numbers.{ok-not-no, then-ok, closed-ok}
+use Rattle.sections.proofs.Numbers.{ok-not-no}
 use Rattle.sections.proofs.Storage.{map-two}
-use Rattle.volumes.specs.Volumes.{Volume, volumeSection}
+use Rattle.volumes.specs.Volumes.{Volume}
 use Rattle.volumes.specs.PathLines.{sweptLines}
 use Rattle.volumes.specs.Sweeping.{Sweeps}
 use Rattle.volumes.proofs.Lines.{tables-two, swept-rights, no-column, termRow, swept-table}
 use Rattle.volumes.proofs.Reading.{AllProper, section-proper}
 use Rattle.volumes.proofs.Sums.{swept-zero}
 use Rattle.deck.specs.Posing.{Deck, deck, readDeck, allLines, columnsOf, countOf, posed}
+use Rattle.deck.proofs.Whole.{deck-parts}
 use Rattle.deck.proofs.Older.{lines-alone}
 use Rattle.solve.specs.Swept.{unswept, VolumesSatisfied}
 
 -- ---- what was read
-abbrev made : List Interval → List Line → List Volume → Deck
-made is ls vs = record { intervals = is; lines = ls; volumes = vs }
-
-abbrev ProperDeck : Deck → Type 0
-ProperDeck d = AllProper (length (d .intervals)) (d .volumes)
-
-deck-proper : (s : List ℕ) (d : Deck) (at : ℕ) → readDeck s ≡ ok d at → ProperDeck d
+deck-proper : (s : List ℕ) (d : Deck) (at : ℕ) → readDeck s ≡ ok d at → AllProper (length (d .intervals)) (d .volumes)
 unfolding readDeck
 deck-proper s d at h = go (ltb maxText (length s)) h
   where
-    sections : deck s ≡ ok d at → ProperDeck d
-    sections h =
-        let a = then-ok (intervalSection s 0) _ d at h in
-        let is = a .what in
-        let b = then-ok (rowSection s (length is) (a .at)) _ d at (a .second) in
-        let ls = b .what in
-        let c = then-ok (volumeSection s (length is) (length ls) (b .at)) (λ vs at. closed s (made is ls vs) at) d at (b .second) in
-        let e : made is ls (c .what) ≡ d = closed-ok (made is ls (c .what)) d (c .at) at (nextAt s (c .at)) (c .second) .0 in
-        subst ProperDeck {x = made is ls (c .what)} e (section-proper s (length is) (length ls) (b .at) (c .at) (c .what) (c .first))
-
-    go : (t : Bool) → cond t (no Layout) (deck s) ≡ ok d at → ProperDeck d
+    go : (t : Bool) → cond t (no Layout) (deck s) ≡ ok d at → AllProper (length (d .intervals)) (d .volumes)
     go true h = absurd (ok-not-no h)
-    go false h = sections h
+    go false h =
+        let p = deck-parts s d at h in
+        section-proper s (length (d .intervals)) (length (d .lines)) (p .second) (p .third) (d .volumes) (p .volumes)
 
 -- ---- lines, in n columns of which the next y is column c
 abbrev Lines : (n c : ℕ) → List Line → List ℤ → Type 0

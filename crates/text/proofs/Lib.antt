@@ -1,5 +1,4 @@
 -- The root of the laws that the proofs cite.
 pub mod Scanning
-pub mod Extending
 pub mod Copying
 pub mod Digits

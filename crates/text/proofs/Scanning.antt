@@ -7,8 +7,8 @@
 --   unsigned-is, -not, minus-is, -not   a run's token, from what its digits are worth
 --   token-none, -minus, -plain  a run by its first byte
 --   next-is, next-end           what stands at or after a position
---   found-start, end-start      where the gap ends, by what was found; found-end: what was found ends within the text
 --   tokens-found, tokens-end    what `nextAt` finds from a position on is the head of the tokens from there, and the rest stands after it
+--   Met, found-token, end-token   and the other way round: the head of these tokens is what it finds
 -- Assumes nothing.
 -- ---- gaps and runs, a byte at a time
 use mathlib.Core.Path.{_≡_, refl, sym, ap, _∙_, subst}
@@ -241,6 +241,15 @@ gap-opens (b ∷ s) h = at (isBlank b) refl (gap-opens s)
 never-end : {t : Token} {d : ℕ} → Found t d ≡ End → ⊥
 never-end h = let z : _≡_ {A = ℕ} 0 1 = cc in omega arith
 
+never-some : {t : Token} {ts : List Token} → [] ≡ t ∷ ts → ⊥
+never-some {t} {ts} h = let z : 0 ≡ suc (length ts) = ap length h in omega arith
+
+-- the token t stands at or after a position, and behind it stand those of ts
+pub record Met (s : List ℕ) (at : ℕ) (t : Token) (ts : List Token) : Type 0 where
+  pub end : ℕ
+  pub found : nextAt s at ≡ Found t end
+  pub rest : tokens (drop end s) ≡ ts
+
 -- the token at a position is the first of those from there, and the others follow it
 module _ (s : List ℕ) (at : ℕ) where
   start : ℕ
@@ -287,22 +296,6 @@ module _ (s : List ℕ) (at : ℕ) where
       by true k = f (ltb-true start (length s) k)
       by false k = g (ltb-false start (length s) k)
 
-  pub found-start : (t : Token) (e : ℕ) → nextAt s at ≡ Found t e → at + gap (drop at s) < length s
-  unfolding start
-  found-start t e h = inside (λ p. p) (λ p. absurd (never-end (sym h ∙ next-none p)))
-
-  pub end-start : nextAt s at ≡ End → length s ≤ at + gap (drop at s)
-  unfolding start
-  end-start h = inside (λ p. absurd (never-end (sym (next-some p) ∙ h))) (λ p. p)
-
-  pub found-end : (t : Token) (e : ℕ) → nextAt s at ≡ Found t e → e ≤ length s
-  unfolding start stop
-  found-end t e h =
-      let p = found-start t e h in
-      let k : Found first stop ≡ Found t e = sym (next-some p) ∙ h in
-      let b : stop ≡ e = cc in
-      omega (arith, run-le (drop start s), length-drop start s)
-
   pub tokens-found : (t : Token) (e : ℕ) → nextAt s at ≡ Found t e → tokens (drop at s) ≡ t ∷ tokens (drop e s)
   tokens-found t e h =
       inside (λ p. same (sym (next-some p) ∙ h) (tokens-some p)) (λ p. absurd (never-end (sym h ∙ next-none p)))
@@ -315,3 +308,15 @@ module _ (s : List ℕ) (at : ℕ) where
 
   pub tokens-end : nextAt s at ≡ End → tokens (drop at s) ≡ []
   tokens-end h = inside (λ p. absurd (never-end (sym (next-some p) ∙ h))) (λ p. tokens-none p)
+
+  pub found-token : (t : Token) (ts : List Token) → tokens (drop at s) ≡ t ∷ ts → Met s at t ts
+  found-token t ts h = inside (λ p. here p (sym (tokens-some p) ∙ h)) (λ p. absurd (never-some (sym (tokens-none p) ∙ h)))
+    where
+      here : start < length s → first ∷ tokens (drop stop s) ≡ t ∷ ts → Met s at t ts
+      here p k =
+          let a : first ≡ t = cc in
+          let b : tokens (drop stop s) ≡ ts = cc in
+          record { end = stop; found = next-some p ∙ ap (λ (u : Token). Found u stop) a; rest = b }
+
+  pub end-token : tokens (drop at s) ≡ [] → nextAt s at ≡ End
+  end-token h = inside (λ p. absurd (never-some (sym h ∙ tokens-some p))) (λ p. next-none p)

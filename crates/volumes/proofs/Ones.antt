@@ -1,8 +1,7 @@
 -- Laws of the line of a path, and of the row that two paths make.
---   named-end                  one more index that names an interval
 --   entry-termed               what stands at a place once the terms of a path are placed
 --   entry-ones, one-on         what stands at an interval's place, and whether it tells that the interval is on the path
---   ones-none, -more, -are    the line of no index, of one more, and what all of them are; length-ones, how long
+--   ones-none, -more, -are     the line of no index, of one more, and what all of them are; length-ones, how long
 --   on-without, named-without  the indices of a path that are not on another
 --   path-row                   path 1 less path k, as a row of n numbers; swept-row, of the largest size
 -- Assumes nothing.
@@ -23,14 +22,10 @@ use Rattle.lattice.proofs.RowLaws.{length-plus, entry-plus}
 use Rattle.sections.specs.Sections.{deckColumns}
 use Rattle.sections.specs.StatedColumns.{placed, blank}
 use Rattle.sections.specs.declared.Term.{Term}
-use Rattle.sections.proofs.Storage.{blank-is, length-blank, length-placed, placed-none, placed-more}
+use Rattle.sections.proofs.Storage.{blank-is, length-blank, length-placed, placed-none, placed-two, placed-more}
 use Rattle.volumes.specs.Volumes.{SweepPath, isOn}
 use Rattle.volumes.specs.PathLines.{without, termsOf, pathTerms}
 use Rattle.volumes.specs.VolumesRead.{Named, onesOf, Ones, laterRow}
-
-pub named-end : (n : ℕ) (p : SweepPath) (j : ℕ) → Named n p → (1 ≤ j) × (j ≤ n) → Named n (p ++ (j ∷ []))
-named-end n [] j w h = (h, tt)
-named-end n (i ∷ p) j w h = (w .0, named-end n p j (w .1) h)
 
 -- ---- the terms of a path, placed
 same-both : (t : Bool) (c : ℤ) → cond t c c ≡ c
@@ -53,22 +48,18 @@ entry-termed c (j ∷ p) u n i w h =
         ap (cond (isOn (suc i) p) c) f ∙ same-both (isOn (suc i) p) c
     go false e = ap (cond (isOn (suc i) p) c) (getD-set-other u (j - 1) i c (pos 0) (λ f. eqb-false j (suc i) e (omega (arith, w .0 .0))))
 
-placed-two : (a b : List Term) (u : List ℤ) → placed (a ++ b) u ≡ placed b (placed a u)
-unfolding placed
-placed-two [] b u = refl
-placed-two (t ∷ a) b u = placed-two a b (set u (t .index - 1) (t .coefficient))
-
 -- ---- the line of a path
 pub length-ones : (p : SweepPath) → length (onesOf p) ≡ deckColumns
 length-ones p = length-placed (termsOf (pos 1) p) (blank deckColumns) ∙ length-blank deckColumns
 
-entry-blank : (n i : ℕ) → entry i (blank n) ≡ pos 0
-entry-blank n i = ap (entry i) (blank-is n) ∙ entry-zeros i n
+entry-path : (n : ℕ) (p : SweepPath) (k i : ℕ) → Named k p → i < n
+    → entry i (placed (termsOf (pos 1) p) (zeros n)) ≡ cond (isOn (suc i) p) (pos 1) (pos 0)
+entry-path n p k i w h =
+    entry-termed (pos 1) p (zeros n) k i w (omega (arith, length-replicate n (pos 0))) ∙ ap (cond (isOn (suc i) p) (pos 1)) (entry-zeros i n)
 
 pub entry-ones : (p : SweepPath) (n i : ℕ) → Named n p → i < deckColumns → entry i (onesOf p) ≡ cond (isOn (suc i) p) (pos 1) (pos 0)
 entry-ones p n i w h =
-    entry-termed (pos 1) p (blank deckColumns) n i w (omega (arith, length-blank deckColumns))
-    ∙ ap (cond (isOn (suc i) p) (pos 1)) (entry-blank deckColumns i)
+    ap (λ (u : List ℤ). entry i (placed (termsOf (pos 1) p) u)) (blank-is deckColumns) ∙ entry-path deckColumns p n i w h
 
 pub one-on : (p : SweepPath) (n j : ℕ) → Named n p → 1 ≤ j → j ≤ deckColumns
     → ((natAbs (entry (j - 1) (onesOf p)) ≡ 0 → ⊥) → isOn j p ≡ true) × (natAbs (entry (j - 1) (onesOf p)) ≡ 0 → isOn j p ≡ false)
@@ -158,10 +149,6 @@ module _ (n k : ℕ) (first p : SweepPath) (v : Named k first) (w : Named k p) w
       (entry-termed (pos 1) a (zeros n) k i (named-without k p first v) (omega (arith, z))
       ∙ ap₂ (λ (t : Bool) (x : ℤ). cond t (pos 1) x) (on-without (suc i) p first) (entry-zeros i n))
 
-  own : (q : SweepPath) → Named k q → (i : ℕ) → i < n → entry i (placed (termsOf (pos 1) q) (zeros n)) ≡ cond (isOn (suc i) q) (pos 1) (pos 0)
-  own q r i h =
-      entry-termed (pos 1) q (zeros n) k i r (omega (arith, length-replicate n (pos 0))) ∙ ap (cond (isOn (suc i) q) (pos 1)) (entry-zeros i n)
-
   less : (f g : Bool)
       → cond (g && not f) (negsuc 0) (cond (f && not g) (pos 1) (pos 0)) ≡ cond f (pos 1) (pos 0) +ℤ negsuc 0 *ℤ cond g (pos 1) (pos 0)
   less true true = refl
@@ -179,7 +166,7 @@ module _ (n k : ℕ) (first p : SweepPath) (v : Named k first) (w : Named k p) w
       ext-getD (pos 0) (placed (pathTerms first p) (zeros n)) (minus ours theirs) (l ∙ sym o ∙ sym (length-plus (negsuc 0) theirs ours))
       (λ i h. alone i (omega (arith, l, z)) ∙ less (isOn (suc i) first) (isOn (suc i) p)
       ∙ sym (entry-plus i (negsuc 0) theirs ours (omega (arith, l, o))
-      ∙ ap₂ (λ (x y : ℤ). x +ℤ negsuc 0 *ℤ y) (own first v i (omega (arith, l, z))) (own p w i (omega (arith, l, z)))))
+      ∙ ap₂ (λ (x y : ℤ). x +ℤ negsuc 0 *ℤ y) (entry-path n first k i v (omega (arith, l, z))) (entry-path n p k i w (omega (arith, l, z)))))
 
 pub swept-row : (k : ℕ) (first p : SweepPath) → Named k first → Named k p → laterRow (onesOf first) p ≡ placed (pathTerms first p)
     (zeros deckColumns)

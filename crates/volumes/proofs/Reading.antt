@@ -13,12 +13,13 @@ use lib.Dec.{eqb}
 use lib.IntN.{pos, natAbs}
 use lib.ListN.{length}
 use Rattle.whole.proofs.Tests.{neither}
+use Rattle.lattice.specs.Span.{All}
+use Rattle.lattice.proofs.Span.{all-end}
 use Rattle.problem.specs.declared.Refusal.the-variants.{Volume as WrongVolume}
 use Rattle.sections.specs.Rules.{ok, no, within, noLess}
 use Rattle.sections.proofs.Numbers.{same-ok, ok-not-no, then-ok, count-in}
 use Rattle.volumes.specs.Volumes.{SweepPath, Volume, isOn, index, indices, path, paths, laterPaths, pathCount, volume, volumes, volumeSection}
-use Rattle.volumes.specs.VolumesRead.{Named}
-use Rattle.volumes.proofs.Ones.{named-end}
+use Rattle.volumes.specs.VolumesRead.{Names, Named}
 
 abbrev pub Distinct : SweepPath → Type 0
 Distinct [] = Unit {0}
@@ -28,12 +29,10 @@ abbrev pub Proper : ℕ → SweepPath → Type 0
 Proper n p = Named n p × Distinct p
 
 abbrev pub EachProper : ℕ → Volume → Type 0
-EachProper n [] = Unit {0}
-EachProper n (p ∷ ps) = Proper n p × EachProper n ps
+EachProper n v = All (Proper n) v
 
 abbrev pub AllProper : ℕ → List Volume → Type 0
-AllProper n [] = Unit {0}
-AllProper n (v ∷ vs) = EachProper n v × AllProper n vs
+AllProper n vs = All (EachProper n) vs
 
 -- ---- one more behind those that were read
 off-end : (i j : ℕ) (p : SweepPath) → isOn i p ≡ false → eqb j i ≡ false → isOn i (p ++ (j ∷ [])) ≡ false
@@ -47,14 +46,6 @@ distinct-end [] j d h = (refl, tt)
 distinct-end (i ∷ p) j d h =
     let t = neither (eqb i j) (isOn j p) h in
     (off-end i j p (d .0) (ne-eqb j i (λ e. eqb-false i j (t .0) (sym e))), distinct-end p j (d .1) (t .1))
-
-each-end : (n : ℕ) (ps : Volume) (p : SweepPath) → EachProper n ps → Proper n p → EachProper n (ps ++ (p ∷ []))
-each-end n [] p w h = (h, tt)
-each-end n (q ∷ ps) p w h = (w .0, each-end n ps p (w .1) h)
-
-all-end : (n : ℕ) (vs : List Volume) (v : Volume) → AllProper n vs → EachProper n v → AllProper n (vs ++ (v ∷ []))
-all-end n [] v w h = (h, tt)
-all-end n (u ∷ vs) v w h = (w .0, all-end n vs v (w .1) h)
 
 -- ---- the section
 module _ (s : List ℕ) (count : ℕ) where
@@ -77,7 +68,7 @@ module _ (s : List ℕ) (count : ℕ) where
       let t = then-ok (index s count done at) (λ j at. indices s k count (done ++ (j ∷ [])) at) p e h in
       let j = t .what in
       let i = index-proper done at (t .at) j (t .first) in
-      indices-proper k (done ++ (j ∷ [])) (t .at) e p (t .second) (named-end count done j (w .0) (i .0), distinct-end done j (w .1) (i .1))
+      indices-proper k (done ++ (j ∷ [])) (t .at) e p (t .second) (all-end (Names count) done j (w .0) (i .0), distinct-end done j (w .1) (i .1))
 
   path-proper : (at e : ℕ) (p : SweepPath) → path s count at ≡ ok p e → Proper count p
   path-proper at e p h =
@@ -90,7 +81,7 @@ module _ (s : List ℕ) (count : ℕ) where
   paths-proper (suc k) done at e v h w =
       let t = then-ok (path s count at) (λ p at. paths s k count (done ++ (p ∷ [])) at) v e h in
       let p = t .what in
-      paths-proper k (done ++ (p ∷ [])) (t .at) e v (t .second) (each-end count done p w (path-proper at (t .at) p (t .first)))
+      paths-proper k (done ++ (p ∷ [])) (t .at) e v (t .second) (all-end (Proper count) done p w (path-proper at (t .at) p (t .first)))
 
   volume-proper : (rows at e : ℕ) (v : Volume) → volume s count rows at ≡ ok v e → EachProper count v
   volume-proper rows at e v h =
@@ -105,7 +96,7 @@ module _ (s : List ℕ) (count : ℕ) where
       let t = then-ok (volume s count rows at) (λ v at. volumes s k count (rows + laterPaths (length v)) (done ++ (v ∷ [])) at) vs e h in
       let v = t .what in
       volumes-proper k (rows + laterPaths (length v)) (done ++ (v ∷ [])) (t .at) e vs (t .second)
-      (all-end count done v w (volume-proper rows at (t .at) v (t .first)))
+      (all-end (EachProper count) done v w (volume-proper rows at (t .at) v (t .first)))
 
   pub section-proper : (rows at e : ℕ) (vs : List Volume) → volumeSection s count rows at ≡ ok vs e → AllProper count vs
   section-proper rows at e vs h =

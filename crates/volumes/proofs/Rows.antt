@@ -1,6 +1,6 @@
 -- Laws of the rows of later paths, side by side in the table.
---   later-wide, later-end      as wide as the largest, and one more of them
---   length-later               how many numbers they have
+--   later-end                  one more of them
+--   length-later-row, length-later   how many numbers one of them has, and all of them
 --   later-lines                they are the rows that the paths' lines state
 --   length-volume              a volume adds a line for each later path; swept-end, one more volume adds its own behind the others
 -- Assumes nothing.
@@ -23,15 +23,15 @@ use Rattle.volumes.specs.VolumesRead.{Named, EachNamed, onesOf, laterRow
 use Rattle.volumes.proofs.Ones.{swept-row}
 
 module _ (f : List ℤ) (w : length f ≡ deckColumns) where
+  pub length-later-row : (p : SweepPath) → length (laterRow f p) ≡ deckColumns
+  length-later-row p = length-plus (negsuc 0) (onesOf p) f ∙ w
+
   later-wide : (ps : List SweepPath) → All (Len deckColumns) (map (laterRow f) ps)
   later-wide [] = tt
-  later-wide (p ∷ ps) = (length-plus (negsuc 0) (onesOf p) f ∙ w, later-wide ps)
+  later-wide (p ∷ ps) = (length-later-row p, later-wide ps)
 
   pub length-later : (ps : List SweepPath) → length (flat (map (laterRow f) ps)) ≡ length ps * deckColumns
   length-later ps = length-flat deckColumns (map (laterRow f) ps) (later-wide ps) ∙ ap (λ (k : ℕ). k * deckColumns) (length-map ps (laterRow f))
-
-  pub length-row : (p : SweepPath) → length (laterRow f p) ≡ deckColumns
-  length-row p = length-plus (negsuc 0) (onesOf p) f ∙ w
 
 pub later-end : (f : List ℤ) (ps : List SweepPath) (p : SweepPath)
     → flat (map (laterRow f) (ps ++ (p ∷ []))) ≡ flat (map (laterRow f) ps) ++ laterRow f p

@@ -19,6 +19,7 @@ use Rattle.whole.proofs.Integers.{rep, diff-rel, add-none}
 use Rattle.whole.proofs.Lists.{entry-zeros}
 use Rattle.whole.proofs.Tests.{neither}
 use Rattle.lattice.specs.Rows.{Zero}
+use Rattle.lattice.specs.Span.{All}
 use Rattle.lattice.specs.Sums.{dot, sums}
 use Rattle.lattice.proofs.SumLaws.{dot-row-plus, dot-row-zeros, dot-row-set}
 use Rattle.sections.specs.Sections.{Line}
@@ -34,8 +35,7 @@ use Rattle.volumes.proofs.Reading.{Proper, EachProper, AllProper}
 
 -- ---- a row that is 0 wherever the path goes
 abbrev Clear : List ℤ → SweepPath → Type 0
-Clear u [] = Unit {0}
-Clear u (j ∷ p) = (entry (j - 1) u ≡ pos 0) × Clear u p
+Clear u p = All (λ (j : ℕ). entry (j - 1) u ≡ pos 0) p
 
 clear-zeros : (n : ℕ) (p : SweepPath) → Clear (zeros n) p
 clear-zeros n [] = tt

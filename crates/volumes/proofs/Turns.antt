@@ -1,7 +1,7 @@
 -- Laws of the section of volumes, one for each way through the code: what was read, or at which number it was refused.
 --   index-read, -twice, -no             an index; indices-more, -stop, -end, so many of them
 --   path-read, -no                      a path; paths-more, -stop, -end, so many of them
---   count-room, -full, -no, -in           a count of paths
+--   count-room, -full, -no              a count of paths; path-count-in, what one that was read says
 --   volume-read, -no                    a volume; volumes-more, -stop, -end, so many of them
 --   section-read, -no                   the section, with its count
 -- Assumes nothing.
@@ -84,8 +84,8 @@ module _ (s : List ℕ) (rows at e : ℕ) where
   count-no why p = rw p
 
 -- a count of paths that was read is no less than 1, and its rows have room
-pub count-in : (s : List ℕ) (rows at k e : ℕ) → pathCount s rows at ≡ ok k e → (1 ≤ k) × (rows + laterPaths k ≤ deckRows)
-count-in s rows at k e h = go (noLess s (pos 1) WrongVolume at) refl h
+pub path-count-in : (s : List ℕ) (rows at k e : ℕ) → pathCount s rows at ≡ ok k e → (1 ≤ k) × (rows + laterPaths k ≤ deckRows)
+path-count-in s rows at k e h = go (noLess s (pos 1) WrongVolume at) refl h
   where
     by : (j : ℕ) (p : ℕ) (t : Bool) → 1 ≤ j → ltb deckRows (rows + laterPaths j) ≡ t → cond t (no Size) (ok j p) ≡ ok k e
         → (1 ≤ k) × (rows + laterPaths k ≤ deckRows)

@@ -9,6 +9,7 @@ use Prim.Native.Nat.{ℕ, _-_, _<_}
 use lib.IntN.{ℤ, pos, _+ℤ_}
 use lib.ListN.{length, getD}
 use Rattle.whole.specs.Lists.{entry}
+use Rattle.lattice.specs.Span.{All}
 use Rattle.volumes.specs.Volumes.{SweepPath, Volume}
 
 -- indices count from 1
@@ -20,5 +21,4 @@ pub record EqualSums (x : List ℤ) (v : Volume) : Type 0 where
   pub equal : (i j : ℕ) → i < length v → j < length v → along x (getD v i []) ≡ along x (getD v j [])
 
 abbrev pub Sweeps : List ℤ → List Volume → Type 0
-Sweeps x [] = Unit {0}
-Sweeps x (v ∷ vs) = EqualSums x v × Sweeps x vs
+Sweeps x vs = All (EqualSums x) vs

@@ -1,6 +1,6 @@
 -- What the functions of the section of volumes answer, as outcomes, and what they leave in the buffers that they are lent.
 --   countGotOf               a count that was read, as an outcome
---   Named n p                each index of the path p names one of n intervals; EachNamed, so it is on each path
+--   Names n j                the index j names one of n intervals; Named n p, so does each index of the path p; EachNamed, so it is on each path
 --   onesOf p                 the line of the path p, of the largest size: 1 for each of its intervals, 0 for the others
 --   Ones v                   a line of the largest size, of numbers no larger than 1
 --   PathRead                 a path, as an outcome, with its line where it was not refused: PathStored
@@ -18,6 +18,7 @@ use lib.IntN.{ℤ, pos, natAbs}
 use lib.ListN.{length}
 use Rattle.whole.specs.Lists.{entry}
 use Rattle.lattice.specs.Rows.{minus, flat}
+use Rattle.lattice.specs.Span.{All}
 use Rattle.text.specs.Overwriting.{overwritten}
 use Rattle.sections.specs.Rules.{Outcome, ok, no}
 use Rattle.sections.specs.Sections.{deckColumns, deckRows, coefficientCount}
@@ -38,13 +39,14 @@ countGotOf (got.Value v e) = ok (natAbs v) e
 countGotOf (got.Refused why) = no why
 
 -- ---- a path
+abbrev pub Names : ℕ → ℕ → Type 0
+Names n j = (1 ≤ j) × (j ≤ n)
+
 abbrev pub Named : ℕ → SweepPath → Type 0
-Named n [] = Unit {0}
-Named n (j ∷ p) = ((1 ≤ j) × (j ≤ n)) × Named n p
+Named n p = All (Names n) p
 
 abbrev pub EachNamed : ℕ → List SweepPath → Type 0
-EachNamed n [] = Unit {0}
-EachNamed n (p ∷ ps) = Named n p × EachNamed n ps
+EachNamed n ps = All (Named n) ps
 
 abbrev pub onesOf : SweepPath → List ℤ
 onesOf p = placed (termsOf (pos 1) p) (blank deckColumns)

@@ -8,6 +8,7 @@ use borrow.Author.Needs.{needs}
 use lib.IntN.{ℤ}
 use lib.ListN.{length, length-append}
 use Rattle.lattice.specs.Rows.{flat}
+use Rattle.lattice.proofs.Span.{all-end}
 use Rattle.text.specs.Overwriting.{overwritten}
 use Rattle.text.proofs.Copying.{written-none, written-then}
 use Rattle.sections.specs.Sections.{deckColumns, deckRows, coefficientCount}
@@ -16,7 +17,7 @@ use Rattle.sections.specs.declared.Section.{Section}
 use Rattle.volumes.specs.Volumes.{SweepPath, Volume, path, paths}
 use Rattle.volumes.specs.VolumesRead.{EachNamed, Named, laterRow, LaterStored, LaterRead}
 use Rattle.volumes.proofs.Turns.{paths-more, paths-stop, paths-end}
-use Rattle.volumes.proofs.Rows.{length-row, length-later, later-end}
+use Rattle.volumes.proofs.Rows.{length-later-row, length-later, later-end}
 use Rattle.volumes.proofs.later_paths.Statement.{statement}
 use Rattle.volumes.proofs.later_paths.Tie as tie
 
@@ -44,10 +45,6 @@ begin s end a f t₀ h l = record {
   size = l;
 }
 
-named-end : (n : ℕ) (ps : List SweepPath) (p : SweepPath) → EachNamed n ps → Named n p → EachNamed n (ps ++ (p ∷ []))
-named-end n [] p w h = (h, tt)
-named-end n (q ∷ ps) p w h = (w .0, named-end n ps p (w .1) h)
-
 more : {s : List ℕ} {end : ℕ} {a : Cursor} {f t₀ : List ℤ} {c d : Cursor} {t t' : List ℤ} → end ≤ deckRows → length f ≡ deckColumns → length t₀
     ≡ coefficientCount
     → Sofar s end a f t₀ c t → c .rows < end → LaterStored (path s (c .intervals) (c .at)) c d f t t' → length t' ≡ length t
@@ -57,7 +54,7 @@ more {s} {end} {a} {f} {t₀} {c} {d} {t} {t'} e w b v h o l =
     let q : end - d .rows ≡ end - c .rows - 1 = omega (arith, o .rows) in
     let r = rw (v .intervals) at (o .read) in
     let m = length-later f w (v .later) in
-    let k = length-row f w p in
+    let k = length-later-row f w p in
     let u : List ℤ = flat (map (laterRow f) (v .later)) in
     let z : c .rows * deckColumns ≡ a .rows * deckColumns + length u = omega (arith, m, v .many) in
     record {
@@ -65,7 +62,7 @@ more {s} {end} {a} {f} {t₀} {c} {d} {t} {t'} e w b v h o l =
       intervals = o .intervals ∙ v .intervals;
       columns = o .columns ∙ v .columns;
       later = v .later ++ (p ∷ []);
-      named = named-end deckColumns (v .later) p (v .named) (o .named);
+      named = all-end (Named deckColumns) (v .later) p (v .named) (o .named);
       many = omega (arith, o .rows, v .many, length-append (v .later) (p ∷ []));
       rest = λ done.
           rw (q, sym (append-assoc done (v .later) (p ∷ [])))

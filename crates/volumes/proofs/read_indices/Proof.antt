@@ -12,6 +12,7 @@ use mir.Syntax.{w64}
 use mir.Val.{toZ, ofZ}
 use mir.Facts.{toZ-ofZ}
 use Rattle.whole.specs.Lists.{entry}
+use Rattle.lattice.proofs.Span.{all-end}
 use Rattle.problem.specs.declared.Refusal.the-variants.{Volume}
 use Rattle.sections.specs.Rules.{ok, no, within}
 use Rattle.sections.specs.Sections.{deckColumns}
@@ -20,8 +21,8 @@ use Rattle.sections.specs.SectionsRead.{gotOf}
 use Rattle.sections.proofs.Numbers.{count-in}
 use Rattle.sections.proofs.Storage.{length-blank}
 use Rattle.volumes.specs.Volumes.{SweepPath, isOn, index, indices}
-use Rattle.volumes.specs.VolumesRead.{Named, onesOf}
-use Rattle.volumes.proofs.Ones.{named-end, one-on, ones-none, ones-more, length-ones}
+use Rattle.volumes.specs.VolumesRead.{Names, Named, onesOf}
+use Rattle.volumes.proofs.Ones.{one-on, ones-none, ones-more, length-ones}
 use Rattle.volumes.proofs.Turns.{index-read, index-twice, index-no, indices-more, indices-stop, indices-end}
 use Rattle.volumes.proofs.read_indices.Statement.{statement}
 use Rattle.volumes.proofs.read_indices.Tie as tie
@@ -65,7 +66,7 @@ more {s} {at} {k} {count} {i} {p} {u} {v} {e} {n} f h r z =
     record {
       small = omega arith;
       done = f .done ++ (n ∷ []);
-      named = named-end deckColumns (f .done) n (f .named) (r .low, r .high);
+      named = all-end (Names deckColumns) (f .done) n (f .named) (r .low, r .high);
       rest = rw j (sym (indices-more s count (f .done) p e (k - i) n (omega arith) q) ∙ f .rest);
       ones = ap (λ (w : List ℤ). set w (n - 1) (pos 1)) (f .ones) ∙ ones-more (f .done) n;
     }

@@ -19,7 +19,7 @@ use Rattle.volumes.specs.Volumes.{SweepPath, path, paths, laterPaths, pa
 use Rattle.volumes.specs.VolumesRead.{countGotOf, Named, Ones, onesOf, laterRow, PathStored, PathRead, PathsRead, VolumeRead}
 use Rattle.sections.specs.declared.Past.{Past}
 use Rattle.volumes.proofs.Ones.{ones-are}
-use Rattle.volumes.proofs.Turns.{paths-more, paths-stop, count-in, volume-read, volume-no}
+use Rattle.volumes.proofs.Turns.{paths-more, paths-stop, path-count-in, volume-read, volume-no}
 use Rattle.volumes.proofs.Rows.{later-lines}
 use borrow.Author.Needs.{needs}
 use Rattle.volumes.proofs.read_volume.Statement.{statement}
@@ -32,7 +32,7 @@ rejoined : (s : List ℕ) (c : Cursor) (f t₀ t : List ℤ) {k p e : ℕ} {firs
     → VolumeRead (volume s (c .intervals) (c .rows) (c .at)) c r t₀ t
 rejoined s c f t₀ t {k} {p} {e} {first} a b n m r o =
     let z : c .rows + (k - 1) - c .rows ≡ k - 1 = omega arith in
-    let one = count-in s (c .rows) (c .at) k p a .0 in
+    let one = path-count-in s (c .rows) (c .at) k p a .0 in
     let h : volume s (c .intervals) (c .rows) (c .at) ≡ paths s (k - 1) (c .intervals) (first ∷ []) e =
     volume-read s (c .intervals) (c .rows) (c .at) p k a ∙ paths-more s (c .intervals) [] p e k first one b in
     go r (rw z at o) h
@@ -69,7 +69,7 @@ module _ (d : tie.After-natural) where
       d .before .before .before .before .count-paths .ensures ∙ ap countGotOf (g .1) ∙ ap (λ (k : ℕ). ok k (g .0 .1 .0)) (sym n)
 
   fits : (1 ≤ d .natural .result) × (start .args .c .rows + laterPaths (d .natural .result) ≤ deckRows)
-  fits = count-in (start .args .s .now) (start .args .c .rows) (start .args .c .at) (d .natural .result) _ counted
+  fits = path-count-in (start .args .s .now) (start .args .c .rows) (start .args .c .at) (d .natural .result) _ counted
 
 -- path 1
 module _ (d : tie.After-a) where

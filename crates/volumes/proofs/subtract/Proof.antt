@@ -1,4 +1,3 @@
-use mir.Facts.{toZ-ofZ}
 -- `volumes::subtract` meets its contract: from the left, each difference is stored. Assumes nothing.
 use mathlib.Core.Path.{_≡_, sym, _∙_, ap}
 use mathlib.Core.List.{List}
@@ -9,6 +8,7 @@ use lib.IntN.{ℤ, negsuc, negℤ, natAbs, _+ℤ_, _-ℤ_, _*ℤ_}
 use lib.ListN.{length}
 use mir.Syntax.{w64}
 use mir.Val.{toZ, ofZ, SFits}
+use mir.Facts.{toZ-ofZ}
 use Rattle.whole.specs.Lists.{entry}
 use Rattle.whole.proofs.Integers.{rep, diff-rel}
 use Rattle.whole.proofs.Signed.{abs-add, abs-neg, sfits-abs}
