@@ -66,7 +66,9 @@ fn subtract(first: &[i64], line: &mut [i64])
     ensures { λ _. ⌜ now (line .exit) ≡ minus (now (first .entry)) (now (line .entry)) ⌝ }
 {
     for j in 0..Sizes::COLUMNS {
-        line[j] = first[j] - line[j];
+        let a = first[j];
+        let b = line[j];
+        line[j] = a - b;
     }
 }
 

@@ -39,17 +39,17 @@ abbrev μ-loop : tie.MeasureT-loop
 loop-holds : tie.Need-loop-holds Inv-loop μ-loop
 loop-holds c = starts (c .pre .1 .wide ∙ sym (wide (c .args .line .now) (c .pre .0)))
 
-mul-line : tie.Need-mul-line Inv-loop μ-loop
-mul-line c = search needs
+mul-a : tie.Need-mul-a Inv-loop μ-loop
+mul-a c = search needs
 
-shared-slice-copy-out-line : tie.Need-shared-slice-copy-out-line Inv-loop μ-loop
-shared-slice-copy-out-line c = omega (arith, c .before .before .pre .0 .wide)
+shared-slice-copy-out-a : tie.Need-shared-slice-copy-out-a Inv-loop μ-loop
+shared-slice-copy-out-a c = omega (arith, c .before .before .pre .0 .wide)
 
-mul-line-2 : tie.Need-mul-line-2 Inv-loop μ-loop
-mul-line-2 c = search needs
+mul-b : tie.Need-mul-b Inv-loop μ-loop
+mul-b c = search needs
 
-slice-copy-out-line : tie.Need-slice-copy-out-line Inv-loop μ-loop
-slice-copy-out-line c =
+slice-copy-out-b : tie.Need-slice-copy-out-b Inv-loop μ-loop
+slice-copy-out-b c =
     let start = c .before .before .before in
     omega (arith, c .before .before .loop .inv .same, start .pre .1 .wide)
 
@@ -65,8 +65,8 @@ sub-line c =
     let u : y ≡ entry (l .j) (start .args .line .now) = unread (l .inv) (omega (arith, wide (start .args .line .now) (start .pre .0))) in
     rw (p, q) (less-fits x y (start .pre .0 .small (l .j)) (rw (sym u) at (start .pre .1 .small (l .j))))
 
-mul-t12 : tie.Need-mul-t12 Inv-loop μ-loop
-mul-t12 c = search needs
+mul-t7 : tie.Need-mul-t7 Inv-loop μ-loop
+mul-t7 c = search needs
 
 slice-set-from-line : tie.Need-slice-set-from-line Inv-loop μ-loop
 slice-set-from-line c =
@@ -111,12 +111,12 @@ subtract-spec =
     Inv-loop
     μ-loop
     loop-holds
-    mul-line
-    shared-slice-copy-out-line
-    mul-line-2
-    slice-copy-out-line
+    mul-a
+    shared-slice-copy-out-a
+    mul-b
+    slice-copy-out-b
     sub-line
-    mul-t12
+    mul-t7
     slice-set-from-line
     add-j
     loop-less
