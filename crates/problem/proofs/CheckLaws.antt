@@ -9,7 +9,7 @@
 --   fits          so it is
 -- Assumes nothing.
 use mathlib.Core.Path.{_≡_, refl, sym, _∙_, ap, ap₂, subst}
-use mathlib.Core.Bool.{Bool, true, false, _||_}
+use mathlib.Core.Bool.{Bool, true, false, _&&_, _||_}
 use mathlib.Core.List.{List}
 use Prim.Native.Nat.{ℕ, _+_, _*_, _^_, _<_, _≤_}
 use native.Mathlib.Nat.{mul-le-mul, lt-of-le-of-lt}
@@ -23,13 +23,13 @@ use mir.Syntax.{w64}
 use mir.Val.{toZ, ofZ}
 use mir.Val as Val
 use Rattle.whole.specs.Lists.{entry}
-use Rattle.whole.specs.Tests.{isZero, spans, inRange}
+use Rattle.whole.specs.Tests.{isZero, spans}
 use Rattle.whole.proofs.Tests.{both-true, all-true, range-small}
 use Rattle.whole.proofs.Signed.{back}
 use Rattle.whole.proofs.Counted.{every-at}
 use Rattle.problem.specs.Limits.{maxColumns, maxRows, maxCoefficient, maxRight, maxBound, maxGoal}
 use Rattle.problem.specs.Checks.{Posed, sizesFit, rowLengthsFit, columnLengthsFit, idealLengthsFit, lentFit, allSpan, rowsFit}
-use Rattle.problem.specs.Checks.{boundFits, boundsFit, goalFits, goalsFit, limitFits, orNext, firstCause}
+use Rattle.problem.specs.Checks.{boundFits, boundsFit, goalInside, bothOrNone, goalFits, goalsFit, limitFits, orNext, firstCause}
 use Rattle.problem.specs.declared.Problem.{Problem}
 use Rattle.problem.specs.declared.Lent.{Lent}
 use Rattle.problem.specs.declared.Refusal.{Refusal}
@@ -62,23 +62,26 @@ room p e =
     }
 
 pub same-lengths :
-    (p : Problem) (lower upper goals : List ℤ) → columnLengthsFit p lower upper goals ≡ true
-    → (length upper ≡ length lower) × (length goals ≡ length lower)
-same-lengths p lower upper goals e =
-    let tests = all-true (eqb (length lower) (p .columns)) (eqb (length upper) (p .columns)) (eqb (length goals) (p .columns)) e in
+    (p : Problem) (lower upper low high : List ℤ) → columnLengthsFit p lower upper low high ≡ true
+    → (length upper ≡ length lower) × (length low ≡ length lower) × (length high ≡ length lower)
+same-lengths p lower upper low high e =
+    let tests =
+    all-true (eqb (length lower) (p .columns)) (eqb (length upper) (p .columns))
+    (eqb (length low) (p .columns) && eqb (length high) (p .columns)) e in
+    let goals = both-true (eqb (length low) (p .columns)) (eqb (length high) (p .columns)) (tests .2) in
     let l : length lower ≡ p .columns = eqb-true _ _ (tests .0) in
-    (eqb-true _ _ (tests .1) ∙ sym l, eqb-true _ _ (tests .2) ∙ sym l)
+    (eqb-true _ _ (tests .1) ∙ sym l, eqb-true _ _ (goals .0) ∙ sym l, eqb-true _ _ (goals .1) ∙ sym l)
 
 -- ---- what no cause leaves
 pub record Passes (P : Posed) (L : Lent) : Type 0 where
   pub sizes : sizesFit maxColumns maxRows (P .problem) ≡ true
   pub row-lengths : rowLengthsFit (P .problem) (P .coefficients) (P .rights) ≡ true
-  pub column-lengths : columnLengthsFit (P .problem) (P .lower) (P .upper) (P .goals) ≡ true
+  pub column-lengths : columnLengthsFit (P .problem) (P .lower) (P .upper) (P .low) (P .high) ≡ true
   pub ideal-lengths : idealLengthsFit (P .problem) (P .given) (P .ideals) ≡ true
   pub lent : lentFit (P .problem) L ≡ true
   pub rows : rowsFit (P .coefficients) (P .rights) ≡ true
   pub bounds : boundsFit (P .lower) (P .upper) ≡ true
-  pub goals : goalsFit (P .lower) (P .goals) ≡ true
+  pub goals : goalsFit (P .lower) (P .low) (P .high) ≡ true
   pub limit : limitFits (P .problem) ≡ true
 
 pub record Fits (P : Posed) (L : Lent) : Type 0 where
@@ -88,7 +91,8 @@ pub record Fits (P : Posed) (L : Lent) : Type 0 where
   pub rights-long : length (P .rights) ≡ P .problem .rows
   pub lower-long : length (P .lower) ≡ P .problem .columns
   pub upper-long : length (P .upper) ≡ P .problem .columns
-  pub goals-long : length (P .goals) ≡ P .problem .columns
+  pub low-long : length (P .low) ≡ P .problem .columns
+  pub high-long : length (P .high) ≡ P .problem .columns
   pub given-long : length (P .given) ≡ P .problem .columns
   pub ideals-long : length (P .ideals) ≡ P .problem .columns
   pub tableau-long : L .tableau ≡ P .problem .columns * (P .problem .rows + P .problem .columns)
@@ -98,8 +102,9 @@ pub record Fits (P : Posed) (L : Lent) : Type 0 where
   pub rights-small : (i : ℕ) → natAbs (entry i (P .rights)) ≤ maxRight
   pub lower-small : (j : ℕ) → natAbs (entry j (P .lower)) ≤ maxBound
   pub upper-small : (j : ℕ) → natAbs (entry j (P .upper)) ≤ maxBound
-  pub goals-small : (j : ℕ) → natAbs (entry j (P .goals)) ≤ maxGoal
-  pub goal-above : (j : ℕ) → isZero (entry j (P .goals)) || leZ (pos 1) (entry j (P .lower)) ≡ true
+  pub low-small : (j : ℕ) → natAbs (entry j (P .low)) ≤ maxGoal
+  pub high-small : (j : ℕ) → natAbs (entry j (P .high)) ≤ maxGoal
+  pub goal-above : (j : ℕ) → isZero (entry j (P .low)) || leZ (pos 1) (entry j (P .lower)) ≡ true
 
 both : (t : Bool) (why : Refusal) (next : Check) → orNext t why next ≡ Passed → (t ≡ true) × (next ≡ Passed)
 both true why next e = (refl, e)
@@ -110,12 +115,12 @@ unfolding firstCause
 passes P L e =
     let a = both (sizesFit maxColumns maxRows (P .problem)) Size _ e in
     let b = both (rowLengthsFit (P .problem) (P .coefficients) (P .rights)) Length _ (a .1) in
-    let c = both (columnLengthsFit (P .problem) (P .lower) (P .upper) (P .goals)) Length _ (b .1) in
+    let c = both (columnLengthsFit (P .problem) (P .lower) (P .upper) (P .low) (P .high)) Length _ (b .1) in
     let x = both (idealLengthsFit (P .problem) (P .given) (P .ideals)) Length _ (c .1) in
     let d = both (lentFit (P .problem) L) Length _ (x .1) in
     let f = both (rowsFit (P .coefficients) (P .rights)) Coefficient _ (d .1) in
     let g = both (boundsFit (P .lower) (P .upper)) Bound _ (f .1) in
-    let h = both (goalsFit (P .lower) (P .goals)) Goal _ (g .1) in
+    let h = both (goalsFit (P .lower) (P .low) (P .high)) Goal _ (g .1) in
     let i = both (limitFits (P .problem)) Limit Passed (h .1) in
     record {
       sizes = a .0;
@@ -159,9 +164,15 @@ module _ (P : Posed) (L : Lent) (f : Passes P L) where
   unfolding n m
   rows-long = both-true (eqb (length (P .coefficients)) (m * n)) (eqb (length (P .rights)) m) (f .row-lengths)
 
-  columns-long : (eqb (length (P .lower)) n ≡ true) × (eqb (length (P .upper)) n ≡ true) × (eqb (length (P .goals)) n ≡ true)
+  columns-long :
+      (eqb (length (P .lower)) n ≡ true) × (eqb (length (P .upper)) n ≡ true)
+      × (eqb (length (P .low)) n && eqb (length (P .high)) n ≡ true)
   unfolding n
-  columns-long = all-true (eqb (length (P .lower)) n) (eqb (length (P .upper)) n) (eqb (length (P .goals)) n) (f .column-lengths)
+  columns-long =
+      all-true (eqb (length (P .lower)) n) (eqb (length (P .upper)) n) (eqb (length (P .low)) n && eqb (length (P .high)) n) (f .column-lengths)
+
+  goals-long : (eqb (length (P .low)) n ≡ true) × (eqb (length (P .high)) n ≡ true)
+  goals-long = both-true (eqb (length (P .low)) n) (eqb (length (P .high)) n) (columns-long .2)
 
   ideals-long : (eqb (length (P .given)) n ≡ true) × (eqb (length (P .ideals)) n ≡ true)
   unfolding n
@@ -179,29 +190,44 @@ module _ (P : Posed) (L : Lent) (f : Passes P L) where
       all-true (spans maxBound (entry j (P .lower))) (spans maxBound (entry j (P .upper))) (leZ (entry j (P .lower)) (entry j (P .upper)))
       (every-at (length (P .lower)) (λ j. boundFits (entry j (P .lower)) (entry j (P .upper))) j (f .bounds) h)
 
+  -- a column's goals lie within the limits, and ask for a lower bound of 1
   goal-at : (j : ℕ) → j < length (P .lower)
-      → (inRange (pos 0) (pos maxGoal) (entry j (P .goals)) ≡ true)
-      × (isZero (entry j (P .goals)) || leZ (pos 1) (entry j (P .lower)) ≡ true)
+      → (goalInside (entry j (P .low)) ≡ true)
+      × (goalInside (entry j (P .high)) ≡ true)
+      × (isZero (entry j (P .low)) || leZ (pos 1) (entry j (P .lower)) ≡ true)
   goal-at j h =
-      both-true (inRange (pos 0) (pos maxGoal) (entry j (P .goals))) (isZero (entry j (P .goals)) || leZ (pos 1) (entry j (P .lower)))
-      (every-at (length (P .lower)) (λ j. goalFits (entry j (P .lower)) (entry j (P .goals))) j (f .goals) h)
+      let lo : ℤ = entry j (P .lower) in
+      let low : ℤ = entry j (P .low) in
+      let high : ℤ = entry j (P .high) in
+      let rest : Bool = leZ low high && (isZero low || leZ (pos 1) lo) in
+      let a =
+      all-true (goalInside low) (goalInside high) (bothOrNone low high && rest)
+      (every-at (length (P .lower)) (λ j. goalFits (entry j (P .lower)) (entry j (P .low)) (entry j (P .high))) j (f .goals) h) in
+      let b = both-true (bothOrNone low high) rest (a .2) in
+      (a .0, a .1, both-true (leZ low high) (isZero low || leZ (pos 1) lo) (b .1) .1)
 
   -- past the last column there is no goal
-  above-at : length (P .goals) ≡ length (P .lower) → (j : ℕ) → isZero (entry j (P .goals)) || leZ (pos 1) (entry j (P .lower)) ≡ true
+  above-at : length (P .low) ≡ length (P .lower) → (j : ℕ) → isZero (entry j (P .low)) || leZ (pos 1) (entry j (P .lower)) ≡ true
   above-at e j = go (ltb j (length (P .lower))) refl
     where
-      go : (t : Bool) → ltb j (length (P .lower)) ≡ t → isZero (entry j (P .goals)) || leZ (pos 1) (entry j (P .lower)) ≡ true
-      go true h = goal-at j (ltb-true j (length (P .lower)) h) .1
+      go : (t : Bool) → ltb j (length (P .lower)) ≡ t → isZero (entry j (P .low)) || leZ (pos 1) (entry j (P .lower)) ≡ true
+      go true h = goal-at j (ltb-true j (length (P .lower)) h) .2
       go false h =
-          let z : entry j (P .goals) ≡ pos 0 = List·getD-eq-default (P .goals) (pos 0) (omega (arith, ltb-false j (length (P .lower)) h)) in
+          let z : entry j (P .low) ≡ pos 0 = List·getD-eq-default (P .low) (pos 0) (omega (arith, ltb-false j (length (P .lower)) h)) in
           ap (λ (x : ℤ). isZero x || leZ (pos 1) (entry j (P .lower))) z
+
+  inside-small :
+      (l : List ℤ) → ((j : ℕ) → j < length l → goalInside (entry j l) ≡ true) → (j : ℕ) → natAbs (entry j l) ≤ maxGoal
+  inside-small l t =
+      every-place (λ (x : ℤ). natAbs x ≤ maxGoal) l (λ j h. range-small maxGoal (entry j l) (t j h)) (omega arith)
 
   pub fits : Fits P L
   unfolding n m
   fits =
       let lower : length (P .lower) ≡ P .problem .columns = eqb-true _ _ (columns-long .0) in
       let upper : length (P .upper) ≡ P .problem .columns = eqb-true _ _ (columns-long .1) in
-      let goals : length (P .goals) ≡ P .problem .columns = eqb-true _ _ (columns-long .2) in
+      let low : length (P .low) ≡ P .problem .columns = eqb-true _ _ (goals-long .0) in
+      let high : length (P .high) ≡ P .problem .columns = eqb-true _ _ (goals-long .1) in
       let rows : (allSpan maxCoefficient (P .coefficients) ≡ true) × (allSpan maxRight (P .rights) ≡ true) =
       both-true (allSpan maxCoefficient (P .coefficients)) (allSpan maxRight (P .rights)) (f .rows) in
       record {
@@ -211,7 +237,8 @@ module _ (P : Posed) (L : Lent) (f : Passes P L) where
         rights-long = eqb-true _ _ (rows-long .1);
         lower-long = lower;
         upper-long = upper;
-        goals-long = goals;
+        low-long = low;
+        high-long = high;
         given-long = eqb-true _ _ (ideals-long .0);
         ideals-long = eqb-true _ _ (ideals-long .1);
         tableau-long = eqb-true _ _ (lent-long .0);
@@ -221,8 +248,7 @@ module _ (P : Posed) (L : Lent) (f : Passes P L) where
         rights-small = all-small maxRight (P .rights) (rows .1);
         lower-small = spans-small maxBound (P .lower) (λ j h. bound-at j h .0);
         upper-small = spans-small maxBound (P .upper) (λ j h. bound-at j (omega arith) .1);
-        goals-small =
-            every-place (λ (x : ℤ). natAbs x ≤ maxGoal) (P .goals)
-            (λ j h. range-small maxGoal (entry j (P .goals)) (goal-at j (omega arith) .0)) (omega arith);
-        goal-above = above-at (goals ∙ sym lower);
+        low-small = inside-small (P .low) (λ j h. goal-at j (omega arith) .0);
+        high-small = inside-small (P .high) (λ j h. goal-at j (omega arith) .1);
+        goal-above = above-at (low ∙ sym lower);
       }

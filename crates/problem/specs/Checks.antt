@@ -1,18 +1,19 @@
 -- A problem as it is handed to a call, and the causes 1 to 6 that turn it back.
 --   emptyProblem     no columns, no rows, no steps
---   Posed            a problem with its lists: the coefficients, n to a row, and the right sides; the bounds and goals of the columns; and the
---                    ideals handed in, document 02, (ii): whether there is one, 0 where there is none, and the number
+--   Posed            a problem with its lists: the coefficients, n to a row, and the right sides; the bounds of the columns; document 02, (v), their
+--                    low and high goals; and, document 02, (ii), the ideals handed in: whether there is one, 0 where there is none, and the number
 --   sizesFit columns rows p   cause 1 does not hold, with that many columns and rows allowed
 --   rowLengthsFit, columnLengthsFit, idealLengthsFit, lentFit   nor cause 2, of the rows' lists, the columns' lists, the ideals' lists and the
 --                    buffers that the call fills
 --   allSpan k l      every number of l lies in −k to k
---   rowsFit, boundFits, boundsFit, goalFits, goalsFit, limitFits   nor the causes 3 to 6; at one column, and at all
+--   rowsFit, boundFits, boundsFit, goalFits, goalsFit, limitFits   nor the causes 3 to 6; at one column, and at all. goalInside, of one goal;
+--                    bothOrNone, of a low and a high one
 --   orNext t why c   the refusal where the test t fails, else the next check c
 --   firstCause P L   the first cause of 1 to 6 that holds of the problem P and the lengths L of the buffers lent with it
 -- "Any number may be handed in as an ideal": no cause looks at what the marks and the ideals hold.
 -- The checks are pieces, put together by `orNext`, so that other calls can take the first three or the first five.
 -- Assumes nothing.
-use mathlib.Core.Bool.{Bool, true, false, _&&_, _||_}
+use mathlib.Core.Bool.{Bool, true, false, not, cond, _&&_, _||_}
 use mathlib.Core.List.{List}
 use Prim.Native.Nat.{ℕ, _+_, _*_}
 use lib.Dec.{leb, eqb}
@@ -38,7 +39,8 @@ pub record Posed : Type 0 where
   pub rights : List ℤ
   pub lower : List ℤ
   pub upper : List ℤ
-  pub goals : List ℤ
+  pub low : List ℤ
+  pub high : List ℤ
   pub given : List ℤ
   pub ideals : List ℤ
 
@@ -50,9 +52,10 @@ sizesFit columns rows p = leb 1 (p .columns) && (leb (p .columns) columns && leb
 abbrev pub rowLengthsFit : Problem → List ℤ → List ℤ → Bool
 rowLengthsFit p coefficients rights = eqb (length coefficients) (p .rows * p .columns) && eqb (length rights) (p .rows)
 
-abbrev pub columnLengthsFit : Problem → List ℤ → List ℤ → List ℤ → Bool
-columnLengthsFit p lower upper goals =
-    eqb (length lower) (p .columns) && (eqb (length upper) (p .columns) && eqb (length goals) (p .columns))
+abbrev pub columnLengthsFit : Problem → List ℤ → List ℤ → List ℤ → List ℤ → Bool
+columnLengthsFit p lower upper low high =
+    eqb (length lower) (p .columns)
+    && (eqb (length upper) (p .columns) && (eqb (length low) (p .columns) && eqb (length high) (p .columns)))
 
 abbrev pub idealLengthsFit : Problem → List ℤ → List ℤ → Bool
 idealLengthsFit p given ideals = eqb (length given) (p .columns) && eqb (length ideals) (p .columns)
@@ -77,12 +80,20 @@ boundFits lower upper = spans maxBound lower && (spans maxBound upper && leZ low
 abbrev pub boundsFit : List ℤ → List ℤ → Bool
 boundsFit lower upper = every (length lower) (λ j. boundFits (entry j lower) (entry j upper))
 
--- 5: "goal outside, or goal with lower below 1"
-abbrev pub goalFits : ℤ → ℤ → Bool
-goalFits lower goal = inRange (pos 0) (pos maxGoal) goal && (isZero goal || leZ (pos 1) lower)
+-- 5: "goal outside, or goal with lower below 1"; document 02, (v): "a low and a high goal, both 0 or both set, low at most high", and "A pair that
+-- breaks the rule is refused as 5 is now."
+abbrev pub goalInside : ℤ → Bool
+goalInside goal = inRange (pos 0) (pos maxGoal) goal
 
-abbrev pub goalsFit : List ℤ → List ℤ → Bool
-goalsFit lower goals = every (length lower) (λ j. goalFits (entry j lower) (entry j goals))
+abbrev pub bothOrNone : ℤ → ℤ → Bool
+bothOrNone low high = cond (isZero low) (isZero high) (not (isZero high))
+
+abbrev pub goalFits : ℤ → ℤ → ℤ → Bool
+goalFits lower low high =
+    goalInside low && (goalInside high && (bothOrNone low high && (leZ low high && (isZero low || leZ (pos 1) lower))))
+
+abbrev pub goalsFit : List ℤ → List ℤ → List ℤ → Bool
+goalsFit lower low high = every (length lower) (λ j. goalFits (entry j lower) (entry j low) (entry j high))
 
 -- 6: "step limit outside"
 abbrev pub limitFits : Problem → Bool
@@ -98,10 +109,10 @@ firstCause P L =
     let p : Problem = P .problem in
     orNext (sizesFit maxColumns maxRows p) Size
     (orNext (rowLengthsFit p (P .coefficients) (P .rights)) Length
-    (orNext (columnLengthsFit p (P .lower) (P .upper) (P .goals)) Length
+    (orNext (columnLengthsFit p (P .lower) (P .upper) (P .low) (P .high)) Length
     (orNext (idealLengthsFit p (P .given) (P .ideals)) Length
     (orNext (lentFit p L) Length
     (orNext (rowsFit (P .coefficients) (P .rights)) Coefficient
     (orNext (boundsFit (P .lower) (P .upper)) Bound
-    (orNext (goalsFit (P .lower) (P .goals)) Goal
+    (orNext (goalsFit (P .lower) (P .low) (P .high)) Goal
     (orNext (limitFits p) Limit Passed))))))))

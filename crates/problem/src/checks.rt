@@ -4,7 +4,7 @@ ghost use lib.ListN.{length};
 ghost use Rattle.whole.specs.Tests as Tests;
 ghost use Rattle.problem.specs.Limits.{maxColumns, maxRows};
 ghost use Rattle.problem.specs.Checks.{allSpan, sizesFit, rowLengthsFit, columnLengthsFit, idealLengthsFit, lentFit, rowsFit};
-ghost use Rattle.problem.specs.Checks.{boundFits, boundsFit, goalFits, goalsFit, firstCause};
+ghost use Rattle.problem.specs.Checks.{boundFits, boundsFit, goalInside, bothOrNone, goalFits, goalsFit, firstCause};
 use crate::Check;
 use crate::Lent;
 use crate::Problem;
@@ -37,8 +37,14 @@ pub(crate) fn row_lengths_fit(p: Problem, coefficients: &[i64], rights: &[i64]) 
 }
 
 // Cause 2 of the columns' lists.
-pub(crate) fn column_lengths_fit(p: Problem, lower: &[i64], upper: &[i64], goals: &[i64]) -> bool
-    ensures { λ r. ⌜ r ≡ columnLengthsFit p (now (lower .entry)) (now (upper .entry)) (now (goals .entry)) ⌝ }
+pub(crate) fn column_lengths_fit(
+    p: Problem,
+    lower: &[i64],
+    upper: &[i64],
+    low: &[i64],
+    high: &[i64],
+) -> bool
+    ensures { λ r. ⌜ r ≡ columnLengthsFit p (now (lower .entry)) (now (upper .entry)) (now (low .entry)) (now (high .entry)) ⌝ }
 {
     if lower.len() != p.columns {
         return false;
@@ -46,7 +52,10 @@ pub(crate) fn column_lengths_fit(p: Problem, lower: &[i64], upper: &[i64], goals
     if upper.len() != p.columns {
         return false;
     }
-    goals.len() == p.columns
+    if low.len() != p.columns {
+        return false;
+    }
+    high.len() == p.columns
 }
 
 // Cause 2 of the ideals' lists: whether there is one, and the number.
@@ -132,31 +141,57 @@ pub(crate) fn bounds_fit(lower: &[i64], upper: &[i64]) -> bool
     true
 }
 
-// Cause 5 at one column. A goal of 0 is no goal, and asks nothing of the lower bound.
-pub(crate) fn goal_fits(lower: i64, goal: i64) -> bool
-    ensures { λ r. ⌜ r ≡ goalFits lower goal ⌝ }
+// Whether a goal lies in 0 to the highest.
+fn goal_inside(goal: i64) -> bool
+    ensures { λ r. ⌜ r ≡ goalInside goal ⌝ }
 {
     if less(goal, 0) {
         return false;
     }
-    let size = magnitude(goal);
-    if Problem::MAX_GOAL < size {
+    magnitude(goal) <= Problem::MAX_GOAL
+}
+
+// Whether a low and a high goal are both 0 or both set.
+fn both_or_none(low: i64, high: i64) -> bool
+    ensures { λ r. ⌜ r ≡ bothOrNone low high ⌝ }
+{
+    let top = magnitude(high);
+    if magnitude(low) == 0 {
+        return top == 0;
+    }
+    top != 0
+}
+
+// Cause 5 at one column. Goals of 0 are no goals, and ask nothing of the lower bound.
+pub(crate) fn goal_fits(lower: i64, low: i64, high: i64) -> bool
+    ensures { λ r. ⌜ r ≡ goalFits lower low high ⌝ }
+{
+    if !goal_inside(low) {
         return false;
     }
-    if size == 0 {
+    if !goal_inside(high) {
+        return false;
+    }
+    if !both_or_none(low, high) {
+        return false;
+    }
+    if less(high, low) {
+        return false;
+    }
+    if magnitude(low) == 0 {
         return true;
     }
     !less(lower, 1)
 }
 
 // Cause 5. The lengths come first here too.
-pub(crate) fn goals_fit(lower: &[i64], goals: &[i64]) -> bool
-    requires { ⌜ length (now goals) ≡ length (now lower) ⌝ }
-    ensures { λ r. ⌜ r ≡ goalsFit (now (lower .entry)) (now (goals .entry)) ⌝ }
+pub(crate) fn goals_fit(lower: &[i64], low: &[i64], high: &[i64]) -> bool
+    requires { ⌜ (length (now low) ≡ length (now lower)) × (length (now high) ≡ length (now lower)) ⌝ }
+    ensures { λ r. ⌜ r ≡ goalsFit (now (lower .entry)) (now (low .entry)) (now (high .entry)) ⌝ }
 {
     let mut j = 0;
     while j < lower.len() {
-        if !goal_fits(lower[j], goals[j]) {
+        if !goal_fits(lower[j], low[j], high[j]) {
             return false;
         }
         j += 1;
@@ -171,7 +206,8 @@ pub fn first_cause(
     rights: &[i64],
     lower: &[i64],
     upper: &[i64],
-    goals: &[i64],
+    low: &[i64],
+    high: &[i64],
     given: &[i64],
     ideals: &[i64],
     lent: Lent,
@@ -182,7 +218,8 @@ pub fn first_cause(
       rights = now (rights .entry);
       lower = now (lower .entry);
       upper = now (upper .entry);
-      goals = now (goals .entry);
+      low = now (low .entry);
+      high = now (high .entry);
       given = now (given .entry);
       ideals = now (ideals .entry);
     }) lent ⌝ }
@@ -193,7 +230,7 @@ pub fn first_cause(
     if !row_lengths_fit(p, coefficients, rights) {
         return Check::Failed(Refusal::Length);
     }
-    if !column_lengths_fit(p, lower, upper, goals) {
+    if !column_lengths_fit(p, lower, upper, low, high) {
         return Check::Failed(Refusal::Length);
     }
     if !ideal_lengths_fit(p, given, ideals) {
@@ -208,7 +245,7 @@ pub fn first_cause(
     if !bounds_fit(lower, upper) {
         return Check::Failed(Refusal::Bound);
     }
-    if !goals_fit(lower, goals) {
+    if !goals_fit(lower, low, high) {
         return Check::Failed(Refusal::Goal);
     }
     if Problem::MAX_STEPS < p.limit {

@@ -10,7 +10,14 @@ returns-2 : tie.Need-returns-2
 returns-2 c = rw (eq-eqb _ _ (c .before .before .if1 .left), ne-eqb _ _ (c .if2 .taken))
 
 returns-3 : tie.Need-returns-3
-returns-3 c = rw (eq-eqb _ _ (c .before .before .before .if1 .left), eq-eqb _ _ (c .before .if2 .left))
+returns-3 c =
+    let upper-fits = c .before .before in
+    rw (eq-eqb _ _ (upper-fits .before .before .if1 .left), eq-eqb _ _ (upper-fits .if2 .left), ne-eqb _ _ (c .if3 .taken))
+
+returns-4 : tie.Need-returns-4
+returns-4 c =
+    let upper-fits = c .before .before .before in
+    rw (eq-eqb _ _ (upper-fits .before .before .if1 .left), eq-eqb _ _ (upper-fits .if2 .left), eq-eqb _ _ (c .before .if3 .left))
 
 pub column-lengths-fit-spec : {M : Type 1} → statement M
-column-lengths-fit-spec = tie.close (tie.spec returns returns-2 returns-3)
+column-lengths-fit-spec = tie.close (tie.spec returns returns-2 returns-3 returns-4)

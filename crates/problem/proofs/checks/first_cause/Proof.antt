@@ -21,7 +21,7 @@ module _ (s : tie.Start) where
   after-goals = orNext (limitFits (s .args .p)) Limit Passed
 
   abbrev after-bounds : Check
-  after-bounds = orNext (goalsFit (s .args .lower .now) (s .args .goals .now)) Goal after-goals
+  after-bounds = orNext (goalsFit (s .args .lower .now) (s .args .low .now) (s .args .high .now)) Goal after-goals
 
   abbrev after-numbers : Check
   after-numbers = orNext (boundsFit (s .args .lower .now) (s .args .upper .now)) Bound after-bounds
@@ -36,7 +36,7 @@ module _ (s : tie.Start) where
   after-columns = orNext (idealLengthsFit (s .args .p) (s .args .given .now) (s .args .ideals .now)) Length after-ideals
 
   abbrev after-rows : Check
-  after-rows = orNext (columnLengthsFit (s .args .p) (s .args .lower .now) (s .args .upper .now) (s .args .goals .now)) Length after-columns
+  after-rows = orNext (columnLengthsFit (s .args .p) (s .args .lower .now) (s .args .upper .now) (s .args .low .now) (s .args .high .now)) Length after-columns
 
   abbrev after-sizes : Check
   after-sizes = orNext (rowLengthsFit (s .args .p) (s .args .coefficients .now) (s .args .rights .now)) Length after-rows
@@ -50,7 +50,8 @@ Leaves s rest =
       rights = s .args .rights .now;
       lower = s .args .lower .now;
       upper = s .args .upper .now;
-      goals = s .args .goals .now;
+      low = s .args .low .now;
+      high = s .args .high .now;
       given = s .args .given .now;
       ideals = s .args .ideals .now;
     }
@@ -88,14 +89,15 @@ sizes-hold c = passed (c .before .sizes-fit .ensures) (c .if1 .left)
 lengths-hold :
     (c : tie.Else3) →
     let a = from-columns c .args in
-    columnLengthsFit (a .p) (a .lower .now) (a .upper .now) (a .goals .now) ≡ true
+    columnLengthsFit (a .p) (a .lower .now) (a .upper .now) (a .low .now) (a .high .now) ≡ true
 lengths-hold c = passed (c .before .column-lengths-fit .ensures) (c .if3 .left)
 
 alike :
     (c : tie.Else3) →
     let a = from-columns c .args in
-    (length (a .upper .now) ≡ length (a .lower .now)) × (length (a .goals .now) ≡ length (a .lower .now))
-alike c = let a = from-columns c .args in same-lengths (a .p) (a .lower .now) (a .upper .now) (a .goals .now) (lengths-hold c)
+    (length (a .upper .now) ≡ length (a .lower .now))
+    × (length (a .low .now) ≡ length (a .lower .now)) × (length (a .high .now) ≡ length (a .lower .now))
+alike c = let a = from-columns c .args in same-lengths (a .p) (a .lower .now) (a .upper .now) (a .low .now) (a .high .now) (lengths-hold c)
 
 sizes : (c : tie.Else1) → Leaves (from-sizes c) after-sizes
 unfolding firstCause
@@ -168,7 +170,8 @@ returns-7 c = sym (numbers (c .before .before) ∙ rw (failed (c .before .bounds
 goals-fit-requires : tie.Need-goals-fit-requires
 goals-fit-requires c κs =
     let lent-fit = c .before .before .before .before in
-    alike (lent-fit .before .before .before .before) .1
+    let long = alike (lent-fit .before .before .before .before) in
+    (long .1, long .2)
 
 returns-8 : tie.Need-returns-8
 returns-8 c = sym (bounds (c .before .before) ∙ rw (failed (c .before .goals-fit .ensures) (c .if8 .taken)))

@@ -1,5 +1,5 @@
--- `problem::checks::goals_fit` meets its contract: the loop leaves at the first column whose goal does not fit. Assumes nothing.
-use mathlib.Core.Path.{_≡_, sym}
+-- `problem::checks::goals_fit` meets its contract: the loop leaves at the first column whose goals do not fit. Assumes nothing.
+use mathlib.Core.Path.{_≡_, sym, _∙_}
 use mathlib.Core.Bool.{Bool}
 use mathlib.Core.List.{List}
 use Prim.Native.Nat.{ℕ, _-_}
@@ -10,32 +10,42 @@ use lib.ListN.{length}
 use Rattle.whole.specs.Lists.{entry}
 use Rattle.whole.proofs.Counted.{SoFar, starts, goes-on, ends, fails}
 use Rattle.problem.specs.Checks.{goalFits}
+use Rattle.whole.proofs.Signed.{back}
 use Rattle.whole.proofs.Tests.{passed, failed}
-use Rattle.problem.proofs.CheckLaws.{tested-at}
 use Rattle.problem.proofs.checks.goals_fit.Statement.{statement}
 use Rattle.problem.proofs.checks.goals_fit.Tie as tie
 
-abbrev test : List ℤ → List ℤ → ℕ → Bool
-test lower goals j = goalFits (entry j lower) (entry j goals)
+abbrev test : List ℤ → List ℤ → List ℤ → ℕ → Bool
+test lower low high j = goalFits (entry j lower) (entry j low) (entry j high)
 
 abbrev Inv-loop : tie.InvT-loop
-Inv-loop lower goals j₀ j = SoFar (length lower) (test lower goals) j
+Inv-loop lower low high j₀ j = SoFar (length lower) (test lower low high) j
 
 abbrev μ-loop : tie.MeasureT-loop
-μ-loop lower goals j₀ j = length lower - j
+μ-loop lower low high j₀ j = length lower - j
 
 -- what the call answers at the column that the loop has come to
 module _ (c : tie.After-goal-fits Inv-loop μ-loop) where
   abbrev entered : tie.In-loop Inv-loop μ-loop
-  entered = c .before .before .before
+  entered = c .before .before .before .before
 
   abbrev loop : tie.At-loop Inv-loop μ-loop
   loop = entered .before
 
-  tested : c .goal-fits .result ≡ test (loop .before .args .lower .now) (loop .before .args .goals .now) (loop .loop .j)
+  abbrev lower : ℤ
+  lower = entry (loop .loop .j) (loop .before .args .lower .now)
+
+  abbrev low : ℤ
+  low = entry (loop .loop .j) (loop .before .args .low .now)
+
+  abbrev high : ℤ
+  high = entry (loop .loop .j) (loop .before .args .high .now)
+
+  tested : c .goal-fits .result ≡ goalFits lower low high
   tested =
-      tested-at goalFits (loop .before .args .lower .now) (loop .before .args .goals .now) (loop .loop .j)
-      (c .before .before .goal-fits-arg .given) (c .before .goal-fits-arg2 .given) (c .goal-fits .ensures)
+      c .goal-fits .ensures
+      ∙ (λ i. goalFits (back lower (c .before .before .before .goal-fits-arg .given) i) (back low (c .before .before .goal-fits-arg2 .given) i)
+      (back high (c .before .goal-fits-arg3 .given) i))
 
 loop-holds : tie.Need-loop-holds Inv-loop μ-loop
 loop-holds c = starts _ _
@@ -51,6 +61,12 @@ mul-goal-fits-2 c = omega arith
 
 shared-slice-copy-out-goal-fits-2 : tie.Need-shared-slice-copy-out-goal-fits-2 Inv-loop μ-loop
 shared-slice-copy-out-goal-fits-2 c = omega arith
+
+mul-goal-fits-3 : tie.Need-mul-goal-fits-3 Inv-loop μ-loop
+mul-goal-fits-3 c = omega arith
+
+shared-slice-copy-out-goal-fits-3 : tie.Need-shared-slice-copy-out-goal-fits-3 Inv-loop μ-loop
+shared-slice-copy-out-goal-fits-3 c = omega arith
 
 goal-fits-requires : tie.Need-goal-fits-requires Inv-loop μ-loop
 goal-fits-requires c κs = search needs
@@ -83,6 +99,8 @@ goals-fit-spec =
     shared-slice-copy-out-goal-fits
     mul-goal-fits-2
     shared-slice-copy-out-goal-fits-2
+    mul-goal-fits-3
+    shared-slice-copy-out-goal-fits-3
     goal-fits-requires
     returns
     add-j
