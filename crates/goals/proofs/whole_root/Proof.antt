@@ -1,0 +1,56 @@
+-- `goals::whole_root` meets its contract. With b bits to come k is below 2^20 by 2 ^ b, and the definition goes on from k to the root of p.
+-- Assumes nothing.
+use mathlib.Core.Path.{_≡_, sym, _∙_}
+use Prim.Native.Nat.{ℕ, _+_, _-_, _^_, _≤_, _<_}
+use native.Mathlib.Omega.{arith}
+use Rattle.goals.specs.Ideals.{raised, rootBits, wholeRoot}
+use Rattle.goals.proofs.Bits.{bits-start, bits-step, bits-end, bits-trial, bits-room}
+use Rattle.goals.proofs.whole_root.Statement.{statement}
+use Rattle.goals.proofs.whole_root.Tie as tie
+
+record Inv (p k b : ℕ) : Type 0 where
+  few : b ≤ 20
+  room : k + 2 ^ b ≤ 2 ^ 20
+  same : rootBits b p k ≡ wholeRoot p
+
+abbrev Inv-loop : tie.InvT-loop
+Inv-loop p k₀ b₀ k b = Inv p k b
+
+abbrev μ-loop : tie.MeasureT-loop
+μ-loop p k₀ b₀ k b = b
+
+again : (p k b r : ℕ) → Inv p k b → 0 < b → r ≡ raised p k (k + 2 ^ (b - 1)) → Inv p r (b - 1)
+again p k b r i h e = record {
+  few = omega (arith, i .few);
+  room = rw e (bits-room b p k h (i .room));
+  same = rw e (bits-step b p k h ∙ i .same);
+}
+
+loop-holds : tie.Need-loop-holds Inv-loop μ-loop
+loop-holds c = record { few = omega arith; room = omega arith; same = bits-start (c .args .p) }
+
+sub-b : tie.Need-sub-b Inv-loop μ-loop
+sub-b c = c .loop-test .taken
+
+with-bit-requires : tie.Need-with-bit-requires Inv-loop μ-loop
+with-bit-requires c κs =
+    let l = c .before .loop in
+    (omega (arith, l .inv .few), bits-trial (l .b) (l .k) (c .loop-test .taken) (l .inv .room))
+
+loop-less : tie.Need-loop-less Inv-loop μ-loop
+loop-less c = omega (arith, c .before .loop-test .taken)
+
+loop-again : tie.Need-loop-again Inv-loop μ-loop
+loop-again c =
+    let l = c .before .before in
+    again (l .before .args .p) (l .loop .k) (l .loop .b) (c .with-bit .result) (l .loop .inv) (c .before .loop-test .taken) (c .with-bit .ensures)
+
+returns : tie.Need-returns Inv-loop μ-loop
+returns c =
+    let l = c .before in
+    sym (bits-end (l .before .args .p) (l .loop .b) (l .loop .k) (c .loop-test .left)) ∙ l .loop .inv .same
+
+pub whole-root-spec : {M : Type 1} → statement M
+whole-root-spec =
+    tie.close
+    (tie.spec Inv-loop μ-loop loop-holds sub-b with-bit-requires loop-less loop-again returns)
