@@ -127,18 +127,18 @@ packed-at f (suc k) s zero i h e = column-first (f s) (packedFrom f k (suc s)) �
 packed-at f (suc k) s (suc j) i h e = column-behind (f s) (packedFrom f k (suc s)) j ∙ packed-at f k (suc s) j i (omega (arith, h)) (omega (arith, e))
 
 -- past the table all numbers are 0
-past : (t : List ℤ) (j : ℕ) → length t ≤ width * j → columnAt t j ≡ columnOf (pos 0) (pos 0) (pos 0) Unset
+past : (t : List ℤ) (j : ℕ) → length t ≤ width * j → columnAt t j ≡ columnOf (pos 0) (pos 0) (pos 0) (pos 0) Unset
 past t j h = (λ i. of (none 0 i) (none 1 i) (none 2 i) (none 3 i) (wishOf (none 4 i) (none 5 i)))
   where
     none : (k : ℕ) → entry (width * j + k) t ≡ pos 0
     none k = List·getD-eq-default t (pos 0) {n = width * j + k} (omega (arith, h))
 
-pub packed-columns : (n : ℕ) (lo hi gs ms xs : List ℤ) → length lo ≡ n → length hi ≡ n → length gs ≡ n → length ms ≡ n → length xs ≡ n
-    → columnsIn n (packed (listed n lo hi gs ms xs)) ≡ listed n lo hi gs ms xs
-packed-columns n lo hi gs ms xs a b d p q = (λ i. record { count = n; column = λ j. at j i })
+pub packed-columns : (n : ℕ) (lo hi gs hs ms xs : List ℤ) → length lo ≡ n → length hi ≡ n → length gs ≡ n → length hs ≡ n → length ms ≡ n
+    → length xs ≡ n → columnsIn n (packed (listed n lo hi gs hs ms xs)) ≡ listed n lo hi gs hs ms xs
+packed-columns n lo hi gs hs ms xs a b d g p q = (λ i. record { count = n; column = λ j. at j i })
   where
     f : ℕ → Column
-    f j = columnOf (entry j lo) (entry j hi) (entry j gs) (wishOf (entry j ms) (entry j xs))
+    f j = columnOf (entry j lo) (entry j hi) (entry j gs) (entry j hs) (wishOf (entry j ms) (entry j xs))
 
     none : (l : List ℤ) (j : ℕ) → length l ≡ n → n ≤ j → entry j l ≡ pos 0
     none l j e h = List·getD-eq-default l (pos 0) {n = j} (omega (arith, e, h))
@@ -147,5 +147,5 @@ packed-columns n lo hi gs ms xs a b d p q = (λ i. record { count = n; column = 
     at j =
         ⊎-elim (λ h. packed-at f n 0 j j h (omega arith))
         (λ h. past (packedFrom f n 0) j (omega (arith, packed-length f n 0, h))
-        ∙ sym (λ i. columnOf (none lo j a h i) (none hi j b h i) (none gs j d h i) (wishOf (none ms j p h i) (none xs j q h i))))
+        ∙ sym (λ i. columnOf (none lo j a h i) (none hi j b h i) (none gs j d h i) (none hs j g h i) (wishOf (none ms j p h i) (none xs j q h i))))
         (lt-or-ge j n)

@@ -1,11 +1,12 @@
 -- The columns of a problem as seating and settling see them, and the table in which they are lent.
---   Column             what a problem says of one column: its bounds, its low and its high goal, and its wish. Document 01's one goal, "0 (no goal)",
---                      is both goals
+--   Column             what a problem says of one column, "Each column's record now holds a low and a high goal" (document 02, (v)): its bounds,
+--                      its goals, both 0 for none, and its wish
 --   Columns            their count n, and each of them; a list of values has n numbers
 --   Cell               a column's bounds and goals, and its value (declared in src/)
 --   valued c x         a column with the value x; cell C v j, column j with its value in the list v
---   columnOf lo hi g w the column with the bounds lo and hi and the one goal g, where the wish w is handed in
---   listed n lo ..     the n columns of a list of lower bounds, one of upper bounds, one of goals, and of ideals one of marks and one of numbers
+--   columnOf lo hi a b w   the column with the bounds lo and hi and the goals a and b, where the wish w is handed in
+--   listed n lo ..     the n columns of a list of lower bounds, one of upper bounds, one of low and one of high goals, and of ideals one of marks
+--                      and one of numbers
 --   width              how many numbers the record of a column has in a table: lower bound, upper bound, low goal, high goal, whether a wish is set,
 --                      wish
 --   columnAt t j       the column whose record is the j-th of the table t
@@ -39,12 +40,14 @@ abbrev pub cell : Columns → List ℤ → ℕ → Cell
 cell C v j = valued (C .column j) (entry j v)
 
 -- ---- of a problem's lists
-abbrev pub columnOf : ℤ → ℤ → ℤ → Wish → Column
-columnOf lo hi g w = record { lower = lo; upper = hi; low = g; high = g; wish = columnWish g w }
+abbrev pub columnOf : ℤ → ℤ → ℤ → ℤ → Wish → Column
+columnOf lo hi a b w = record { lower = lo; upper = hi; low = a; high = b; wish = columnWish a b w }
 
-abbrev pub listed : ℕ → List ℤ → List ℤ → List ℤ → List ℤ → List ℤ → Columns
-listed n lo hi gs ms xs =
-    record { count = n; column = λ j. columnOf (entry j lo) (entry j hi) (entry j gs) (wishOf (entry j ms) (entry j xs)) }
+abbrev pub listed : ℕ → List ℤ → List ℤ → List ℤ → List ℤ → List ℤ → List ℤ → Columns
+listed n lo hi gs hs ms xs = record {
+  count = n;
+  column = λ j. columnOf (entry j lo) (entry j hi) (entry j gs) (entry j hs) (wishOf (entry j ms) (entry j xs));
+}
 
 -- ---- in a table
 abbrev pub width : ℕ

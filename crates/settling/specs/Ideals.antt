@@ -1,40 +1,24 @@
 -- Document 01, "Seating": the ideal of a column, document 01's own term for the number that seating pulls it to.
---   goalIdeal g         "k is floor(g/1000); take 1 if k = 0, k + 1 if k(k + 1) × 1,000,000 < g × g, else k"; idealFrom g k, so
 --   into lo hi x        x brought into the bounds lo to hi
 --   Wish                what a column is to come to: a number, or nothing set (declared in src/)
---   goalWish g          the wish of a goal; nothing for 0, no goal; wishFrom of its magnitude
 --   wishOf given x      the wish that two numbers stand for, a mark and a number: "unset" is the mark 0, and not a number
 --   wishMark, wishNumber   the two numbers of a wish
---   columnWish g w      the wish of a column with the goal g, where w is handed in
+--   columnWish low high w   the wish of a column with these goals, where w is handed in: without a goal w, and else what they ask for, document 02,
+--                       (v); that is `goalIdeal`, of the room goals
 --   wished w x          the wish, or the present value x where none is set
 --   ideal lo hi w x     the wish brought into the bounds; "Without a goal it is the present value brought into the bounds"
 -- Seating takes wishes and not goals: document 02, (ii), hands them in for columns without a goal.
 -- Assumes nothing.
 use mathlib.Core.Bool.{cond}
-use Prim.Native.Nat.{ℕ, zero, suc, _+_, _*_, _/_}
-use lib.Dec.{ltb}
 use lib.IntN.{ℤ, pos, natAbs}
 use lib.Signed.{ltZ}
 use Rattle.whole.specs.Tests.{isZero}
+use Rattle.goals.specs.Ideals.{goalIdeal}
 use Rattle.settling.specs.declared.Wish.{Wish}
 use Rattle.settling.specs.declared.Wish.the-variants.{Unset, Set}
 
-abbrev pub idealFrom : ℕ → ℕ → ℕ
-idealFrom g zero = 1
-idealFrom g (suc k) = cond (ltb (suc k * (suc k + 1) * 1000000) (g * g)) (suc k + 1) (suc k)
-
-unfoldable pub goalIdeal : ℕ → ℕ
-goalIdeal g = idealFrom g (g / 1000)
-
 abbrev pub into : ℤ → ℤ → ℤ → ℤ
 into lo hi x = cond (ltZ x lo) lo (cond (ltZ hi x) hi x)
-
-abbrev pub wishFrom : ℕ → Wish
-wishFrom zero = Unset
-wishFrom (suc g) = Set (pos (goalIdeal (suc g)))
-
-abbrev pub goalWish : ℤ → Wish
-goalWish g = wishFrom (natAbs g)
 
 -- ---- document 02, (ii): "Any number may be handed in as an ideal"
 abbrev pub wishOf : ℤ → ℤ → Wish
@@ -49,9 +33,9 @@ abbrev pub wishNumber : Wish → ℤ
 wishNumber Unset = pos 0
 wishNumber (Set x) = x
 
--- "it is used only without a goal"
-abbrev pub columnWish : ℤ → Wish → Wish
-columnWish g w = cond (isZero g) w (goalWish g)
+-- "it is used only without a goal"; a column has both goals or none
+abbrev pub columnWish : ℤ → ℤ → Wish → Wish
+columnWish low high w = cond (isZero low) w (Set (pos (goalIdeal (natAbs low) (natAbs high))))
 
 -- ---- the ideal: "and brought into the bounds"; "unset, document 01's rule holds"
 abbrev pub wished : Wish → ℤ → ℤ

@@ -4,8 +4,7 @@
 --   below p q            p is the smaller one, "compared exactly by cross products"; larger p q, the other one
 --   Cell                 a column's bounds and goals, and its value (declared in src/)
 --   distance c           "how far it lies outside its bounds"
---   ratio low high v     "for goal g and value v of 1 or more, is the larger of 1000v/g and g/1000v"; here the first is over a low goal and the
---                        second of a high one, which are both g
+--   ratio low high v     document 02, (v): "The ratio is the larger of 1000v/low and high/1000v."
 --   Part                 the bounds part and the goals part (declared in src/)
 --   measure part c       the distance in the bounds part, the ratio in the goals part
 -- Assumes nothing.

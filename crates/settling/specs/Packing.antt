@@ -19,10 +19,12 @@ putWish at w t = set (set t (at + 4) (wishMark w)) (at + 5) (wishNumber w)
 abbrev pub put : ℕ → Column → List ℤ → List ℤ
 put at c t = putWish at (c .wish) (set (set (set (set t (at + 0) (c .lower)) (at + 1) (c .upper)) (at + 2) (c .low)) (at + 3) (c .high))
 
-pub record Packable (t lo hi gs ms xs : List ℤ) : Type 0 where
+pub record Packable (t lo hi gs hs ms xs : List ℤ) : Type 0 where
   pub room : length t ≡ width * length lo
   pub upper-long : length hi ≡ length lo
-  pub goals-long : length gs ≡ length lo
+  pub low-long : length gs ≡ length lo
+  pub high-long : length hs ≡ length lo
   pub given-long : length ms ≡ length lo
   pub ideals-long : length xs ≡ length lo
-  pub goals-small : (j : ℕ) → natAbs (entry j gs) ≤ maxGoal
+  pub low-small : (j : ℕ) → natAbs (entry j gs) ≤ maxGoal
+  pub high-small : (j : ℕ) → natAbs (entry j hs) ≤ maxGoal

@@ -64,16 +64,24 @@ fn put_wish(columns: &mut [i64], at: usize, wish: Wish)
     columns[at + WISH] = wish_number(wish);
 }
 
-// Writes the record of a column at a place, with one goal and the wish that is handed in.
-fn put_column(columns: &mut [i64], at: usize, lower: i64, upper: i64, goal: i64, handed: Wish)
-    requires { ⌜ (at + width ≤ length (now columns)) × (natAbs goal ≤ maxGoal) ⌝ }
-    ensures { λ _. ⌜ now (columns .exit) ≡ put at (columnOf lower upper goal handed) (now (columns .entry)) ⌝ }
+// Writes the record of a column at a place, with its goals and the wish that is handed in.
+fn put_column(
+    columns: &mut [i64],
+    at: usize,
+    lower: i64,
+    upper: i64,
+    low: i64,
+    high: i64,
+    handed: Wish,
+)
+    requires { ⌜ (at + width ≤ length (now columns)) × (natAbs low ≤ maxGoal) × (natAbs high ≤ maxGoal) ⌝ }
+    ensures { λ _. ⌜ now (columns .exit) ≡ put at (columnOf lower upper low high handed) (now (columns .entry)) ⌝ }
 {
     columns[at + LOWER] = lower;
     columns[at + UPPER] = upper;
-    columns[at + LOW] = goal;
-    columns[at + HIGH] = goal;
-    put_wish(columns, at, column_wish(goal, handed));
+    columns[at + LOW] = low;
+    columns[at + HIGH] = high;
+    put_wish(columns, at, column_wish(low, high, handed));
 }
 
 // Packs the columns of a problem's lists into a table.
@@ -81,19 +89,28 @@ pub fn pack(
     columns: &mut [i64],
     lower: &[i64],
     upper: &[i64],
-    goals: &[i64],
+    low: &[i64],
+    high: &[i64],
     given: &[i64],
     ideals: &[i64],
 )
-    requires { ⌜ Packable (now columns) (now lower) (now upper) (now goals) (now given) (now ideals) ⌝ }
+    requires { ⌜ Packable (now columns) (now lower) (now upper) (now low) (now high) (now given) (now ideals) ⌝ }
     ensures { λ _. ⌜ now (columns .exit)
-        ≡ packed (listed (length (now (lower .entry))) (now (lower .entry)) (now (upper .entry)) (now (goals .entry))
+        ≡ packed (listed (length (now (lower .entry))) (now (lower .entry)) (now (upper .entry)) (now (low .entry)) (now (high .entry))
         (now (given .entry)) (now (ideals .entry))) ⌝ }
 {
     let mut j = 0;
     while j < lower.len() {
         let handed = wish_of(given[j], ideals[j]);
-        put_column(columns, WIDTH * j, lower[j], upper[j], goals[j], handed);
+        put_column(
+            columns,
+            WIDTH * j,
+            lower[j],
+            upper[j],
+            low[j],
+            high[j],
+            handed,
+        );
         j += 1;
     }
 }

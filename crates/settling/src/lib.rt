@@ -2,10 +2,10 @@ ghost use mathlib.Core.Path.{_≡_};
 ghost use Prim.Native.Nat.{_≤_};
 ghost use lib.IntN.{natAbs};
 ghost use Rattle.problem.specs.Limits.{maxGoal};
-ghost use Rattle.settling.specs.Ideals.{goalIdeal, goalWish, wishOf, wishMark, wishNumber, columnWish, into};
+ghost use Rattle.settling.specs.Ideals.{wishOf, wishMark, wishNumber, columnWish, into};
 ghost use Rattle.settling.specs.Ideals as Ideals;
+use goals::goal_ideal;
 use measures::is_zero;
-use whole::magnitude;
 
 pub mod columns;
 pub mod measures;
@@ -67,35 +67,6 @@ pub struct Turn {
     pub step: Step,
 }
 
-// The ideal count of intervals for a goal in thousandths of one. The limit on goals keeps both products below 2^60.
-pub fn goal_ideal(g: u64) -> u64
-    requires { ⌜ g ≤ maxGoal ⌝ }
-    ensures { λ r. ⌜ r ≡ goalIdeal g ⌝ }
-{
-    let k = g / 1000;
-    if k == 0 {
-        return 1;
-    }
-    if k * (k + 1) * 1000000 < g * g {
-        k + 1
-    } else {
-        k
-    }
-}
-
-// The wish of a goal: nothing for 0, no goal.
-pub fn goal_wish(g: i64) -> Wish
-    requires { ⌜ natAbs g ≤ maxGoal ⌝ }
-    ensures { λ r. ⌜ r ≡ goalWish g ⌝ }
-{
-    let size = magnitude(g);
-    if size == 0 {
-        Wish::Unset
-    } else {
-        Wish::Set(goal_ideal(size) as i64)
-    }
-}
-
 // The wish that a mark and a number stand for: nothing for the mark 0.
 pub fn wish_of(given: i64, x: i64) -> Wish
     ensures { λ r. ⌜ r ≡ wishOf given x ⌝ }
@@ -126,15 +97,15 @@ pub fn wish_number(wish: Wish) -> i64
     }
 }
 
-// The wish of a column: its goal's, and without a goal the one that is handed in.
-pub(crate) fn column_wish(g: i64, handed: Wish) -> Wish
-    requires { ⌜ natAbs g ≤ maxGoal ⌝ }
-    ensures { λ r. ⌜ r ≡ columnWish g handed ⌝ }
+// The wish of a column: what its goals ask for, and without a goal the one that is handed in.
+pub(crate) fn column_wish(low: i64, high: i64, handed: Wish) -> Wish
+    requires { ⌜ (natAbs low ≤ maxGoal) × (natAbs high ≤ maxGoal) ⌝ }
+    ensures { λ r. ⌜ r ≡ columnWish low high handed ⌝ }
 {
-    if is_zero(g) {
+    if is_zero(low) {
         return handed;
     }
-    goal_wish(g)
+    Wish::Set(goal_ideal(low, high))
 }
 
 // x brought into the bounds.

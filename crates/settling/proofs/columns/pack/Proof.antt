@@ -26,18 +26,18 @@ all g j n t h e =
     ∙ ap (λ (l : List ℤ). packedFrom g n 0 ++ l) (drop-of-length-le t {i = width * n} (omega (arith, h))) ∙ append-nil (packedFrom g n 0)
 
 abbrev Inv-loop : tie.InvT-loop
-Inv-loop columns₀ lower upper goals given ideals j₀ columns j =
-    (columns ≡ packedFrom (listed (length lower) lower upper goals given ideals .column) j 0 ++ drop (width * j) columns₀) × (j ≤ length lower)
+Inv-loop columns₀ lower upper low high given ideals j₀ columns j =
+    (columns ≡ packedFrom (listed (length lower) lower upper low high given ideals .column) j 0 ++ drop (width * j) columns₀) × (j ≤ length lower)
 
 abbrev μ-loop : tie.MeasureT-loop
-μ-loop columns₀ lower upper goals given ideals j₀ columns j = length lower - j
+μ-loop columns₀ lower upper low high given ideals j₀ columns j = length lower - j
 
 -- what the loop starts from, and the columns of the lists that are lent
 abbrev from : tie.In-loop Inv-loop μ-loop → tie.Start Inv-loop μ-loop
 from c = c .before .before
 
 abbrev f : tie.Start Inv-loop μ-loop → ℕ → Column
-f s = listed (length (s .args .lower .now)) (s .args .lower .now) (s .args .upper .now) (s .args .goals .now) (s .args .given .now)
+f s = listed (length (s .args .lower .now)) (s .args .lower .now) (s .args .upper .now) (s .args .low .now) (s .args .high .now) (s .args .given .now)
     (s .args .ideals .now) .column
 
 -- the turn that a call of put_column stands in
@@ -97,9 +97,15 @@ mul-put-column-4 c = search needs
 shared-slice-copy-out-put-column-3 : tie.Need-shared-slice-copy-out-put-column-3 Inv-loop μ-loop
 shared-slice-copy-out-put-column-3 c = search needs
 
+mul-put-column-5 : tie.Need-mul-put-column-5 Inv-loop μ-loop
+mul-put-column-5 c = search needs
+
+shared-slice-copy-out-put-column-4 : tie.Need-shared-slice-copy-out-put-column-4 Inv-loop μ-loop
+shared-slice-copy-out-put-column-4 c = search needs
+
 put-column-requires : tie.Need-put-column-requires Inv-loop μ-loop
 put-column-requires c κs =
-    let w = turn (c .before .before .before) in
+    let w = turn (c .before .before .before .before) in
     let s = from w in
     let l = w .before .loop in
     let g = w .loop-test .taken in (
@@ -110,7 +116,8 @@ put-column-requires c κs =
         s .pre .room,
         g,
       ),
-      rw (back _ (c .put-column-arg4 .given)) (s .pre .goals-small (l .j)),
+      rw (back _ (c .before .put-column-arg4 .given)) (s .pre .low-small (l .j)),
+      rw (back _ (c .put-column-arg5 .given)) (s .pre .high-small (l .j)),
     )
 
 add-j : tie.Need-add-j Inv-loop μ-loop
@@ -123,15 +130,16 @@ loop-again : tie.Need-loop-again Inv-loop μ-loop
 loop-again c =
     let after-put-column = c .before in
     let k = after-put-column .before in
-    let a = k .before .before .before in
+    let a = k .before .before .before .before in
     let w = turn a in
     let s = from w in
     let l = w .before .loop in
     let g = w .loop-test .taken in (
       after-put-column .put-column .ensures
-          ∙ (λ i. put (width * l .j) (columnOf (back (entry (l .j) (s .args .lower .now)) (k .before .before .put-column-arg2 .given) i)
-          (back (entry (l .j) (s .args .upper .now)) (k .before .put-column-arg3 .given) i)
-          (back (entry (l .j) (s .args .goals .now)) (k .put-column-arg4 .given) i) (handed a i)) (l .inv .0 i))
+          ∙ (λ i. put (width * l .j) (columnOf (back (entry (l .j) (s .args .lower .now)) (k .before .before .before .put-column-arg2 .given) i)
+          (back (entry (l .j) (s .args .upper .now)) (k .before .before .put-column-arg3 .given) i)
+          (back (entry (l .j) (s .args .low .now)) (k .before .put-column-arg4 .given) i)
+          (back (entry (l .j) (s .args .high .now)) (k .put-column-arg5 .given) i) (handed a i)) (l .inv .0 i))
           ∙ packed-put (f s) (l .j) (s .args .columns .now) (omega (arith, s .pre .room, g)),
       omega (arith, g),
     )
@@ -169,6 +177,8 @@ pack-spec =
     shared-slice-copy-out-put-column-2
     mul-put-column-4
     shared-slice-copy-out-put-column-3
+    mul-put-column-5
+    shared-slice-copy-out-put-column-4
     put-column-requires
     add-j
     loop-less

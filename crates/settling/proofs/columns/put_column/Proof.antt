@@ -1,5 +1,5 @@
 -- `settling::columns::put_column` meets its contract: the record is written number by number. Assumes nothing.
-use mathlib.Core.Path.{_≡_, _∙_, ap}
+use mathlib.Core.Path.{_≡_, _∙_}
 use mathlib.Core.List.{List}
 use Prim.Native.Nat.{ℕ, _+_}
 use native.Mathlib.Omega.{arith}
@@ -37,26 +37,28 @@ mul-upper c = search needs
 slice-set-from-upper : tie.Need-slice-set-from-upper
 slice-set-from-upper c = rw length-set (omega (arith, c .pre .0))
 
-add-goal : tie.Need-add-goal
-add-goal c = search needs
+add-low : tie.Need-add-low
+add-low c = search needs
 
-mul-goal : tie.Need-mul-goal
-mul-goal c = search needs
+mul-low : tie.Need-mul-low
+mul-low c = search needs
 
-slice-set-from-goal : tie.Need-slice-set-from-goal
-slice-set-from-goal c = rw (length-set, length-set) (omega (arith, c .pre .0))
+slice-set-from-low : tie.Need-slice-set-from-low
+slice-set-from-low c = rw (length-set, length-set) (omega (arith, c .pre .0))
 
-add-goal-2 : tie.Need-add-goal-2
-add-goal-2 c = search needs
+add-high : tie.Need-add-high
+add-high c = search needs
 
-mul-goal-2 : tie.Need-mul-goal-2
-mul-goal-2 c = search needs
+mul-high : tie.Need-mul-high
+mul-high c = search needs
 
-slice-set-from-goal-2 : tie.Need-slice-set-from-goal-2
-slice-set-from-goal-2 c = rw (length-set, length-set, length-set) (omega (arith, c .pre .0))
+slice-set-from-high : tie.Need-slice-set-from-high
+slice-set-from-high c = rw (length-set, length-set, length-set) (omega (arith, c .pre .0))
 
 column-wish-requires : tie.Need-column-wish-requires
-column-wish-requires c κs = let s = c .before in rw (toZ-ofZ (s .fits .goal)) (s .pre .1)
+column-wish-requires c κs =
+    let s = c .before in
+    rw (toZ-ofZ (s .fits .low), toZ-ofZ (s .fits .high)) (s .pre .1, s .pre .2)
 
 put-wish-requires : tie.Need-put-wish-requires
 put-wish-requires c κs = rw (length-set, length-set, length-set, length-set) (c .before .before .pre .0)
@@ -67,16 +69,17 @@ same-length c =
     let at = s .args .at in
     c .before .put-wish .kept .0
     ∙ four (s .args .columns .now) (at + 0) (at + 1) (at + 2) (at + 3) (toZ w64 (ofZ w64 (s .args .lower))) (toZ w64 (ofZ w64 (s .args .upper)))
-    (toZ w64 (ofZ w64 (s .args .goal))) (toZ w64 (ofZ w64 (s .args .goal)))
+    (toZ w64 (ofZ w64 (s .args .low))) (toZ w64 (ofZ w64 (s .args .high)))
 
 returns : tie.Need-returns
 returns c =
     let s = c .before .before .before .before in
-    let wish = c .before .before .column-wish .ensures ∙ ap (λ (g : ℤ). columnWish g (s .args .handed)) (toZ-ofZ (s .fits .goal)) in
+    let wish =
+    c .before .before .column-wish .ensures ∙ (λ i. columnWish (toZ-ofZ (s .fits .low) i) (toZ-ofZ (s .fits .high) i) (s .args .handed)) in
     c .before .put-wish .ensures
     ∙ (λ i. putWish (s .args .at) (wish i)
     (set (set (set (set (s .args .columns .now) (s .args .at + 0) (toZ-ofZ (s .fits .lower) i)) (s .args .at + 1) (toZ-ofZ (s .fits .upper) i))
-    (s .args .at + 2) (toZ-ofZ (s .fits .goal) i)) (s .args .at + 3) (toZ-ofZ (s .fits .goal) i)))
+    (s .args .at + 2) (toZ-ofZ (s .fits .low) i)) (s .args .at + 3) (toZ-ofZ (s .fits .high) i)))
 
 pub put-column-spec : {M : Type 1} → statement M
 put-column-spec =
@@ -88,12 +91,12 @@ put-column-spec =
     add-upper
     mul-upper
     slice-set-from-upper
-    add-goal
-    mul-goal
-    slice-set-from-goal
-    add-goal-2
-    mul-goal-2
-    slice-set-from-goal-2
+    add-low
+    mul-low
+    slice-set-from-low
+    add-high
+    mul-high
+    slice-set-from-high
     column-wish-requires
     put-wish-requires
     same-length
