@@ -50,7 +50,7 @@ module _ (P Q : Posed) (T U : List (List ℤ)) (B C : Buffers) (e : n P ≡ n Q)
   columns-same : columns P ≡ columns Q
   columns-same = (λ i. record {
     count = e i;
-    column = λ j. columnOf (entry j (s .lower i)) (entry j (s .upper i)) (entry j (s .goals i)) (s .ideals j i);
+    column = λ j. columnOf (entry j (s .lower i)) (entry j (s .upper i)) (entry j (s .low i)) (entry j (s .high i)) (s .ideals j i);
   })
 
   seated-same : (N : List (List ℤ)) (z : Seated) → SameOutcome (onSeated P T N B z) (onSeated Q U N C z)

@@ -7,7 +7,7 @@ use mathlib.Core.Path.{_≡_, refl, sym, _∙_, ap}
 use mathlib.Core.Bool.{Bool, true, false, cond}
 use mathlib.Core.List.{List}
 use Prim.Native.Nat.{ℕ}
-use lib.IntN.{ℤ}
+use lib.IntN.{ℤ, pos, natAbs}
 use lib.ListN.{length}
 use Rattle.whole.specs.Lists.{entry, zeros}
 use Rattle.whole.specs.Tests.{isZero}
@@ -16,9 +16,10 @@ use Rattle.problem.specs.Checks.{Posed, firstCause}
 use Rattle.problem.specs.declared.Lent.{Lent}
 use Rattle.problem.specs.declared.Refusal.the-variants.{Elimination, Standing}
 use Rattle.tableau.specs.RightSide.{Found, none, some, basis}
+use Rattle.goals.specs.Ideals.{goalIdeal}
 use Rattle.settling.specs.declared.Wish.{Wish}
 use Rattle.settling.specs.declared.Wish.the-variants.{Unset, Set}
-use Rattle.settling.specs.Ideals.{into, goalWish, wishOf, columnWish, ideal}
+use Rattle.settling.specs.Ideals.{into, wishOf, columnWish, ideal}
 use Rattle.settling.specs.Seating.{idealAt, Seated, seated, far, seat}
 use Rattle.settling.specs.Steps.{partOf, nextStep}
 use Rattle.settling.specs.Strides.{strides}
@@ -41,19 +42,22 @@ ideal-comes lo hi x Unset = refl
 ideal-comes lo hi x (Set y) = refl
 
 -- without a goal what is handed in is used alike; with one it is not used
-by-goal : (lo hi g x : ℤ) (w z : Wish) → (isZero g ≡ true → broughtIn lo hi w ≡ broughtIn lo hi z)
-    → ideal lo hi (columnWish g w) x ≡ ideal lo hi (columnWish g z) x
-by-goal lo hi g x w z f = go (isZero g) f
+by-goal : (lo hi a b x : ℤ) (w z : Wish) → (isZero a ≡ true → broughtIn lo hi w ≡ broughtIn lo hi z)
+    → ideal lo hi (columnWish a b w) x ≡ ideal lo hi (columnWish a b z) x
+by-goal lo hi a b x w z f = go (isZero a) f
   where
+    asked : Wish
+    asked = Set (pos (goalIdeal (natAbs a) (natAbs b)))
+
     go : (t : Bool) → (t ≡ true → broughtIn lo hi w ≡ broughtIn lo hi z)
-        → ideal lo hi (cond t w (goalWish g)) x ≡ ideal lo hi (cond t z (goalWish g)) x
+        → ideal lo hi (cond t w asked) x ≡ ideal lo hi (cond t z asked) x
     go true h = ideal-comes lo hi x w ∙ ap (comesTo lo hi x) (h refl) ∙ sym (ideal-comes lo hi x z)
     go false h = refl
 
 -- ---- of a problem with other ideals of the same lengths
 module _ (P : Posed) (ms xs : List ℤ) (l : length (P .given) ≡ length ms) (k : length (P .ideals) ≡ length xs) where
   abbrev other : Posed
-  other = posedBy (P .problem) (P .coefficients) (P .rights) (P .lower) (P .upper) (P .goals) ms xs
+  other = posedBy (P .problem) (P .coefficients) (P .rights) (P .lower) (P .upper) (P .low) (P .high) ms xs
 
   causes-same : (L : Lent) → firstCause P L ≡ firstCause other L
   unfolding firstCause
@@ -97,7 +101,8 @@ module _ (P : Posed) (ms xs : List ℤ) (l : length (P .given) ≡ length ms) (k
   -- ---- whole assignments
   module _ (u : SameUse P other) where
     same-ideal : (v : List ℤ) (c : ℕ) → idealAt (columns P) v c ≡ idealAt (columns other) v c
-    same-ideal v c = by-goal (entry c (P .lower)) (entry c (P .upper)) (entry c (P .goals)) (entry c v) (handedIn P c) (handedIn other c) (u c)
+    same-ideal v c =
+        by-goal (entry c (P .lower)) (entry c (P .upper)) (entry c (P .low)) (entry c (P .high)) (entry c v) (handedIn P c) (handedIn other c) (u c)
 
     seated-same : (T N : List (List ℤ)) (B : Buffers) (z : Seated) → onSeated P T N B z ≡ onSeated other T N B z
     seated-same T N B far = refl
@@ -115,10 +120,10 @@ module _ (P : Posed) (ms xs : List ℤ) (l : length (P .given) ≡ length ms) (k
 
 -- ---- of two problems
 -- a problem that differs in ideals alone is the one with the other's
-is-other : (P Q : Posed) (s : ButIdeals P Q) → posedBy (P .problem) (P .coefficients) (P .rights) (P .lower) (P .upper) (P .goals) (Q .given)
+is-other : (P Q : Posed) (s : ButIdeals P Q) → posedBy (P .problem) (P .coefficients) (P .rights) (P .lower) (P .upper) (P .low) (P .high) (Q .given)
     (Q .ideals) ≡ Q
 is-other P Q s = λ i.
-    posedBy (s .problem i) (s .coefficients i) (s .rights i) (s .lower i) (s .upper i) (s .goals i) (Q .given) (Q .ideals)
+    posedBy (s .problem i) (s .coefficients i) (s .rights i) (s .lower i) (s .upper i) (s .low i) (s .high i) (Q .given) (Q .ideals)
 
 pub ideals-unread : IdealsUnread
 ideals-unread P Q s = record {

@@ -222,9 +222,9 @@ short-cause :
 unfolding firstCause
 short-cause P L e =
     rw e (first-short (sizesFit maxColumns maxRows (P .problem)) (rowLengthsFit (P .problem) (P .coefficients) (P .rights))
-    (columnLengthsFit (P .problem) (P .lower) (P .upper) (P .goals)) (idealLengthsFit (P .problem) (P .given) (P .ideals))
+    (columnLengthsFit (P .problem) (P .lower) (P .upper) (P .low) (P .high)) (idealLengthsFit (P .problem) (P .given) (P .ideals))
     (orNext (rowsFit (P .coefficients) (P .rights)) Coefficient (orNext (boundsFit (P .lower) (P .upper)) Bound
-    (orNext (goalsFit (P .lower) (P .goals)) Goal (orNext (limitFits (P .problem)) Limit Passed)))))
+    (orNext (goalsFit (P .lower) (P .low) (P .high)) Goal (orNext (limitFits (P .problem)) Limit Passed)))))
 
 turned : (P : Posed) (v : List ℤ) (B : Buffers) (why : Refusal) → firstCause (withLimit 1 P) (lentBeside (n P) v B) ≡ Failed why
     → preview P v B ≡ unshown why (B .tableau) B
@@ -363,12 +363,12 @@ unfolding firstCause
 first-not P L =
     or-not (sizesFit maxColumns maxRows (withLimit 1 P .problem)) Size _ (λ (e : Size ≡ Limit). never (cc))
     (or-not (rowLengthsFit (withLimit 1 P .problem) (P .coefficients) (P .rights)) Length _ length-not
-    (or-not (columnLengthsFit (withLimit 1 P .problem) (P .lower) (P .upper) (P .goals)) Length _ length-not
+    (or-not (columnLengthsFit (withLimit 1 P .problem) (P .lower) (P .upper) (P .low) (P .high)) Length _ length-not
     (or-not (idealLengthsFit (withLimit 1 P .problem) (P .given) (P .ideals)) Length _ length-not
     (or-not (lentFit (withLimit 1 P .problem) L) Length _ length-not
     (or-not (rowsFit (P .coefficients) (P .rights)) Coefficient _ (λ (e : Coefficient ≡ Limit). never (cc))
     (or-not (boundsFit (P .lower) (P .upper)) Bound _ (λ (e : Bound ≡ Limit). never (cc))
-    (or-not (goalsFit (P .lower) (P .goals)) Goal _ (λ (e : Goal ≡ Limit). never (cc)) passes-not)))))))
+    (or-not (goalsFit (P .lower) (P .low) (P .high)) Goal _ (λ (e : Goal ≡ Limit). never (cc)) passes-not)))))))
   where
     length-not : Length ≡ Limit → ⊥
     length-not e = never (cc)

@@ -64,23 +64,26 @@ pub record PackedIn (P : Posed) (l : List ℤ) : Type 0 where
 
 pub table-columns : (P : Posed) (L : Lent) → Fits P L → columnsIn (n P) (table P) ≡ columns P
 table-columns P L f =
-    packed-columns (n P) (P .lower) (P .upper) (P .goals) (P .given) (P .ideals) (f .lower-long) (f .upper-long) (f .goals-long)
-    (f .given-long) (f .ideals-long)
+    packed-columns (n P) (P .lower) (P .upper) (P .low) (P .high) (P .given) (P .ideals) (f .lower-long) (f .upper-long)
+    (f .low-long) (f .high-long) (f .given-long) (f .ideals-long)
 
 module _ (P : Posed) (L : Lent) (f : Fits P L) where
-  pub packable : (t : List ℤ) → cells P ≡ length t → Packable t (P .lower) (P .upper) (P .goals) (P .given) (P .ideals)
+  pub packable : (t : List ℤ) → cells P ≡ length t → Packable t (P .lower) (P .upper) (P .low) (P .high) (P .given) (P .ideals)
   packable t e = record {
     room = sym e ∙ ap (λ (k : ℕ). Columns.width * k) (sym (f .lower-long));
     upper-long = f .upper-long ∙ sym (f .lower-long);
-    goals-long = f .goals-long ∙ sym (f .lower-long);
+    low-long = f .low-long ∙ sym (f .lower-long);
+    high-long = f .high-long ∙ sym (f .lower-long);
     given-long = f .given-long ∙ sym (f .lower-long);
     ideals-long = f .ideals-long ∙ sym (f .lower-long);
-    goals-small = f .goals-small;
+    low-small = f .low-small;
+    high-small = f .high-small;
   }
 
-  pub packed-in : (l : List ℤ) → l ≡ packed (listed (length (P .lower)) (P .lower) (P .upper) (P .goals) (P .given) (P .ideals)) → PackedIn P l
+  pub packed-in : (l : List ℤ) → l ≡ packed (listed (length (P .lower)) (P .lower) (P .upper) (P .low) (P .high) (P .given) (P .ideals)) → PackedIn P l
   packed-in l e =
-      let is : l ≡ table P = e ∙ ap (λ (k : ℕ). packed (listed k (P .lower) (P .upper) (P .goals) (P .given) (P .ideals))) (f .lower-long) in
+      let is : l ≡ table P =
+      e ∙ ap (λ (k : ℕ). packed (listed k (P .lower) (P .upper) (P .low) (P .high) (P .given) (P .ideals))) (f .lower-long) in
       record { is = is; long = ap length is ∙ packed-length (columns P .column) (n P) 0 }
 
 module _ {P : Posed} {l : List ℤ} (a : PackedIn P l) (t : List ℤ) where
@@ -100,8 +103,8 @@ pub fit-column : (P : Posed) (L : Lent) → Fits P L → (j : ℕ) → FitColumn
 fit-column P L f j = record {
   lower = f .lower-small j;
   upper = f .upper-small j;
-  low = f .goals-small j;
-  high = f .goals-small j;
+  low = f .low-small j;
+  high = f .high-small j;
   above = f .goal-above j;
 }
 

@@ -47,14 +47,15 @@ pub record Done : Type 0 where
   pub values : List ℤ
   pub strides : List ℕ
 
-abbrev pub posedBy : Problem → List ℤ → List ℤ → List ℤ → List ℤ → List ℤ → List ℤ → List ℤ → Posed
-posedBy p coefficients rights lower upper goals given ideals = record {
+abbrev pub posedBy : Problem → List ℤ → List ℤ → List ℤ → List ℤ → List ℤ → List ℤ → List ℤ → List ℤ → Posed
+posedBy p coefficients rights lower upper low high given ideals = record {
   problem = p;
   coefficients = coefficients;
   rights = rights;
   lower = lower;
   upper = upper;
-  goals = goals;
+  low = low;
+  high = high;
   given = given;
   ideals = ideals;
 }
@@ -76,7 +77,7 @@ abbrev pub matrix : Posed → List (List ℤ)
 matrix P = chop (m P) (n P) (P .coefficients)
 
 abbrev pub columns : Posed → Columns
-columns P = listed (n P) (P .lower) (P .upper) (P .goals) (P .given) (P .ideals)
+columns P = listed (n P) (P .lower) (P .upper) (P .low) (P .high) (P .given) (P .ideals)
 
 abbrev pub lentOf : Buffers → Lent
 lentOf B = record { tableau = length (B .tableau); values = length (B .values); strides = length (B .strides) }

@@ -11,7 +11,7 @@
 --   EqualStarts P Q   "starting lists and bases are equal"
 --   SameStart P Q ..  "starting lists and bases are equal, or both are "none""
 --   handedIn P j      the ideal that is handed in for column j, or that none is
---   SameColumns P Q   "the same bounds, goals and step limit", and "the same ideals too": the same are set, to the same numbers
+--   SameColumns P Q   "the same bounds, goals and step limit", low and high goals, and "the same ideals too": the same are set, to the same numbers
 --   SameOutcome d e   "Of two of them these are equal: the verdict or the refusal's number, and the step counts of both parts; with a verdict also
 --                     the n intervals"
 --   Restated P Q ..   what the demand says of two such problems
@@ -70,7 +70,8 @@ handedIn P j = wishOf (entry j (P .given)) (entry j (P .ideals))
 pub record SameColumns (P Q : Posed) : Type 0 where
   pub lower : P .lower ≡ Q .lower
   pub upper : P .upper ≡ Q .upper
-  pub goals : P .goals ≡ Q .goals
+  pub low : P .low ≡ Q .low
+  pub high : P .high ≡ Q .high
   pub ideals : (j : ℕ) → handedIn P j ≡ handedIn Q j
   pub limit : P .problem .limit ≡ Q .problem .limit
 

@@ -30,7 +30,8 @@ pub record ButIdeals (P Q : Posed) : Type 0 where
   pub rights : P .rights ≡ Q .rights
   pub lower : P .lower ≡ Q .lower
   pub upper : P .upper ≡ Q .upper
-  pub goals : P .goals ≡ Q .goals
+  pub low : P .low ≡ Q .low
+  pub high : P .high ≡ Q .high
   pub given-long : length (P .given) ≡ length (Q .given)
   pub ideals-long : length (P .ideals) ≡ length (Q .ideals)
 
@@ -41,7 +42,7 @@ broughtIn lo hi (Set x) = Set (into lo hi x)
 
 abbrev pub SameUse : Posed → Posed → Type 0
 SameUse P Q =
-    (j : ℕ) → isZero (entry j (P .goals)) ≡ true
+    (j : ℕ) → isZero (entry j (P .low)) ≡ true
     → broughtIn (entry j (P .lower)) (entry j (P .upper)) (handedIn P j) ≡ broughtIn (entry j (Q .lower)) (entry j (Q .upper)) (handedIn Q j)
 
 abbrev pub IdealsUsed : Type 0

@@ -70,7 +70,8 @@ withLimit k P = record {
   rights = P .rights;
   lower = P .lower;
   upper = P .upper;
-  goals = P .goals;
+  low = P .low;
+  high = P .high;
   given = P .given;
   ideals = P .ideals;
 }

@@ -19,7 +19,8 @@ pub(crate) fn lay_ground(
     rights: &[i64],
     lower: &[i64],
     upper: &[i64],
-    goals: &[i64],
+    low: &[i64],
+    high: &[i64],
     given: &[i64],
     ideals: &[i64],
     list: &[i64],
@@ -27,16 +28,16 @@ pub(crate) fn lay_ground(
     tableau: &mut [i64],
     columns: &mut [i64],
 ) -> Check
-    requires { ⌜ Groundable (posedBy p (now coefficients) (now rights) (now lower) (now upper) (now goals) (now given) (now ideals))
+    requires { ⌜ Groundable (posedBy p (now coefficients) (now rights) (now lower) (now upper) (now low) (now high) (now given) (now ideals))
         (now list) lent (now tableau) (now columns) ⌝ }
     ensures { λ r. ⌜ (grounded r (now (tableau .exit))
         ≡ ground
-        (posedBy p (now (coefficients .entry)) (now (rights .entry)) (now (lower .entry)) (now (upper .entry)) (now (goals .entry))
-        (now (given .entry)) (now (ideals .entry)))
+        (posedBy p (now (coefficients .entry)) (now (rights .entry)) (now (lower .entry)) (now (upper .entry))
+        (now (low .entry)) (now (high .entry)) (now (given .entry)) (now (ideals .entry)))
         (now (list .entry)) lent (now (tableau .entry)))
         × Packs r
-        (posedBy p (now (coefficients .entry)) (now (rights .entry)) (now (lower .entry)) (now (upper .entry)) (now (goals .entry))
-        (now (given .entry)) (now (ideals .entry)))
+        (posedBy p (now (coefficients .entry)) (now (rights .entry)) (now (lower .entry)) (now (upper .entry))
+        (now (low .entry)) (now (high .entry)) (now (given .entry)) (now (ideals .entry)))
         (now (columns .exit)) ⌝ }
 {
     if let Check::Failed(why) = first_cause(
@@ -45,7 +46,8 @@ pub(crate) fn lay_ground(
         rights,
         lower,
         upper,
-        goals,
+        low,
+        high,
         given,
         ideals,
         lent,
@@ -59,6 +61,6 @@ pub(crate) fn lay_ground(
         return Check::Failed(Refusal::Elimination);
     }
     let used = WIDTH * p.columns;
-    pack(&mut columns[..used], lower, upper, goals, given, ideals);
+    pack(&mut columns[..used], lower, upper, low, high, given, ideals);
     Check::Passed
 }

@@ -30,7 +30,8 @@ pub fn assign(
     rights: &[i64],
     lower: &[i64],
     upper: &[i64],
-    goals: &[i64],
+    low: &[i64],
+    high: &[i64],
     given: &[i64],
     ideals: &[i64],
     tableau: &mut [i64],
@@ -38,8 +39,8 @@ pub fn assign(
     strides: &mut [u64],
 ) -> Answer
     ensures { λ r. ⌜ done r (now (tableau .exit)) (now (values .exit)) (now (strides .exit))
-        ≡ Assign.assign (posedBy p (now (coefficients .entry)) (now (rights .entry)) (now (lower .entry)) (now (upper .entry)) (now (goals .entry))
-        (now (given .entry)) (now (ideals .entry)))
+        ≡ Assign.assign (posedBy p (now (coefficients .entry)) (now (rights .entry)) (now (lower .entry)) (now (upper .entry))
+        (now (low .entry)) (now (high .entry)) (now (given .entry)) (now (ideals .entry)))
         (buffers (now (tableau .entry)) (now (values .entry)) (now (strides .entry))) ⌝ }
 {
     let lent = Lent {
@@ -53,7 +54,8 @@ pub fn assign(
         rights,
         lower,
         upper,
-        goals,
+        low,
+        high,
         given,
         ideals,
         lent,
@@ -63,7 +65,7 @@ pub fn assign(
     let mut columns = [0i64; WIDTH * Problem::MAX_COLUMNS];
     let n = p.columns;
     let used = WIDTH * n;
-    pack(&mut columns[..used], lower, upper, goals, given, ideals);
+    pack(&mut columns[..used], lower, upper, low, high, given, ideals);
     let mut start = [0i64; Problem::MAX_COLUMNS];
     let solution = rightside::solve(tableau, p, coefficients, rights, &mut start[..n]);
     match solution {
@@ -88,7 +90,8 @@ pub fn continue_from(
     rights: &[i64],
     lower: &[i64],
     upper: &[i64],
-    goals: &[i64],
+    low: &[i64],
+    high: &[i64],
     given: &[i64],
     ideals: &[i64],
     tableau: &mut [i64],
@@ -96,8 +99,8 @@ pub fn continue_from(
     strides: &mut [u64],
 ) -> Answer
     ensures { λ r. ⌜ done r (now (tableau .exit)) (now (values .exit)) (now (strides .exit))
-        ≡ Assign.continue (posedBy p (now (coefficients .entry)) (now (rights .entry)) (now (lower .entry)) (now (upper .entry)) (now (goals .entry))
-        (now (given .entry)) (now (ideals .entry)))
+        ≡ Assign.continue (posedBy p (now (coefficients .entry)) (now (rights .entry)) (now (lower .entry)) (now (upper .entry))
+        (now (low .entry)) (now (high .entry)) (now (given .entry)) (now (ideals .entry)))
         (buffers (now (tableau .entry)) (now (values .entry)) (now (strides .entry))) ⌝ }
 {
     let lent = Lent {
@@ -112,7 +115,8 @@ pub fn continue_from(
         rights,
         lower,
         upper,
-        goals,
+        low,
+        high,
         given,
         ideals,
         values,

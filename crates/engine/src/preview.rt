@@ -105,7 +105,8 @@ pub fn preview(
     rights: &[i64],
     lower: &[i64],
     upper: &[i64],
-    goals: &[i64],
+    low: &[i64],
+    high: &[i64],
     given: &[i64],
     ideals: &[i64],
     standing: &[i64],
@@ -115,8 +116,8 @@ pub fn preview(
 ) -> Seen
     ensures { λ r. ⌜ shown r (now (tableau .exit)) (now (after .exit)) (now (strides .exit))
         ≡ Preview.preview
-        (posedBy p (now (coefficients .entry)) (now (rights .entry)) (now (lower .entry)) (now (upper .entry)) (now (goals .entry))
-        (now (given .entry)) (now (ideals .entry)))
+        (posedBy p (now (coefficients .entry)) (now (rights .entry)) (now (lower .entry)) (now (upper .entry))
+        (now (low .entry)) (now (high .entry)) (now (given .entry)) (now (ideals .entry)))
         (now (standing .entry)) (buffers (now (tableau .entry)) (now (after .entry)) (now (strides .entry))) ⌝ }
 {
     let one = Problem {
@@ -136,7 +137,8 @@ pub fn preview(
         rights,
         lower,
         upper,
-        goals,
+        low,
+        high,
         given,
         ideals,
         standing,

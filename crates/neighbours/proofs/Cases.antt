@@ -11,8 +11,8 @@ use mathlib.Core.Path.{_≡_, refl}
 use mathlib.Core.List.{List, [], _∷_}
 use lib.IntN.{ℤ, pos, negsuc}
 use Rattle.whole.specs.Tests.{every}
+use Rattle.goals.specs.Ideals.{rootBits, wholeRoot, goalIdeal}
 use Rattle.settling.specs.declared.Wish.the-variants.{Unset, Set}
-use Rattle.settling.specs.Ideals.{goalIdeal}
 use Rattle.neighbours.specs.Neighbours.{Stated, statedBy, chosen, total, neighbourWish, numbersFrom, givenOf, idealsOf}
 
 abbrev five : ℤ → ℤ → ℤ → ℤ → ℤ → List ℤ → List ℤ
@@ -26,10 +26,11 @@ stated =
     (five (pos 0) (pos 0) (pos 1) (pos 0) (negsuc 0) [])))
     (five (pos 1) (pos 1) (pos 1) (pos 1) (pos 0) [])
     (five (pos 99) (pos 99) (pos 2) (pos 99) (pos 99) [])
-    (five (pos 0) (pos 9000) (pos 20000) (pos 0) (pos 0) [])
+    (five (pos 0) (pos 4500) (pos 20000) (pos 0) (pos 0) [])
+    (five (pos 0) (pos 18000) (pos 20000) (pos 0) (pos 0) [])
 
 pub v1 : neighbourWish stated 0 ≡ Set (pos 5)
-unfolding every goalIdeal chosen total neighbourWish
+unfolding every rootBits wholeRoot goalIdeal chosen total neighbourWish
 v1 = refl
 
 pub v2 : neighbourWish stated 1 ≡ Unset
@@ -41,7 +42,7 @@ unfolding neighbourWish
 v3 = refl
 
 pub v4 : neighbourWish stated 3 ≡ Unset
-unfolding every goalIdeal chosen total neighbourWish
+unfolding every rootBits wholeRoot goalIdeal chosen total neighbourWish
 v4 = refl
 
 pub v5 : neighbourWish stated 4 ≡ Unset
@@ -49,9 +50,9 @@ unfolding neighbourWish
 v5 = refl
 
 pub marks : givenOf stated 5 ≡ five (pos 1) (pos 0) (pos 0) (pos 0) (pos 0) []
-unfolding every goalIdeal chosen total neighbourWish numbersFrom
+unfolding every rootBits wholeRoot goalIdeal chosen total neighbourWish numbersFrom
 marks = refl
 
 pub ideals : idealsOf stated 5 ≡ five (pos 5) (pos 0) (pos 0) (pos 0) (pos 0) []
-unfolding every goalIdeal chosen total neighbourWish numbersFrom
+unfolding every rootBits wholeRoot goalIdeal chosen total neighbourWish numbersFrom
 ideals = refl

@@ -24,8 +24,9 @@ use Rattle.whole.specs.Tests.{isZero}
 use Rattle.whole.proofs.Integers.{rep, diff-rel}
 use Rattle.whole.proofs.Signed.{abs-add}
 use Rattle.problem.specs.Limits.{maxBound}
+use Rattle.goals.specs.Ideals.{goalIdeal}
 use Rattle.settling.specs.declared.Wish.the-variants.{Unset, Set}
-use Rattle.settling.specs.Ideals.{goalIdeal, ideal}
+use Rattle.settling.specs.Ideals.{ideal}
 use Rattle.settling.proofs.Seats.{ideal-small}
 use Rattle.neighbours.specs.Neighbours.{Stated, idealOf, chosen, total, mean, meanBy}
 use Rattle.neighbours.specs.Neighbours.{neighbourIdeals, isPlainInterval, neighbourWish, numbersFrom}
@@ -107,7 +108,7 @@ module _ (t : ℕ → Bool) (x : ℕ → ℤ) where
 -- ---- an ideal
 pub ideal-within : (S : Stated) (h : ℕ) → natAbs (S .lower h) ≤ maxBound → natAbs (S .upper h) ≤ maxBound → natAbs (idealOf S h) ≤ maxBound
 unfolding ideal
-ideal-within S h a b = ideal-small (S .lower h) (S .upper h) (Set (pos (goalIdeal (natAbs (S .goal h))))) (pos 0) a b
+ideal-within S h a b = ideal-small (S .lower h) (S .upper h) (Set (pos (goalIdeal (natAbs (S .low h)) (natAbs (S .high h))))) (pos 0) a b
 
 -- ---- what is handed in
 module _ (S : Stated) (j : ℕ) where
@@ -116,12 +117,12 @@ module _ (S : Stated) (j : ℕ) where
   nothing e = ap (λ (b : Bool). cond b (mean (neighbourIdeals S j)) Unset) e
 
   pub wish-past : S .intervals ≤ j → neighbourWish S j ≡ Unset
-  wish-past h = nothing (ap (λ (b : Bool). b && isZero (S .goal j)) (le-ltb j (S .intervals) h))
+  wish-past h = nothing (ap (λ (b : Bool). b && isZero (S .low j)) (le-ltb j (S .intervals) h))
 
-  pub wish-goal : isZero (S .goal j) ≡ false → neighbourWish S j ≡ Unset
+  pub wish-goal : isZero (S .low j) ≡ false → neighbourWish S j ≡ Unset
   wish-goal e = nothing (ap (λ (b : Bool). ltb j (S .intervals) && b) e ∙ and-false (ltb j (S .intervals)))
 
-  pub wish-plain : j < S .intervals → isZero (S .goal j) ≡ true → neighbourWish S j ≡ mean (neighbourIdeals S j)
+  pub wish-plain : j < S .intervals → isZero (S .low j) ≡ true → neighbourWish S j ≡ mean (neighbourIdeals S j)
   unfolding neighbourWish
   wish-plain h e = (λ i. cond (lt-ltb j (S .intervals) h i && e i) (mean (neighbourIdeals S j)) Unset)
 

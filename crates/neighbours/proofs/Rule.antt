@@ -70,19 +70,19 @@ module _ (S : Stated) (j : ℕ) where
 
   neighbour : (h : ℕ) → h < S .intervals → isNeighbour S j h ≡ true → Neighbour S j h
   neighbour h l e =
-      let b = both-true (not (isZero (S .goal h))) (shares S j h) e in
+      let b = both-true (not (isZero (S .low h))) (shares S j h) e in
       record { interval = l; goal = not-zero _ (b .0); shared = shared h (b .1) }
 
   is-neighbour : (h : ℕ) → Neighbour S j h → isNeighbour S j h ≡ true
-  is-neighbour h x = and-true (not (isZero (S .goal h))) (shares S j h) (zero-not _ (x .goal)) (has-row h (x .shared))
+  is-neighbour h x = and-true (not (isZero (S .low h))) (shares S j h) (zero-not _ (x .goal)) (has-row h (x .shared))
 
   plain : isPlainInterval S j ≡ true → Plain S j
   plain e =
-      let b = both-true (ltb j (S .intervals)) (isZero (S .goal j)) e in
+      let b = both-true (ltb j (S .intervals)) (isZero (S .low j)) e in
       record { interval = ltb-true j (S .intervals) (b .0); goal = isZero-true _ (b .1) }
 
   is-plain : Plain S j → isPlainInterval S j ≡ true
-  is-plain x = and-true (ltb j (S .intervals)) (isZero (S .goal j)) (lt-ltb _ _ (x .interval)) (ap isZero (x .goal))
+  is-plain x = and-true (ltb j (S .intervals)) (isZero (S .low j)) (lt-ltb _ _ (x .interval)) (ap isZero (x .goal))
 
 -- ---- the columns that a test admits
 unfoldable columns : (ℕ → Bool) → ℕ → ℕ → List ℕ

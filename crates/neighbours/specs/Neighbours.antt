@@ -1,9 +1,9 @@
 -- Document 02, (ii), the reader's ideals: "From now on the reader gives such an interval an ideal: the mean, rounded down, of the ideals of all
 -- intervals with a goal that have a nonzero coefficient in some row with it, each counted once. It is unset if there are none, and for slacks".
 --   Stated            what a text states: its rows, how many of its columns are intervals, the coefficient of row i at column j, and the bounds and
---                     the goal of column j; statedBy makes one of the count of columns and the lists of a problem
+--                     the goals of column j; statedBy makes one of the count of columns and the lists of a problem
 --   hasGoal S h       column h has a goal
---   idealOf S h       the ideal of a column with a goal, document 01's: after its bounds
+--   idealOf S h       the ideal of a column with a goal, document 02's, (v): after its bounds
 --   inRow S i j       column j has a nonzero coefficient in row i
 --   shares S j h      columns j and h have one in the same row
 --   isNeighbour S j h h is to count for j
@@ -25,9 +25,10 @@ use lib.ListN.{length}
 use Rattle.whole.specs.Lists.{entry}
 use Rattle.whole.specs.Quotient.{floorQuotient}
 use Rattle.whole.specs.Tests.{isZero, every}
+use Rattle.goals.specs.Ideals.{goalIdeal}
 use Rattle.settling.specs.declared.Wish.{Wish}
 use Rattle.settling.specs.declared.Wish.the-variants.{Unset, Set}
-use Rattle.settling.specs.Ideals.{goalIdeal, into, wishMark, wishNumber}
+use Rattle.settling.specs.Ideals.{into, wishMark, wishNumber}
 
 pub record Stated : Type 0 where
   pub rows : ℕ
@@ -35,25 +36,27 @@ pub record Stated : Type 0 where
   pub coefficient : ℕ → ℕ → ℤ
   pub lower : ℕ → ℤ
   pub upper : ℕ → ℤ
-  pub goal : ℕ → ℤ
+  pub low : ℕ → ℤ
+  pub high : ℕ → ℤ
 
 -- coefficients, "n to a row without gaps"
-abbrev pub statedBy : (n m k : ℕ) → (coefficients lower upper goals : List ℤ) → Stated
-statedBy n m k coefficients lower upper goals = record {
+abbrev pub statedBy : (n m k : ℕ) → (coefficients lower upper low high : List ℤ) → Stated
+statedBy n m k coefficients lower upper low high = record {
   rows = m;
   intervals = k;
   coefficient = λ i j. entry (i * n + j) coefficients;
   lower = λ j. entry j lower;
   upper = λ j. entry j upper;
-  goal = λ j. entry j goals;
+  low = λ j. entry j low;
+  high = λ j. entry j high;
 }
 
 -- ---- "of the ideals of all intervals with a goal"
 abbrev pub hasGoal : Stated → ℕ → Bool
-hasGoal S h = not (isZero (S .goal h))
+hasGoal S h = not (isZero (S .low h))
 
 abbrev pub idealOf : Stated → ℕ → ℤ
-idealOf S h = into (S .lower h) (S .upper h) (pos (goalIdeal (natAbs (S .goal h))))
+idealOf S h = into (S .lower h) (S .upper h) (pos (goalIdeal (natAbs (S .low h)) (natAbs (S .high h))))
 
 -- ---- "that have a nonzero coefficient in some row with it": not every row lacks it
 abbrev pub inRow : Stated → ℕ → ℕ → Bool
@@ -88,7 +91,7 @@ mean l = meanBy (total l) (length l)
 
 -- ---- "the reader gives such an interval an ideal", "unset .. for slacks"; where there is a goal none is needed
 abbrev pub isPlainInterval : Stated → ℕ → Bool
-isPlainInterval S j = ltb j (S .intervals) && isZero (S .goal j)
+isPlainInterval S j = ltb j (S .intervals) && isZero (S .low j)
 
 unfoldable pub neighbourWish : Stated → ℕ → Wish
 neighbourWish S j = cond (isPlainInterval S j) (mean (neighbourIdeals S j)) Unset

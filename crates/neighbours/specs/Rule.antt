@@ -29,12 +29,12 @@ pub record SharedRow (S : Stated) (j h : ℕ) : Type 0 where
 
 pub record Neighbour (S : Stated) (j h : ℕ) : Type 0 where
   pub interval : h < S .intervals
-  pub goal : S .goal h ≡ pos 0 → ⊥
+  pub goal : S .low h ≡ pos 0 → ⊥
   pub shared : SharedRow S j h
 
 pub record Plain (S : Stated) (j : ℕ) : Type 0 where
   pub interval : j < S .intervals
-  pub goal : S .goal j ≡ pos 0
+  pub goal : S .low j ≡ pos 0
 
 -- ---- "each counted once"
 abbrev pub Apart : ℕ → List ℕ → Type 0

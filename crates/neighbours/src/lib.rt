@@ -7,17 +7,17 @@ ghost use lib.ListN.{length};
 ghost use Rattle.whole.specs.Lists.{entry};
 ghost use Rattle.whole.specs.Tests.{isZero};
 ghost use Rattle.problem.specs.Limits.{maxColumns, maxRows, maxGoal};
-ghost use Rattle.settling.specs.Ideals.{goalIdeal, into};
+ghost use Rattle.goals.specs.Ideals.{goalIdeal};
+ghost use Rattle.settling.specs.Ideals.{into};
 ghost use Rattle.neighbours.specs.Beside.{LongEnough, SmallColumns, rowsBy};
 ghost use Rattle.neighbours.specs.Neighbours.{statedBy, shares, neighbourIdeals, meanBy, mean, neighbourWish, givenOf, idealsOf};
+use goals::goal_ideal;
 use settling::Wish;
-use settling::goal_ideal;
 use settling::into_bounds;
 use settling::measures::is_zero;
 use settling::wish_mark;
 use settling::wish_number;
 use whole::floor_quotient;
-use whole::magnitude;
 
 // How many columns and rows a problem has, and how many of its columns are intervals.
 pub struct Shape {
@@ -56,11 +56,11 @@ fn share_row(shape: Shape, coefficients: &[i64], j: usize, h: usize) -> bool
 }
 
 // The ideal of a column with a goal.
-fn ideal_of(lower: i64, upper: i64, goal: i64) -> i64
-    requires { ⌜ natAbs goal ≤ maxGoal ⌝ }
-    ensures { λ r. ⌜ r ≡ into lower upper (pos (goalIdeal (natAbs goal))) ⌝ }
+fn ideal_of(lower: i64, upper: i64, low: i64, high: i64) -> i64
+    requires { ⌜ (natAbs low ≤ maxGoal) × (natAbs high ≤ maxGoal) ⌝ }
+    ensures { λ r. ⌜ r ≡ into lower upper (pos (goalIdeal (natAbs low) (natAbs high))) ⌝ }
 {
-    let wanted = goal_ideal(magnitude(goal)) as i64;
+    let wanted = goal_ideal(low, high);
     into_bounds(lower, upper, wanted)
 }
 
@@ -81,23 +81,24 @@ fn mean_beside(
     coefficients: &[i64],
     lower: &[i64],
     upper: &[i64],
-    goals: &[i64],
+    low: &[i64],
+    high: &[i64],
     j: usize,
 ) -> Wish
-    requires { ⌜ LongEnough (shape .columns) (shape .rows) (shape .intervals) (now coefficients) (now lower) (now upper) (now goals)
-        × SmallColumns (shape .intervals) (now lower) (now upper) (now goals) × (j < shape .columns) ⌝ }
+    requires { ⌜ LongEnough (shape .columns) (shape .rows) (shape .intervals) (now coefficients) (now lower) (now upper) (now low) (now high)
+        × SmallColumns (shape .intervals) (now lower) (now upper) (now low) (now high) × (j < shape .columns) ⌝ }
     ensures { λ r. ⌜ r ≡ mean (neighbourIdeals (statedBy (shape .columns) (shape .rows) (shape .intervals) (now (coefficients .entry))
-        (now (lower .entry)) (now (upper .entry)) (now (goals .entry))) j) ⌝ }
+        (now (lower .entry)) (now (upper .entry)) (now (low .entry)) (now (high .entry))) j) ⌝ }
 {
     let mut sum = 0;
     let mut count = 0;
     let mut h = shape.intervals;
     while 0 < h {
         h -= 1;
-        let goal = goals[h];
+        let goal = low[h];
         if !is_zero(goal) {
             if share_row(shape, coefficients, j, h) {
-                sum += ideal_of(lower[h], upper[h], goal);
+                sum += ideal_of(lower[h], upper[h], goal, high[h]);
                 count += 1;
             }
         }
@@ -111,21 +112,22 @@ fn neighbour_wish(
     coefficients: &[i64],
     lower: &[i64],
     upper: &[i64],
-    goals: &[i64],
+    low: &[i64],
+    high: &[i64],
     j: usize,
 ) -> Wish
-    requires { ⌜ LongEnough (shape .columns) (shape .rows) (shape .intervals) (now coefficients) (now lower) (now upper) (now goals)
-        × SmallColumns (shape .intervals) (now lower) (now upper) (now goals) ⌝ }
+    requires { ⌜ LongEnough (shape .columns) (shape .rows) (shape .intervals) (now coefficients) (now lower) (now upper) (now low) (now high)
+        × SmallColumns (shape .intervals) (now lower) (now upper) (now low) (now high) ⌝ }
     ensures { λ r. ⌜ r ≡ neighbourWish (statedBy (shape .columns) (shape .rows) (shape .intervals) (now (coefficients .entry))
-        (now (lower .entry)) (now (upper .entry)) (now (goals .entry))) j ⌝ }
+        (now (lower .entry)) (now (upper .entry)) (now (low .entry)) (now (high .entry))) j ⌝ }
 {
     if shape.intervals <= j {
         return Wish::Unset;
     }
-    if !is_zero(goals[j]) {
+    if !is_zero(low[j]) {
         return Wish::Unset;
     }
-    mean_beside(shape, coefficients, lower, upper, goals, j)
+    mean_beside(shape, coefficients, lower, upper, low, high, j)
 }
 
 // Fills the two lists of ideals, whether one is set and the number, for as many columns as they have room for.
@@ -134,20 +136,21 @@ pub fn hand_in(
     coefficients: &[i64],
     lower: &[i64],
     upper: &[i64],
-    goals: &[i64],
+    low: &[i64],
+    high: &[i64],
     given: &mut [i64],
     ideals: &mut [i64],
 )
-    requires { ⌜ LongEnough (shape .columns) (shape .rows) (shape .intervals) (now coefficients) (now lower) (now upper) (now goals)
-        × SmallColumns (shape .intervals) (now lower) (now upper) (now goals) × (length (now ideals) ≡ length (now given)) ⌝ }
+    requires { ⌜ LongEnough (shape .columns) (shape .rows) (shape .intervals) (now coefficients) (now lower) (now upper) (now low) (now high)
+        × SmallColumns (shape .intervals) (now lower) (now upper) (now low) (now high) × (length (now ideals) ≡ length (now given)) ⌝ }
     ensures { λ _. ⌜ (now (given .exit) ≡ givenOf (statedBy (shape .columns) (shape .rows) (shape .intervals) (now (coefficients .entry))
-        (now (lower .entry)) (now (upper .entry)) (now (goals .entry))) (length (now (given .entry))))
+        (now (lower .entry)) (now (upper .entry)) (now (low .entry)) (now (high .entry))) (length (now (given .entry))))
         × (now (ideals .exit) ≡ idealsOf (statedBy (shape .columns) (shape .rows) (shape .intervals) (now (coefficients .entry))
-        (now (lower .entry)) (now (upper .entry)) (now (goals .entry))) (length (now (given .entry)))) ⌝ }
+        (now (lower .entry)) (now (upper .entry)) (now (low .entry)) (now (high .entry))) (length (now (given .entry)))) ⌝ }
 {
     let mut j = 0;
     while j < given.len() {
-        let wish = neighbour_wish(shape, coefficients, lower, upper, goals, j);
+        let wish = neighbour_wish(shape, coefficients, lower, upper, low, high, j);
         given[j] = wish_mark(wish);
         ideals[j] = wish_number(wish);
         j += 1;

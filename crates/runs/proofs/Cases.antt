@@ -47,7 +47,7 @@ three x y z = x ∷ y ∷ z ∷ []
 
 -- columns with no ideal handed in
 abbrev plain : ℕ → List ℤ → List ℤ → List ℤ → Columns
-plain n lo hi gs = listed n lo hi gs (zeros n) (zeros n)
+plain n lo hi gs = listed n lo hi gs gs (zeros n) (zeros n)
 
 abbrev pulled : Columns
 pulled = plain 2 (two (pos 1) (pos 5)) (two (pos 10) (pos 10)) (two (pos 0) (pos 0))

@@ -21,8 +21,8 @@ use Rattle.engine.proofs.continue_from.Tie as tie
 
 module _ (a : tie.Start) where
   abbrev P : Posed
-  P = posedBy (a .args .p) (a .args .coefficients .now) (a .args .rights .now) (a .args .lower .now) (a .args .upper .now) (a .args .goals .now)
-      (a .args .given .now) (a .args .ideals .now)
+  P = posedBy (a .args .p) (a .args .coefficients .now) (a .args .rights .now) (a .args .lower .now) (a .args .upper .now)
+      (a .args .low .now) (a .args .high .now) (a .args .given .now) (a .args .ideals .now)
 
   abbrev B : Buffers
   B = buffers (a .args .tableau .now) (a .args .values .now) (a .args .strides .now)
@@ -33,10 +33,10 @@ module _ (g : tie.After-lay-ground) where
   under = g .before .before .before .before .before
 
   abbrev tableau : List ℤ
-  tableau = g .lay-ground .last .1 .1 .1 .1 .1 .1 .1 .1 .1 .1 .0
+  tableau = g .lay-ground .last .1 .1 .1 .1 .1 .1 .1 .1 .1 .1 .1 .0
 
   abbrev cells-left : List ℤ
-  cells-left = g .lay-ground .last .1 .1 .1 .1 .1 .1 .1 .1 .1 .1 .1 .0
+  cells-left = g .lay-ground .last .1 .1 .1 .1 .1 .1 .1 .1 .1 .1 .1 .1 .0
 
 -- where it refuses nothing
 module _ (w : tie.After-enum-told) where
@@ -55,7 +55,7 @@ module _ (w : tie.After-enum-told) where
   fit = clear-fits _ _ _ _ found
 
   room : cells (P at) ≤ length (cells-left over)
-  room = omega (arith, fit .few-columns, over .lay-ground .kept .1 .1 .1 .1 .1 .1 .1 .1 .1 .1 .1 .0)
+  room = omega (arith, fit .few-columns, over .lay-ground .kept .1 .1 .1 .1 .1 .1 .1 .1 .1 .1 .1 .1 .0)
 
   packed : take (cells (P at)) (cells-left over) ≡ table (P at)
   packed = over .lay-ground .ensures .1 .is (w .enum-told .given .1)

@@ -16,18 +16,18 @@ use Rattle.neighbours.proofs.hand_in.Statement.{statement}
 use Rattle.neighbours.proofs.hand_in.Tie as tie
 
 abbrev Inv-loop : tie.InvT-loop
-Inv-loop shape coefficients lower upper goals given₀ ideals₀ j₀ given ideals j =
-    let S = statedBy (shape .columns) (shape .rows) (shape .intervals) coefficients lower upper goals in
+Inv-loop shape coefficients lower upper low high given₀ ideals₀ j₀ given ideals j =
+    let S = statedBy (shape .columns) (shape .rows) (shape .intervals) coefficients lower upper low high in
     WrittenTo given₀ (givenOf S (length given₀)) given j × WrittenTo ideals₀ (idealsOf S (length given₀)) ideals j
 
 abbrev μ-loop : tie.MeasureT-loop
-μ-loop shape coefficients lower upper goals given₀ ideals₀ j₀ given ideals j = length given₀ - j
+μ-loop shape coefficients lower upper low high given₀ ideals₀ j₀ given ideals j = length given₀ - j
 
 -- the lists that are lent
 abbrev stated : tie.Start Inv-loop μ-loop → Stated
 stated s =
     statedBy (s .args .shape .columns) (s .args .shape .rows) (s .args .shape .intervals) (s .args .coefficients .now) (s .args .lower .now)
-    (s .args .upper .now) (s .args .goals .now)
+    (s .args .upper .now) (s .args .low .now) (s .args .high .now)
 
 -- how many columns are to be written
 abbrev room : tie.Start Inv-loop μ-loop → ℕ

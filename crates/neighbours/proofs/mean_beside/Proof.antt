@@ -12,25 +12,26 @@ use Rattle.whole.specs.Lists.{entry}
 use Rattle.whole.specs.Tests.{isZero}
 use Rattle.whole.proofs.Signed.{back, sfits-abs}
 use Rattle.problem.specs.Limits.{maxColumns, maxBound}
-use Rattle.settling.specs.Ideals.{into, goalIdeal}
+use Rattle.goals.specs.Ideals.{goalIdeal}
+use Rattle.settling.specs.Ideals.{into}
 use Rattle.neighbours.specs.Neighbours.{Stated, statedBy, hasGoal, idealOf, shares, isNeighbour}
 use Rattle.neighbours.proofs.Laws.{Summed, summed-none, summed-skip, summed-more, summed-all, ideal-within}
 use Rattle.neighbours.proofs.mean_beside.Statement.{statement}
 use Rattle.neighbours.proofs.mean_beside.Tie as tie
 
 abbrev Inv-loop : tie.InvT-loop
-Inv-loop shape coefficients lower upper goals j sum₀ count₀ h₀ sum count h =
-    let S = statedBy (shape .columns) (shape .rows) (shape .intervals) coefficients lower upper goals in
+Inv-loop shape coefficients lower upper low high j sum₀ count₀ h₀ sum count h =
+    let S = statedBy (shape .columns) (shape .rows) (shape .intervals) coefficients lower upper low high in
     Summed (isNeighbour S j) (idealOf S) (shape .intervals) h (toZ w64 sum) count
 
 abbrev μ-loop : tie.MeasureT-loop
-μ-loop shape coefficients lower upper goals j sum₀ count₀ h₀ sum count h = h
+μ-loop shape coefficients lower upper low high j sum₀ count₀ h₀ sum count h = h
 
 -- the lists that are lent
 abbrev stated : tie.Start Inv-loop μ-loop → Stated
 stated s =
     statedBy (s .args .shape .columns) (s .args .shape .rows) (s .args .shape .intervals) (s .args .coefficients .now) (s .args .lower .now)
-    (s .args .upper .now) (s .args .goals .now)
+    (s .args .upper .now) (s .args .low .now) (s .args .high .now)
 
 -- the turn of column h − 1, and what it is to the loop
 module _ (c : tie.In-loop Inv-loop μ-loop) where
@@ -58,7 +59,7 @@ goal-tested : (c : tie.After-is-zero Inv-loop μ-loop) →
     hasGoal (stated (from w)) (column w) ≡ not (c .is-zero .result)
 goal-tested c =
     let w = c .before .before in
-    sym (ap not (c .is-zero .ensures ∙ ap isZero (back (entry (column w) (from w .args .goals .now)) (c .before .goal .given))))
+    sym (ap not (c .is-zero .ensures ∙ ap isZero (back (entry (column w) (from w .args .low .now)) (c .before .goal .given))))
 
 row-tested : (c : tie.After-share-row Inv-loop μ-loop) →
     let w = c .before .before .before .before in
@@ -75,16 +76,18 @@ entered c = c .before .before .before .before .before
 -- and its ideal
 module _ (c : tie.After-ideal-of Inv-loop μ-loop) where
   abbrev turn : tie.In-loop Inv-loop μ-loop
-  turn = entered (c .before .before .before)
+  turn = entered (c .before .before .before .before)
 
   ideal-is : c .ideal-of .result ≡ idealOf (stated (from turn)) (column turn)
   ideal-is =
-      let a = c .before .before in
+      let u = c .before .before in
+      let a = u .before in
       let s = from turn in
       c .ideal-of .ensures
       ∙ (λ i. into (back (entry (column turn) (s .args .lower .now)) (a .ideal-of-arg .given) i)
-      (back (entry (column turn) (s .args .upper .now)) (c .before .ideal-of-arg2 .given) i)
-      (pos (goalIdeal (natAbs (back (entry (column turn) (s .args .goals .now)) (a .before .before .before .before .before .goal .given) i)))))
+      (back (entry (column turn) (s .args .upper .now)) (u .ideal-of-arg2 .given) i)
+      (pos (goalIdeal (natAbs (back (entry (column turn) (s .args .low .now)) (a .before .before .before .before .before .goal .given) i))
+      (natAbs (back (entry (column turn) (s .args .high .now)) (c .before .ideal-of-arg3 .given) i)))))
 
   ideal-small : natAbs (idealOf (stated (from turn)) (column turn)) ≤ maxBound
   ideal-small =
@@ -98,7 +101,7 @@ module _ (c : tie.After-ideal-of Inv-loop μ-loop) where
   more : Summed (isNeighbour (stated (from turn)) (from turn .args .j)) (idealOf (stated (from turn))) (from turn .args .shape .intervals)
       (column turn) (toZ w64 (turn .before .loop .sum) +ℤ idealOf (stated (from turn)) (column turn)) (turn .before .loop .count + 1)
   more =
-      let a = c .before .before .before in
+      let a = c .before .before .before .before in
       summed-more (isNeighbour (stated (from turn)) (from turn .args .j)) (idealOf (stated (from turn))) (from turn .args .shape .intervals)
       (turn .before .loop .h) (toZ w64 (turn .before .loop .sum)) (turn .before .loop .count) (left turn)
       (row-tested (a .before) ∙ a .if2 .taken) ideal-small (turn .before .loop .inv)
@@ -118,7 +121,7 @@ mul-goal : tie.Need-mul-goal Inv-loop μ-loop
 mul-goal c = omega (arith, few c)
 
 shared-slice-copy-out-goal : tie.Need-shared-slice-copy-out-goal Inv-loop μ-loop
-shared-slice-copy-out-goal c = omega (arith, lists c, c .before .before .pre .0 .goals)
+shared-slice-copy-out-goal c = omega (arith, lists c, c .before .before .pre .0 .low)
 
 is-zero-requires : tie.Need-is-zero-requires Inv-loop μ-loop
 is-zero-requires c κs = search needs
@@ -145,11 +148,22 @@ shared-slice-copy-out-ideal-of-2 c =
     let w = entered (c .before) in
     omega (arith, lists w, from w .pre .0 .upper)
 
+mul-ideal-of-3 : tie.Need-mul-ideal-of-3 Inv-loop μ-loop
+mul-ideal-of-3 c = omega (arith, few (entered (c .before .before)))
+
+shared-slice-copy-out-ideal-of-3 : tie.Need-shared-slice-copy-out-ideal-of-3 Inv-loop μ-loop
+shared-slice-copy-out-ideal-of-3 c =
+    let w = entered (c .before .before) in
+    omega (arith, lists w, from w .pre .0 .high)
+
 ideal-of-requires : tie.Need-ideal-of-requires Inv-loop μ-loop
 ideal-of-requires c κs =
-    let g = c .before .before .before .before .before .before in
+    let g = c .before .before .before .before .before .before .before in
     let w = g .before in
-    rw (back _ (g .goal .given)) (from w .pre .1 .goals (column w) (interval w))
+    let q = from w .pre .1 in (
+      rw (back _ (g .goal .given)) (q .low (column w) (interval w)),
+      rw (back _ (c .ideal-of-arg3 .given)) (q .high (column w) (interval w)),
+    )
 
 add-sum : tie.Need-add-sum Inv-loop μ-loop
 add-sum c = sum-fits c
@@ -215,6 +229,8 @@ mean-beside-spec =
     shared-slice-copy-out-ideal-of
     mul-ideal-of-2
     shared-slice-copy-out-ideal-of-2
+    mul-ideal-of-3
+    shared-slice-copy-out-ideal-of-3
     ideal-of-requires
     add-sum
     add-count

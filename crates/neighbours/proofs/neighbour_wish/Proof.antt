@@ -15,15 +15,15 @@ use Rattle.neighbours.proofs.neighbour_wish.Tie as tie
 abbrev stated : tie.Start → Stated
 stated s =
     statedBy (s .args .shape .columns) (s .args .shape .rows) (s .args .shape .intervals) (s .args .coefficients .now) (s .args .lower .now)
-    (s .args .upper .now) (s .args .goals .now)
+    (s .args .upper .now) (s .args .low .now) (s .args .high .now)
 
 -- what the test says of column j's goal
 module _ (c : tie.After-is-zero) where
   abbrev from : tie.Start
   from = c .before .before .before .before
 
-  goal-tested : isZero (stated from .goal (from .args .j)) ≡ c .is-zero .result
-  goal-tested = sym (c .is-zero .ensures ∙ ap isZero (back (entry (from .args .j) (from .args .goals .now)) (c .before .is-zero-arg .given)))
+  goal-tested : isZero (stated from .low (from .args .j)) ≡ c .is-zero .result
+  goal-tested = sym (c .is-zero .ensures ∙ ap isZero (back (entry (from .args .j) (from .args .low .now)) (c .before .is-zero-arg .given)))
 
 returns : tie.Need-returns
 returns c =

@@ -23,8 +23,8 @@ use Rattle.engine.proofs.ground.lay_ground.Tie as tie
 
 module _ (a : tie.Start) where
   abbrev P : Posed
-  P = posedBy (a .args .p) (a .args .coefficients .now) (a .args .rights .now) (a .args .lower .now) (a .args .upper .now) (a .args .goals .now)
-      (a .args .given .now) (a .args .ideals .now)
+  P = posedBy (a .args .p) (a .args .coefficients .now) (a .args .rights .now) (a .args .lower .now) (a .args .upper .now)
+      (a .args .low .now) (a .args .high .now) (a .args .given .now) (a .args .ideals .now)
 
 -- a problem that the checks have passed
 module _ (w : tie.After-enum-told) where

@@ -36,7 +36,9 @@ module _ (s : tie.Start) where
   after-columns = orNext (idealLengthsFit (s .args .p) (s .args .given .now) (s .args .ideals .now)) Length after-ideals
 
   abbrev after-rows : Check
-  after-rows = orNext (columnLengthsFit (s .args .p) (s .args .lower .now) (s .args .upper .now) (s .args .low .now) (s .args .high .now)) Length after-columns
+  after-rows =
+      orNext (columnLengthsFit (s .args .p) (s .args .lower .now) (s .args .upper .now) (s .args .low .now) (s .args .high .now)) Length
+      after-columns
 
   abbrev after-sizes : Check
   after-sizes = orNext (rowLengthsFit (s .args .p) (s .args .coefficients .now) (s .args .rights .now)) Length after-rows
