@@ -16,5 +16,6 @@ pub mod Verdicts
 pub mod Satisfied
 pub mod Demand
 pub mod Handed
+pub mod OneGoal
 pub mod Stride
 pub mod Leaving

@@ -6,6 +6,7 @@ pub mod Finish
 pub mod Standing
 pub mod Demand
 pub mod Handed
+pub mod OneGoal
 pub mod Outcomes
 pub mod Stride
 pub mod Preview

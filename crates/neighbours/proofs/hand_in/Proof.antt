@@ -92,8 +92,8 @@ slice-set-from-ideals c = c .before .before .loop-test .taken
 wish-number-requires : tie.Need-wish-number-requires Inv-loop μ-loop
 wish-number-requires c κs = search needs
 
-mul-t10 : tie.Need-mul-t10 Inv-loop μ-loop
-mul-t10 c = search needs
+mul-t11 : tie.Need-mul-t11 Inv-loop μ-loop
+mul-t11 c = search needs
 
 slice-set-from-ideals-2 : tie.Need-slice-set-from-ideals-2 Inv-loop μ-loop
 slice-set-from-ideals-2 c =
@@ -144,7 +144,7 @@ hand-in-spec =
     mul-ideals
     slice-set-from-ideals
     wish-number-requires
-    mul-t10
+    mul-t11
     slice-set-from-ideals-2
     add-j
     loop-less
