@@ -17,22 +17,23 @@ use Rattle.neighbours.specs.Neighbours.{Stated, statedBy, neighbourWish, number
 use Rattle.neighbours.specs.Beside.{SmallColumns}
 use Rattle.neighbours.proofs.Laws.{wish-past, numbers-length, numbers-past}
 use Rattle.sections.specs.Sections.{deckColumns}
-use Rattle.sections.specs.StatedColumns.{lowerOf, upperOf, goalOf, slackColumns, padded}
+use Rattle.sections.specs.StatedColumns.{lowerOf, upperOf, lowOf, highOf, slackColumns, padded}
 use Rattle.sections.specs.declared.Interval.{Interval}
 use Rattle.sections.proofs.Limits.{Within}
-use Rattle.deck.specs.Posing.{Deck, allLines, lowers, uppers, goals}
+use Rattle.deck.specs.Posing.{Deck, allLines, lowers, uppers, lows, highs}
 use Rattle.deck.proofs.Lists.{entry-padded, entry-front}
 
-pub stated-padded : (n m k a b : ℕ) (c lo hi gs : List ℤ)
-    → statedBy n m k (padded a c) (padded b lo) (padded b hi) (padded b gs) ≡ statedBy n m k c lo hi gs
-stated-padded n m k a b c lo hi gs =
+pub stated-padded : (n m k a b : ℕ) (c lo hi gs hs : List ℤ)
+    → statedBy n m k (padded a c) (padded b lo) (padded b hi) (padded b gs) (padded b hs) ≡ statedBy n m k c lo hi gs hs
+stated-padded n m k a b c lo hi gs hs =
     (λ i. record {
       rows = m;
       intervals = k;
       coefficient = λ r j. entry-padded a (r * n + j) c i;
       lower = λ j. entry-padded b j lo i;
       upper = λ j. entry-padded b j hi i;
-      goal = λ j. entry-padded b j gs i;
+      low = λ j. entry-padded b j gs i;
+      high = λ j. entry-padded b j hs i;
     })
 
 -- ---- the first columns
@@ -42,13 +43,15 @@ small-front f most size u v h j l =
     subst (λ (x : ℤ). natAbs x ≤ most) (sym (entry-padded size j (map f (u ++ v)) ∙ entry-front f u v j l)) (h j)
 
 pub small-columns : (size : ℕ) (d : Deck) → Within (d .intervals)
-    → SmallColumns (length (d .intervals)) (padded size (lowers d)) (padded size (uppers d)) (padded size (goals d))
+    → SmallColumns (length (d .intervals)) (padded size (lowers d)) (padded size (uppers d)) (padded size (lows d))
+    (padded size (highs d))
 small-columns size d w =
     let ys = slackColumns (allLines d) in
     record {
-      lower = small-front lowerOf _ size (d .intervals) ys (w .lower);
-      upper = small-front upperOf _ size (d .intervals) ys (w .upper);
-      goals = small-front goalOf _ size (d .intervals) ys (w .goals);
+      lower = small-front lowerOf _ size (d .intervals) ys (λ j. w .each j .lower-small);
+      upper = small-front upperOf _ size (d .intervals) ys (λ j. w .each j .upper-small);
+      low = small-front lowOf _ size (d .intervals) ys (λ j. w .each j .low-small);
+      high = small-front highOf _ size (d .intervals) ys (λ j. w .each j .high-small);
     }
 
 -- ---- nothing is handed in past the intervals

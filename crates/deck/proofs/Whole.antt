@@ -37,14 +37,14 @@ use Rattle.neighbours.specs.Neighbours.{statedBy, givenOf, idealsOf}
 use Rattle.neighbours.specs.Beside.{LongEnough, SmallColumns}
 use Rattle.sections.specs.Rules.{Outcome, ok, no, then, onEnd, closed}
 use Rattle.sections.specs.Sections.{deckColumns, deckRows, coefficientCount, maxText, Line, intervalSection, rowSection}
-use Rattle.sections.specs.StatedColumns.{lowerOf, upperOf, goalOf, rightOf, slackColumns, coefficientRows}
+use Rattle.sections.specs.StatedColumns.{lowerOf, upperOf, lowOf, highOf, rightOf, slackColumns, coefficientRows}
 use Rattle.sections.specs.StatedColumns.{columnWidth, columnCells, cell, cells, padded}
 use Rattle.sections.specs.SectionsRead.{cursor, IntervalsDone, intervalsDone, intervalsLeft, RowsDone, rowsDone, rowsLeft}
 use Rattle.sections.specs.declared.Interval.{Interval}
 use Rattle.sections.specs.declared.Cursor.{Cursor}
 use Rattle.sections.specs.declared.Section.{Section}
 use Rattle.sections.specs.declared.Section.the-variants as section
-use Rattle.deck.specs.Posing.{Deck, deck, readDeck, columnsOf, allLines, countOf, coefficientsOf, lowers, uppers, goals, stated, posed}
+use Rattle.deck.specs.Posing.{Deck, deck, readDeck, columnsOf, allLines, countOf, coefficientsOf, lowers, uppers, lows, highs, stated, posed}
 use Rattle.deck.specs.Reader.{DeckBuffers, deckBuffers, readDone, lengthsFit, turnedBack, accepted, read}
 use Rattle.deck.specs.ReaderTables.{noneLeft, DeckStored, compacted, picked}
 use Rattle.deck.specs.declared.Reading.the-variants.{Read}
@@ -338,7 +338,8 @@ pub record Largest (B : DeckBuffers) : Type 0 where
   pub rights : length (B .rights) ≡ deckRows
   pub lower : length (B .lower) ≡ deckColumns
   pub upper : length (B .upper) ≡ deckColumns
-  pub goals : length (B .goals) ≡ deckColumns
+  pub low : length (B .low) ≡ deckColumns
+  pub high : length (B .high) ≡ deckColumns
   pub given : length (B .given) ≡ deckColumns
   pub ideals : length (B .ideals) ≡ deckColumns
 
@@ -348,14 +349,16 @@ sizes B h =
     let b = both-true (eqb (length (B .rights)) deckRows) _ (a .1) in
     let c = both-true (eqb (length (B .lower)) deckColumns) _ (b .1) in
     let d = both-true (eqb (length (B .upper)) deckColumns) _ (c .1) in
-    let g = both-true (eqb (length (B .goals)) deckColumns) _ (d .1) in
-    let x = both-true (eqb (length (B .given)) deckColumns) _ (g .1) in
+    let g = both-true (eqb (length (B .low)) deckColumns) _ (d .1) in
+    let i = both-true (eqb (length (B .high)) deckColumns) _ (g .1) in
+    let x = both-true (eqb (length (B .given)) deckColumns) _ (i .1) in
     record {
       coefficients = eqb-true (length (B .coefficients)) (coefficientCount) (a .0);
       rights = eqb-true (length (B .rights)) deckRows (b .0);
       lower = eqb-true (length (B .lower)) deckColumns (c .0);
       upper = eqb-true (length (B .upper)) deckColumns (d .0);
-      goals = eqb-true (length (B .goals)) deckColumns (g .0);
+      low = eqb-true (length (B .low)) deckColumns (g .0);
+      high = eqb-true (length (B .high)) deckColumns (i .0);
       given = eqb-true (length (B .given)) deckColumns (x .0);
       ideals = eqb-true (length (B .ideals)) deckColumns (x .1);
     }
@@ -380,22 +383,24 @@ table-is o o₁ o₂ t n m c ls a h k q e f x =
     from-blank coefficientCount o₁ o₂ (coefficientRows n c ls) s (wiped coefficientCount o o₁ a e) (f ∙ ap (overwritten o₁ 0) y)
 
 -- lent lists that a deck's tables went out into
-pub record Holds (d : Deck) (c b l u g : List ℤ) : Type 0 where
+pub record Holds (d : Deck) (c b l u g h : List ℤ) : Type 0 where
   pub coefficients : c ≡ padded coefficientCount (coefficientsOf d)
   pub rights : b ≡ padded deckRows (map rightOf (allLines d))
   pub lower : l ≡ padded deckColumns (lowers d)
   pub upper : u ≡ padded deckColumns (uppers d)
-  pub goals : g ≡ padded deckColumns (goals d)
+  pub low : g ≡ padded deckColumns (lows d)
+  pub high : h ≡ padded deckColumns (highs d)
 
 module _ (s : List ℕ) (c : Cursor) (k b t : List ℤ) (st : DeckStored (deck s) c k b t) where
   few : countOf (st .deck) ≤ deckColumns
   few = omega (arith, st .few, st .columns)
 
   -- the tables k, b and t went out into lent lists of the largest size
-  pub holds : (B : DeckBuffers) (o₁ c' b' l' u' g' : List ℤ) → lengthsFit B ≡ true → o₁ ≡ zeros (length (B .coefficients))
+  pub holds : (B : DeckBuffers) (o₁ c' b' l' u' g' h' : List ℤ) → lengthsFit B ≡ true → o₁ ≡ zeros (length (B .coefficients))
       → c' ≡ overwritten o₁ 0 (compacted (c .columns) (c .rows) 0 t) → b' ≡ b
-      → l' ≡ picked 0 deckColumns k → u' ≡ picked 1 deckColumns k → g' ≡ picked 2 deckColumns k → Holds (st .deck) c' b' l' u' g'
-  holds B o₁ c' b' l' u' g' f e₁ e₂ eb el eu eg =
+      → l' ≡ picked 0 deckColumns k → u' ≡ picked 1 deckColumns k → g' ≡ picked 2 deckColumns k → h' ≡ picked 3 deckColumns k
+      → Holds (st .deck) c' b' l' u' g' h'
+  holds B o₁ c' b' l' u' g' h' f e₁ e₂ eb el eu eg eh =
       let d = st .deck in
       let i : ℕ = length (d .intervals) in
       record {
@@ -407,12 +412,13 @@ module _ (s : List ℕ) (c : Cursor) (k b t : List ℤ) (st : DeckStored (deck s
         rights = eb ∙ st .rights-is;
         lower = column-is 0 lowerOf (λ i r. refl) k l' (columnsOf d) few (st .columns-is) el;
         upper = column-is 1 upperOf (λ i r. refl) k u' (columnsOf d) few (st .columns-is) eu;
-        goals = column-is 2 goalOf (λ i r. refl) k g' (columnsOf d) few (st .columns-is) eg;
+        low = column-is 2 lowOf (λ i r. refl) k g' (columnsOf d) few (st .columns-is) eg;
+        high = column-is 3 highOf (λ i r. refl) k h' (columnsOf d) few (st .columns-is) eh;
       }
 
-  module _ (c' b' l' u' g' : List ℤ) (q : Holds (st .deck) c' b' l' u' g') where
+  module _ (c' b' l' u' g' h' : List ℤ) (q : Holds (st .deck) c' b' l' u' g' h') where
     -- what is asked of them where ideals are handed in
-    pub sized : LongEnough (c .columns) (c .rows) (c .intervals) c' l' u' g'
+    pub sized : LongEnough (c .columns) (c .rows) (c .intervals) c' l' u' g' h'
     sized =
         let d = st .deck in
         record {
@@ -428,26 +434,26 @@ module _ (s : List ℕ) (c : Cursor) (k b t : List ℤ) (st : DeckStored (deck s
               );
           lower = omega (arith, st .few, ap length (q .lower), padded-long deckColumns (lowers d));
           upper = omega (arith, st .few, ap length (q .upper), padded-long deckColumns (uppers d));
-          goals = omega (arith, st .few, ap length (q .goals), padded-long deckColumns (goals d));
+          low = omega (arith, st .few, ap length (q .low), padded-long deckColumns (lows d));
+          high = omega (arith, st .few, ap length (q .high), padded-long deckColumns (highs d));
         }
 
-    pub small : SmallColumns (c .intervals) l' u' g'
+    pub small : SmallColumns (c .intervals) l' u' g' h'
     small =
-        rw (st .intervals, q .lower, q .upper, q .goals) (small-columns deckColumns (st .deck) (deck-within s (st .deck) (c .at) (st .read)))
+        rw (st .intervals, q .lower, q .upper, q .low, q .high) (small-columns deckColumns (st .deck) (deck-within s (st .deck) (c .at) (st .read)))
 
     -- they state what the deck states
-    states : statedBy (c .columns) (c .rows) (c .intervals) c' l' u' g' ≡ stated (st .deck)
+    states : statedBy (c .columns) (c .rows) (c .intervals) c' l' u' g' h' ≡ stated (st .deck)
     states =
         let d = st .deck in
-        (λ i. statedBy (st .columns i) (st .rows i) (st .intervals i) (q .coefficients i) (q .lower i) (q .upper i) (q .goals i))
+        (λ i. statedBy (st .columns i) (st .rows i) (st .intervals i) (q .coefficients i) (q .lower i) (q .upper i) (q .low i) (q .high i))
         ∙ stated-padded (countOf d) (length (allLines d)) (length (d .intervals)) coefficientCount deckColumns (coefficientsOf d) (lowers d)
-        (uppers d)
-        (goals d)
+        (uppers d) (lows d) (highs d)
 
     pub accepting : (B : DeckBuffers) (a' x' : List ℤ) → lengthsFit B ≡ true → length s ≤ maxText
-        → a' ≡ givenOf (statedBy (c .columns) (c .rows) (c .intervals) c' l' u' g') (length (B .given))
-        → x' ≡ idealsOf (statedBy (c .columns) (c .rows) (c .intervals) c' l' u' g') (length (B .given))
-        → readDone (Read (c .columns) (c .rows) (c .intervals)) (deckBuffers c' b' l' u' g' a' x') ≡ read s B
+        → a' ≡ givenOf (statedBy (c .columns) (c .rows) (c .intervals) c' l' u' g' h') (length (B .given))
+        → x' ≡ idealsOf (statedBy (c .columns) (c .rows) (c .intervals) c' l' u' g' h') (length (B .given))
+        → readDone (Read (c .columns) (c .rows) (c .intervals)) (deckBuffers c' b' l' u' g' h' a' x') ≡ read s B
     unfolding posed
     accepting B a' x' f h ea ex =
         let d = st .deck in
@@ -456,5 +462,5 @@ module _ (s : List ℕ) (c : Cursor) (k b t : List ℤ) (st : DeckStored (deck s
         let pa = ea ∙ (λ i. givenOf (states i) (z i)) ∙ given-padded (stated d) (countOf d) front few in
         let px = ex ∙ (λ i. idealsOf (states i) (z i)) ∙ ideals-padded (stated d) (countOf d) front few in
         (λ i. readDone (Read (st .columns i) (st .rows i) (st .intervals i))
-        (deckBuffers (q .coefficients i) (q .rights i) (q .lower i) (q .upper i) (q .goals i) (pa i) (px i))) ∙
+        (deckBuffers (q .coefficients i) (q .rights i) (q .lower i) (q .upper i) (q .low i) (q .high i) (pa i) (px i))) ∙
         sym (read-is s B d (c .at) f h (st .read))

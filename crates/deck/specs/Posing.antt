@@ -4,7 +4,7 @@
 --   readDeck s      the deck that the text s states, or the refusal of its first place that breaks a rule
 --   allLines d      the rows: the lines, and "after all rows so far" those that the volumes add
 --   columnsOf d     the columns: the intervals, then the y of each row that has one; countOf d, how many
---   coefficientsOf, lowers, uppers, goals d   the lists that the deck states, of just the lengths that n and m need
+--   coefficientsOf, lowers, uppers, lows, highs d   the lists that the deck states, of just the lengths that n and m need
 --   stated d        what it states of its rows and columns
 --   posed limit d   the problem: these lists, and "the reader gives such an interval an ideal"
 -- Assumes nothing.
@@ -21,7 +21,7 @@ use Rattle.sections.specs.Rules.{Outcome, no, then, closed}
 use Rattle.sections.specs.Sections.{maxText, Line, intervalSection, rowSection}
 use Rattle.volumes.specs.Volumes.{Volume, volumeSection}
 use Rattle.volumes.specs.PathLines.{sweptLines}
-use Rattle.sections.specs.StatedColumns.{slackColumns, coefficientRows, lowerOf, upperOf, goalOf, rightOf}
+use Rattle.sections.specs.StatedColumns.{slackColumns, coefficientRows, lowerOf, upperOf, lowOf, highOf, rightOf}
 use Rattle.sections.specs.declared.Interval.{Interval}
 
 pub record Deck : Type 0 where
@@ -58,11 +58,15 @@ lowers d = map lowerOf (columnsOf d)
 abbrev pub uppers : Deck → List ℤ
 uppers d = map upperOf (columnsOf d)
 
-abbrev pub goals : Deck → List ℤ
-goals d = map goalOf (columnsOf d)
+abbrev pub lows : Deck → List ℤ
+lows d = map lowOf (columnsOf d)
+
+abbrev pub highs : Deck → List ℤ
+highs d = map highOf (columnsOf d)
 
 abbrev pub stated : Deck → Stated
-stated d = statedBy (countOf d) (length (allLines d)) (length (d .intervals)) (coefficientsOf d) (lowers d) (uppers d) (goals d)
+stated d =
+    statedBy (countOf d) (length (allLines d)) (length (d .intervals)) (coefficientsOf d) (lowers d) (uppers d) (lows d) (highs d)
 
 unfoldable pub posed : ℕ → Deck → Posed
 posed limit d = record {
@@ -71,7 +75,8 @@ posed limit d = record {
   rights = map rightOf (allLines d);
   lower = lowers d;
   upper = uppers d;
-  goals = goals d;
+  low = lows d;
+  high = highs d;
   given = givenOf (stated d) (countOf d);
   ideals = idealsOf (stated d) (countOf d);
 }

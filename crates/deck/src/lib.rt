@@ -4,7 +4,6 @@ mod tables;
 use neighbours::Shape;
 use neighbours::hand_in;
 use problem::Refusal;
-use sections::Interval;
 use sections::Section;
 use sections::Sizes;
 use sections::intervals::read_intervals;
@@ -33,11 +32,12 @@ fn lengths_fit(
     rights: usize,
     lower: usize,
     upper: usize,
-    goals: usize,
+    low: usize,
+    high: usize,
     given: usize,
     ideals: usize,
 ) -> bool
-    ensures { λ r. ⌜ r ≡ largest coefficients rights lower upper goals given ideals ⌝ }
+    ensures { λ r. ⌜ r ≡ largest coefficients rights lower upper low high given ideals ⌝ }
 {
     if coefficients != Sizes::COEFFICIENTS {
         return false;
@@ -51,7 +51,10 @@ fn lengths_fit(
     if upper != Sizes::COLUMNS {
         return false;
     }
-    if goals != Sizes::COLUMNS {
+    if low != Sizes::COLUMNS {
+        return false;
+    }
+    if high != Sizes::COLUMNS {
         return false;
     }
     if given != Sizes::COLUMNS {
@@ -108,23 +111,25 @@ pub fn read_deck(
     rights: &mut [i64],
     lower: &mut [i64],
     upper: &mut [i64],
-    goals: &mut [i64],
+    low: &mut [i64],
+    high: &mut [i64],
     given: &mut [i64],
     ideals: &mut [i64],
 ) -> Reading
     ensures { λ r. ⌜ readDone r
-        (deckBuffers (now (coefficients .exit)) (now (rights .exit)) (now (lower .exit)) (now (upper .exit)) (now (goals .exit))
-        (now (given .exit)) (now (ideals .exit)))
+        (deckBuffers (now (coefficients .exit)) (now (rights .exit)) (now (lower .exit)) (now (upper .exit)) (now (low .exit))
+        (now (high .exit)) (now (given .exit)) (now (ideals .exit)))
         ≡ read (now (text .entry))
-        (deckBuffers (now (coefficients .entry)) (now (rights .entry)) (now (lower .entry)) (now (upper .entry)) (now (goals .entry))
-        (now (given .entry)) (now (ideals .entry))) ⌝ }
+        (deckBuffers (now (coefficients .entry)) (now (rights .entry)) (now (lower .entry)) (now (upper .entry)) (now (low .entry))
+        (now (high .entry)) (now (given .entry)) (now (ideals .entry))) ⌝ }
 {
     if !lengths_fit(
         coefficients.len(),
         rights.len(),
         lower.len(),
         upper.len(),
-        goals.len(),
+        low.len(),
+        high.len(),
         given.len(),
         ideals.len(),
     ) {
@@ -141,9 +146,7 @@ pub fn read_deck(
         Section::Read(c) => {
             let n = c.columns;
             let m = c.rows;
-            tables::pick(&k, Interval::LOWER, lower);
-            tables::pick(&k, Interval::UPPER, upper);
-            tables::pick(&k, Interval::GOAL, goals);
+            tables::pick_columns(&k, lower, upper, low, high);
             copy(rights, &b);
             wipe(coefficients);
             tables::compact(&t, n, m, coefficients);
@@ -152,7 +155,7 @@ pub fn read_deck(
                 rows: m,
                 intervals: c.intervals,
             };
-            hand_in(shape, coefficients, lower, upper, goals, given, ideals);
+            hand_in(shape, coefficients, lower, upper, low, high, given, ideals);
             Reading::Read(n, m, c.intervals)
         }
         Section::Refused(why) => Reading::Refused(why),

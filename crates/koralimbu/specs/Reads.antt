@@ -2,7 +2,7 @@
 --   readingNumber r   0 for a text that is read, or the refusal's number
 --   sizesOf r         the sizesLength numbers that tell of r: n, m, and how many of the n columns are intervals; 0s with a refusal
 --   ReadCalled        what the call returns, and what the buffers that it fills and the sizes then hold; `readReturned` makes one of the three
---   readTold d        of a reader that has done d: the number, the seven buffers of a problem, and the sizes
+--   readTold d        of a reader that has done d: the number, the eight buffers of a problem, and the sizes
 --   readUntold B z    where the sizes z have a wrong length: refusal 2, "nothing changed"
 --   readCalled s B z  either, by the length of z; s is the text
 -- Assumes nothing.

@@ -8,7 +8,7 @@ abbrev pub major : ℕ
 major = 0
 
 abbrev pub minor : ℕ
-minor = 5
+minor = 6
 
 abbrev pub patch : ℕ
 patch = 0

@@ -49,7 +49,8 @@ pub extern "C" fn koralimbu_assign(
     rights: &[i64],
     lower: &[i64],
     upper: &[i64],
-    goals: &[i64],
+    low: &[i64],
+    high: &[i64],
     given: &[i64],
     ideals: &[i64],
     tableau: &mut [i64],
@@ -60,7 +61,7 @@ pub extern "C" fn koralimbu_assign(
     ensures { λ r. ⌜ returned r (buffers (now (tableau .exit)) (now (values .exit)) (now (strides .exit))) (now (report .exit))
         ≡ called assign
         (posedBy (problemOf n m limit) (now (coefficients .entry)) (now (rights .entry))
-        (now (lower .entry)) (now (upper .entry)) (now (goals .entry)) (now (given .entry)) (now (ideals .entry)))
+        (now (lower .entry)) (now (upper .entry)) (now (low .entry)) (now (high .entry)) (now (given .entry)) (now (ideals .entry)))
         (buffers (now (tableau .entry)) (now (values .entry)) (now (strides .entry))) (now (report .entry)) ⌝ }
 {
     if report.len() != REPORT {
@@ -77,7 +78,8 @@ pub extern "C" fn koralimbu_assign(
         rights,
         lower,
         upper,
-        goals,
+        low,
+        high,
         given,
         ideals,
         tableau,
@@ -98,7 +100,8 @@ pub extern "C" fn koralimbu_continue(
     rights: &[i64],
     lower: &[i64],
     upper: &[i64],
-    goals: &[i64],
+    low: &[i64],
+    high: &[i64],
     given: &[i64],
     ideals: &[i64],
     tableau: &mut [i64],
@@ -109,7 +112,7 @@ pub extern "C" fn koralimbu_continue(
     ensures { λ r. ⌜ returned r (buffers (now (tableau .exit)) (now (values .exit)) (now (strides .exit))) (now (report .exit))
         ≡ called continue
         (posedBy (problemOf n m limit) (now (coefficients .entry)) (now (rights .entry))
-        (now (lower .entry)) (now (upper .entry)) (now (goals .entry)) (now (given .entry)) (now (ideals .entry)))
+        (now (lower .entry)) (now (upper .entry)) (now (low .entry)) (now (high .entry)) (now (given .entry)) (now (ideals .entry)))
         (buffers (now (tableau .entry)) (now (values .entry)) (now (strides .entry))) (now (report .entry)) ⌝ }
 {
     if report.len() != REPORT {
@@ -126,7 +129,8 @@ pub extern "C" fn koralimbu_continue(
         rights,
         lower,
         upper,
-        goals,
+        low,
+        high,
         given,
         ideals,
         tableau,

@@ -107,7 +107,8 @@ pub extern "C" fn koralimbu_preview(
     rights: &[i64],
     lower: &[i64],
     upper: &[i64],
-    goals: &[i64],
+    low: &[i64],
+    high: &[i64],
     given: &[i64],
     ideals: &[i64],
     standing: &[i64],
@@ -119,7 +120,7 @@ pub extern "C" fn koralimbu_preview(
     ensures { λ r. ⌜ returned r (buffers (now (tableau .exit)) (now (after .exit)) (now (strides .exit))) (now (report .exit))
         ≡ previewCalled
         (posedBy (problemOf n m 1) (now (coefficients .entry)) (now (rights .entry))
-        (now (lower .entry)) (now (upper .entry)) (now (goals .entry)) (now (given .entry)) (now (ideals .entry)))
+        (now (lower .entry)) (now (upper .entry)) (now (low .entry)) (now (high .entry)) (now (given .entry)) (now (ideals .entry)))
         (now (standing .entry)) (buffers (now (tableau .entry)) (now (after .entry)) (now (strides .entry))) (now (report .entry)) ⌝ }
 {
     if report.len() != STEP {
@@ -136,7 +137,8 @@ pub extern "C" fn koralimbu_preview(
         rights,
         lower,
         upper,
-        goals,
+        low,
+        high,
         given,
         ideals,
         standing,

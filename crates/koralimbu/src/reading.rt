@@ -44,18 +44,19 @@ pub extern "C" fn koralimbu_read(
     rights: &mut [i64],
     lower: &mut [i64],
     upper: &mut [i64],
-    goals: &mut [i64],
+    low: &mut [i64],
+    high: &mut [i64],
     given: &mut [i64],
     ideals: &mut [i64],
     sizes: &mut [usize],
 ) -> u32
     ensures { λ r. ⌜ readReturned r
-        (deckBuffers (now (coefficients .exit)) (now (rights .exit)) (now (lower .exit)) (now (upper .exit)) (now (goals .exit))
-        (now (given .exit)) (now (ideals .exit)))
+        (deckBuffers (now (coefficients .exit)) (now (rights .exit)) (now (lower .exit)) (now (upper .exit)) (now (low .exit))
+        (now (high .exit)) (now (given .exit)) (now (ideals .exit)))
         (now (sizes .exit))
         ≡ readCalled (now (text .entry))
-        (deckBuffers (now (coefficients .entry)) (now (rights .entry)) (now (lower .entry)) (now (upper .entry)) (now (goals .entry))
-        (now (given .entry)) (now (ideals .entry)))
+        (deckBuffers (now (coefficients .entry)) (now (rights .entry)) (now (lower .entry)) (now (upper .entry)) (now (low .entry))
+        (now (high .entry)) (now (given .entry)) (now (ideals .entry)))
         (now (sizes .entry)) ⌝ }
 {
     if sizes.len() != SIZES {
@@ -67,7 +68,8 @@ pub extern "C" fn koralimbu_read(
         rights,
         lower,
         upper,
-        goals,
+        low,
+        high,
         given,
         ideals,
     );

@@ -12,7 +12,8 @@ use Rattle.problem.specs.Checks.{firstCause}
 use Rattle.tableau.specs.Table.{tableauFrom, tableau}
 use Rattle.tableau.specs.Elimination.{lowered, reduced, each, choose, exchange, clear, round, gather, passColumn, passColumns, eliminate}
 use Rattle.tableau.specs.RightSide.{sweep, leading, remaining, rightSide, form, solve}
-use Rattle.settling.specs.Ideals.{goalIdeal, ideal}
+use Rattle.goals.specs.Ideals.{rootBits, wholeRoot, goalIdeal}
+use Rattle.settling.specs.Ideals.{ideal}
 use Rattle.settling.specs.Seating.{seatOne, seat}
 use Rattle.settling.specs.Moves.{singles, pairsWith, pairs, moves, moved}
 use Rattle.settling.specs.Measures.{measure}
@@ -33,8 +34,8 @@ use Rattle.solve.specs.Cases.{DeckCases}
 pub deck-cases : DeckCases
 unfolding numbersFrom neighbourWish
     every divisorBy divisor plus neg allZero lead dot sums stretch allDigits value decimal anyBeyond firstCause tableauFrom tableau lowered
-    reduced each choose exchange clear round gather passColumn passColumns eliminate sweep leading remaining rightSide form solve goalIdeal ideal
-    seatOne seat singles pairsWith pairs moves moved measure isRanked passes improves insert rankFrom firstMove firstColumn stepAt stepOf nextStep
+    reduced each choose exchange clear round gather passColumn passColumns eliminate sweep leading remaining rightSide form solve rootBits
+    wholeRoot goalIdeal ideal seatOne seat singles pairsWith pairs moves moved measure isRanked passes improves insert rankFrom firstMove firstColumn stepAt stepOf nextStep
     settleFrom settle stride stridesFrom settleOn assign intervals terms lines isOn indices paths volumes without termsOf sweptLines readDeck
     slackColumns placed coefficientRows posed linesFrom listing printed
 deck-cases = record {

@@ -33,9 +33,9 @@ use Rattle.problem.specs.declared.Answer.{Answer}
 use Rattle.problem.specs.declared.Answer.the-variants.{Refused}
 use Rattle.sections.specs.Rules.{Outcome, ok, no}
 use Rattle.sections.specs.Sections.{deckColumns, deckRows, coefficientCount}
-use Rattle.sections.specs.StatedColumns.{lowerOf, upperOf, goalOf, rightOf, padded, blank}
+use Rattle.sections.specs.StatedColumns.{lowerOf, upperOf, lowOf, highOf, rightOf, padded, blank}
 use Rattle.neighbours.specs.Neighbours.{givenOf, idealsOf}
-use Rattle.deck.specs.Posing.{Deck, allLines, readDeck, columnsOf, countOf, coefficientsOf, lowers, uppers, goals, stated, posed}
+use Rattle.deck.specs.Posing.{Deck, allLines, readDeck, columnsOf, countOf, coefficientsOf, lowers, uppers, lows, highs, stated, posed}
 use Rattle.deck.specs.Reader.{DeckBuffers, ReadDone, deckBuffers, readDone, lengthsFit, onDeck, read}
 use Rattle.deck.specs.declared.Reading.{Reading}
 use Rattle.deck.specs.declared.Reading.the-variants.{Read, Refused as TurnedBack}
@@ -108,7 +108,7 @@ refused-headline o why v d l = write-even o (Refused why) v d l
 abbrev pub largest : DeckBuffers
 largest =
     deckBuffers (blank coefficientCount) (blank deckRows) (blank deckColumns) (blank deckColumns) (blank deckColumns) (blank deckColumns)
-    (blank deckColumns)
+    (blank deckColumns) (blank deckColumns)
 
 pub largest-fit : lengthsFit largest ≡ true
 unfolding blank
@@ -145,7 +145,7 @@ refused-into o s B D why f e = by (readDeck s) refl
         let q : why ≡ w = ap (λ (x : ReadDone). reason (x .reading)) (e ∙ read-fit s B f ∙ ap (λ (x : Outcome Deck). onDeck x B) h) in
         rw (h, ← q) refl
 
-pub record Taken (s : List ℕ) (n m : ℕ) (c b l u g a x : List ℤ) : Type 0 where
+pub record Taken (s : List ℕ) (n m : ℕ) (c b l u g y a x : List ℤ) : Type 0 where
   pub deck : Deck
   pub rest : ℕ
   pub is : readDeck s ≡ ok deck rest
@@ -155,19 +155,20 @@ pub record Taken (s : List ℕ) (n m : ℕ) (c b l u g a x : List ℤ) : Type 0 
   pub rights : b ≡ padded deckRows (map rightOf (allLines deck))
   pub lower : l ≡ padded deckColumns (lowers deck)
   pub upper : u ≡ padded deckColumns (uppers deck)
-  pub goals : g ≡ padded deckColumns (goals deck)
+  pub low : g ≡ padded deckColumns (lows deck)
+  pub high : y ≡ padded deckColumns (highs deck)
   pub given : a ≡ padded deckColumns (givenOf (stated deck) (countOf deck))
   pub ideals : x ≡ padded deckColumns (idealsOf (stated deck) (countOf deck))
 
-pub taken : (s : List ℕ) (B : DeckBuffers) (n m i : ℕ) (c b l u g a x : List ℤ) → lengthsFit B ≡ true
-    → readDone (Read n m i) (deckBuffers c b l u g a x) ≡ read s B
-    → Taken s n m c b l u g a x
+pub taken : (s : List ℕ) (B : DeckBuffers) (n m i : ℕ) (c b l u g y a x : List ℤ) → lengthsFit B ≡ true
+    → readDone (Read n m i) (deckBuffers c b l u g y a x) ≡ read s B
+    → Taken s n m c b l u g y a x
 unfolding posed
-taken s B n m i c b l u g a x f e = by (readDeck s) refl
+taken s B n m i c b l u g y a x f e = by (readDeck s) refl
   where
-    by : (o : Outcome Deck) → readDeck s ≡ o → Taken s n m c b l u g a x
+    by : (o : Outcome Deck) → readDeck s ≡ o → Taken s n m c b l u g y a x
     by (ok d ts) h =
-        let D : readDone (Read n m i) (deckBuffers c b l u g a x) ≡ onDeck (ok d ts) B =
+        let D : readDone (Read n m i) (deckBuffers c b l u g y a x) ≡ onDeck (ok d ts) B =
         e ∙ read-fit s B f ∙ ap (λ (x : Outcome Deck). onDeck x B) h in
         record {
           deck = d;
@@ -179,18 +180,19 @@ taken s B n m i c b l u g a x f e = by (readDeck s) refl
           rights = ap (λ (x : ReadDone). x .buffers .rights) D;
           lower = ap (λ (x : ReadDone). x .buffers .lower) D;
           upper = ap (λ (x : ReadDone). x .buffers .upper) D;
-          goals = ap (λ (x : ReadDone). x .buffers .goals) D;
+          low = ap (λ (x : ReadDone). x .buffers .low) D;
+          high = ap (λ (x : ReadDone). x .buffers .high) D;
           given = ap (λ (x : ReadDone). x .buffers .given) D;
           ideals = ap (λ (x : ReadDone). x .buffers .ideals) D;
         }
     by (no w) h = never (sym (ap (λ (x : ReadDone). isRead (x .reading)) (e ∙ read-fit s B f ∙ ap (λ (x : Outcome Deck). onDeck x B) h)))
 
-abbrev pub problemPart : ℕ → ℕ → List ℤ → List ℤ → List ℤ → List ℤ → List ℤ → List ℤ → List ℤ → Posed
-problemPart n m c b l u g a x =
-    posedBy (record { columns = n; rows = m; limit = programLimit }) (take (m * n) c) (take m b) (take n l) (take n u) (take n g) (take n a)
-    (take n x)
+abbrev pub problemPart : ℕ → ℕ → List ℤ → List ℤ → List ℤ → List ℤ → List ℤ → List ℤ → List ℤ → List ℤ → Posed
+problemPart n m c b l u g y a x =
+    posedBy (record { columns = n; rows = m; limit = programLimit }) (take (m * n) c) (take m b) (take n l) (take n u) (take n g) (take n y)
+    (take n a) (take n x)
 
-module _ {s : List ℕ} {n m : ℕ} {c b l u g a x : List ℤ} (T : Taken s n m c b l u g a x) where
+module _ {s : List ℕ} {n m : ℕ} {c b l u g y a x : List ℤ} (T : Taken s n m c b l u g y a x) where
   pub few-columns : length l ≡ deckColumns → n ≤ deckColumns
   few-columns q = within deckColumns n (map lowerOf (columnsOf (T .deck))) l (T .lower) (T .columns ∙ sym (length-map (columnsOf (T .deck)) lowerOf))
       q
@@ -201,19 +203,21 @@ module _ {s : List ℕ} {n m : ℕ} {c b l u g a x : List ℤ} (T : Taken s n m 
   cells : m * n ≡ length (coefficientsOf (T .deck))
   cells = (λ i. T .rows i * T .columns i) ∙ sym (length-rows (countOf (T .deck)) (length (T .deck .intervals)) (allLines (T .deck)))
 
-  posed-is : problemPart n m c b l u g a x ≡ posed programLimit (T .deck)
+  posed-is : problemPart n m c b l u g y a x ≡ posed programLimit (T .deck)
   unfolding posed
   posed-is =
       let pc = part-is (deckRows * deckColumns) (m * n) _ c (T .coefficients) cells in
       let pb = part-is deckRows m _ b (T .rights) (T .rows ∙ sym (length-map (allLines (T .deck)) rightOf)) in
       let pl = part-is deckColumns n _ l (T .lower) (T .columns ∙ sym (length-map (columnsOf (T .deck)) lowerOf)) in
       let pu = part-is deckColumns n _ u (T .upper) (T .columns ∙ sym (length-map (columnsOf (T .deck)) upperOf)) in
-      let pg = part-is deckColumns n _ g (T .goals) (T .columns ∙ sym (length-map (columnsOf (T .deck)) goalOf)) in
+      let pg = part-is deckColumns n _ g (T .low) (T .columns ∙ sym (length-map (columnsOf (T .deck)) lowOf)) in
+      let ph = part-is deckColumns n _ y (T .high) (T .columns ∙ sym (length-map (columnsOf (T .deck)) highOf)) in
       let pa = part-is deckColumns n _ a (T .given) (T .columns ∙ sym (numbers-length _ (countOf (T .deck)) 0)) in
       let px = part-is deckColumns n _ x (T .ideals) (T .columns ∙ sym (numbers-length _ (countOf (T .deck)) 0)) in
-      λ i. posedBy (record { columns = T .columns i; rows = T .rows i; limit = programLimit }) (pc i) (pb i) (pl i) (pu i) (pg i) (pa i) (px i)
+      λ i. posedBy (record { columns = T .columns i; rows = T .rows i; limit = programLimit }) (pc i) (pb i) (pl i) (pu i) (pg i) (ph i) (pa i)
+      (px i)
 
-  pub accepted-into : (o : List ℕ) → listInto o (problemPart n m c b l u g a x) ≡ printInto o s
+  pub accepted-into : (o : List ℕ) → listInto o (problemPart n m c b l u g y a x) ≡ printInto o s
   unfolding listInto printInto printed
   accepted-into o =
       let p = posed-is in

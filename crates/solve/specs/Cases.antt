@@ -1,10 +1,10 @@
 -- The deck cases that document 01 marks with *, as one table of the definitions.
---   problem ..    a problem in lists: n, m, the rows' coefficients, the right sides, lower bounds, upper bounds, goals and the step limit; no ideal
---                 is handed in
+--   problem ..    a problem in lists: n, m, the rows' coefficients, the right sides, lower bounds, upper bounds, goals and the step limit; "Older
+--                 cases have both equal", low and high goals, and no ideal is handed in
 --   Shown         an answer, with the values and the strides; `gives` makes one, and `shown` those of a call
 --   assigned P    what the whole assignment of P shows, in buffers that held 7s before, `used P`
 --   seatedOf P    what seating makes of the starting list and the basis that are found for P, by seatFound
---   fiveIdeals v  the ideals to which seating pulls columns with the goals of fiveGoals, at the values v
+--   fiveIdeals v  the ideals to which seating pulls columns with the goals of fiveGoals, `fiveColumns`, at the values v
 --   sumAndDifference, threeTwo, tied, pavingText, pavingListing   problems, a text and its listing; curve, a line of the text
 --   DeckCases     the cases, one to a field, in document 01's order
 -- Assumes nothing.
@@ -27,7 +27,7 @@ use Rattle.solve.specs.Program.{printed}
 
 abbrev pub problem : ℕ → ℕ → List ℤ → List ℤ → List ℤ → List ℤ → List ℤ → ℕ → Posed
 problem n m coefficients rights lower upper goals limit =
-    posedBy (record { columns = n; rows = m; limit = limit }) coefficients rights lower upper goals (zeros n) (zeros n)
+    posedBy (record { columns = n; rows = m; limit = limit }) coefficients rights lower upper goals goals (zeros n) (zeros n)
 
 pub record Shown : Type 0 where
   pub answer : Answer
@@ -55,11 +55,14 @@ abbrev pub seatedOf : Posed → Seated
 seatedOf P = seatFound P (solved P .found)
 
 -- goals 400, 1414, 1415, 2449, 2450, with the widest bounds that a column with a goal may have
-abbrev pub fiveGoals : Columns
-fiveGoals = listed 5 (replicate 5 (pos 1)) (replicate 5 (pos 1000000)) (pos 400 ∷ pos 1414 ∷ pos 1415 ∷ pos 2449 ∷ pos 2450 ∷ []) (zeros 5) (zeros 5)
+abbrev pub fiveGoals : List ℤ
+fiveGoals = pos 400 ∷ pos 1414 ∷ pos 1415 ∷ pos 2449 ∷ pos 2450 ∷ []
+
+abbrev pub fiveColumns : Columns
+fiveColumns = listed 5 (replicate 5 (pos 1)) (replicate 5 (pos 1000000)) fiveGoals fiveGoals (zeros 5) (zeros 5)
 
 abbrev pub fiveIdeals : List ℤ → List ℤ
-fiveIdeals v = map (idealAt fiveGoals v) (0 ∷ 1 ∷ 2 ∷ 3 ∷ 4 ∷ [])
+fiveIdeals v = map (idealAt fiveColumns v) (0 ∷ 1 ∷ 2 ∷ 3 ∷ 4 ∷ [])
 
 -- v1 + v2 = 1 with v1 − v2 = 0
 abbrev pub sumAndDifference : Posed
@@ -74,9 +77,9 @@ threeTwo = problem 2 1 (pos 3 ∷ negsuc 1 ∷ []) (pos 0 ∷ []) (pos 1 ∷ pos
 abbrev pub tied : ℕ → Posed
 tied limit = problem 2 1 (pos 1 ∷ negsuc 0 ∷ []) (pos 0 ∷ []) (pos 1 ∷ pos 5 ∷ []) (pos 10 ∷ pos 10 ∷ []) (pos 0 ∷ pos 0 ∷ []) limit
 
--- "1 1000000 3000" and the line's end
+-- "1 1000000 3000", the goal again, document 02, (v), and the line's end
 abbrev pub curve : List ℕ
-curve = 49 ∷ 32 ∷ 49 ∷ 48 ∷ 48 ∷ 48 ∷ 48 ∷ 48 ∷ 48 ∷ 32 ∷ 51 ∷ 48 ∷ 48 ∷ 48 ∷ 10 ∷ []
+curve = 49 ∷ 32 ∷ 49 ∷ 48 ∷ 48 ∷ 48 ∷ 48 ∷ 48 ∷ 48 ∷ 32 ∷ 51 ∷ 48 ∷ 48 ∷ 48 ∷ 32 ∷ 51 ∷ 48 ∷ 48 ∷ 48 ∷ 10 ∷ []
 
 -- "3", the three curves, "1", "3 2 3 1 1 2 1 3 1", and the closing "0" of document 02, (iii)
 abbrev pub pavingText : List ℕ

@@ -15,13 +15,24 @@ ghost use Rattle.sections.specs.Sections.{deckColumns, deckRows};
 ghost use Rattle.engine.specs.Assign.{posedBy};
 ghost use Rattle.problem.specs.declared.Answer.the-variants.{Refused};
 ghost use Rattle.report.specs.Listing.{listing, listingDone, placedIn};
-ghost use Rattle.solve.specs.Program.{printInto, listInto};
+ghost use Rattle.solve.specs.Program.{programLimit, printInto, listInto};
 
 // The step limit of the listing program.
 const LIMIT: u32 = 10000;
 
 // The numbers of the largest tableau: 4,608.
 const TABLEAU: usize = Sizes::COLUMNS * (Sizes::ROWS + Sizes::COLUMNS);
+
+// A problem with the program's step limit.
+fn program_problem(n: usize, m: usize) -> Problem
+    ensures { λ r. ⌜ r ≡ record { columns = n; rows = m; limit = programLimit } ⌝ }
+{
+    Problem {
+        columns: n,
+        rows: m,
+        limit: LIMIT,
+    }
+}
 
 // Assigns a problem in buffers of its own, which hold 0, and lists the answer.
 fn list_assigned(
@@ -30,15 +41,16 @@ fn list_assigned(
     rights: &[i64],
     lower: &[i64],
     upper: &[i64],
-    goals: &[i64],
+    low: &[i64],
+    high: &[i64],
     given: &[i64],
     ideals: &[i64],
     out: &mut [u8],
 ) -> Written
     requires { ⌜ (p .columns ≤ deckColumns) × (p .rows ≤ deckRows) ⌝ }
     ensures { λ r. ⌜ listingDone r (now (out .exit)) ≡ listInto (now (out .entry))
-        (posedBy p (now (coefficients .entry)) (now (rights .entry)) (now (lower .entry)) (now (upper .entry)) (now (goals .entry))
-        (now (given .entry)) (now (ideals .entry))) ⌝ }
+        (posedBy p (now (coefficients .entry)) (now (rights .entry)) (now (lower .entry)) (now (upper .entry))
+        (now (low .entry)) (now (high .entry)) (now (given .entry)) (now (ideals .entry))) ⌝ }
 {
     let mut tableau = [0i64; TABLEAU];
     let mut values = [0i64; Sizes::COLUMNS];
@@ -51,7 +63,8 @@ fn list_assigned(
         rights,
         lower,
         upper,
-        goals,
+        low,
+        high,
         given,
         ideals,
         &mut tableau[..room],
@@ -78,7 +91,8 @@ pub fn list_text(text: &[u8], out: &mut [u8]) -> Written
     let mut rights = [0i64; Sizes::ROWS];
     let mut lower = [0i64; Sizes::COLUMNS];
     let mut upper = [0i64; Sizes::COLUMNS];
-    let mut goals = [0i64; Sizes::COLUMNS];
+    let mut low = [0i64; Sizes::COLUMNS];
+    let mut high = [0i64; Sizes::COLUMNS];
     let mut given = [0i64; Sizes::COLUMNS];
     let mut ideals = [0i64; Sizes::COLUMNS];
     let reading = read_deck(
@@ -87,18 +101,15 @@ pub fn list_text(text: &[u8], out: &mut [u8]) -> Written
         &mut rights,
         &mut lower,
         &mut upper,
-        &mut goals,
+        &mut low,
+        &mut high,
         &mut given,
         &mut ideals,
     );
     match reading {
         Reading::Refused(why) => list_refused(why, out),
         Reading::Read(n, m, _) => {
-            let p = Problem {
-                columns: n,
-                rows: m,
-                limit: LIMIT,
-            };
+            let p = program_problem(n, m);
             let size = m * n;
             list_assigned(
                 p,
@@ -106,7 +117,8 @@ pub fn list_text(text: &[u8], out: &mut [u8]) -> Written
                 &rights[..m],
                 &lower[..n],
                 &upper[..n],
-                &goals[..n],
+                &low[..n],
+                &high[..n],
                 &given[..n],
                 &ideals[..n],
                 out,

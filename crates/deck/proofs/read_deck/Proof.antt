@@ -22,8 +22,8 @@ use Rattle.deck.proofs.read_deck.Tie as tie
 -- the lists that are lent, and what the test says of their lengths
 abbrev lent : tie.Start → DeckBuffers
 lent a =
-    deckBuffers (a .args .coefficients .now) (a .args .rights .now) (a .args .lower .now) (a .args .upper .now) (a .args .goals .now)
-    (a .args .given .now) (a .args .ideals .now)
+    deckBuffers (a .args .coefficients .now) (a .args .rights .now) (a .args .lower .now) (a .args .upper .now) (a .args .low .now)
+    (a .args .high .now) (a .args .given .now) (a .args .ideals .now)
 
 tested : (c : tie.After-lengths-fit) → lengthsFit (lent (c .before .before)) ≡ c .lengths-fit .result
 tested c = sym {b = lengthsFit (lent (c .before .before))} (c .lengths-fit .ensures)
@@ -72,23 +72,17 @@ module _ (c : tie.After-d) where
   stored = subst (λ (r : Section). DeckRead (deck (text scanned)) r k b t) (c .d .given .1) (scanned .scan .ensures)
 
 -- from each list that is filled to the one before
-abbrev before-lower : tie.After-pick → tie.After-d
-before-lower c = c .before .before .before .before
+abbrev before-columns : tie.After-pick-columns → tie.After-d
+before-columns c = c .before .before .before .before
 
-abbrev before-upper : tie.After-pick2 → tie.After-pick
-before-upper c = c .before .before .before .before
-
-abbrev before-goals : tie.After-pick3 → tie.After-pick2
-before-goals c = c .before .before .before .before
-
-abbrev before-rights : tie.After-copy → tie.After-pick3
+abbrev before-rights : tie.After-copy → tie.After-pick-columns
 before-rights c = c .before .before .before .before
 
 abbrev before-wipe : tie.After-wipe → tie.After-copy
 before-wipe c = c .before .before .before
 
 abbrev read : tie.After-copy → tie.After-d
-read c = before-lower (before-upper (before-goals (before-rights c)))
+read c = before-columns (before-rights c)
 
 -- the lists that the tables went out into
 module _ (c : tie.After-compact) where
@@ -98,7 +92,7 @@ module _ (c : tie.After-compact) where
   abbrev copied : tie.After-copy
   copied = before-wipe wiped
 
-  abbrev picked : tie.After-pick3
+  abbrev picked : tie.After-pick-columns
   picked = before-rights copied
 
   abbrev coefficients : List ℤ
@@ -108,21 +102,24 @@ module _ (c : tie.After-compact) where
   rights = copied .copy .last .0
 
   abbrev lower : List ℤ
-  lower = before-upper (before-goals picked) .pick .last .1 .1 .0
+  lower = picked .pick-columns .last .1 .0
 
   abbrev upper : List ℤ
-  upper = before-goals picked .pick2 .last .1 .1 .0
+  upper = picked .pick-columns .last .1 .1 .0
 
-  abbrev goals : List ℤ
-  goals = picked .pick3 .last .1 .1 .0
+  abbrev low : List ℤ
+  low = picked .pick-columns .last .1 .1 .1 .0
 
-  out : Holds (stored (read copied) .deck) coefficients rights lower upper goals
+  abbrev high : List ℤ
+  high = picked .pick-columns .last .1 .1 .1 .1 .0
+
+  out : Holds (stored (read copied) .deck) coefficients rights lower upper low high
   out =
       let d = read copied in
       let s = scanned d in
-      holds (text s) (cursor d) (k d) (b d) (t d) (stored d) (lent (start s)) (wiped .wipe .last .0) coefficients rights lower upper goals (fitting s)
-      (wiped .wipe .ensures) (c .compact .ensures) (copied .copy .ensures) (before-upper (before-goals picked) .pick .ensures)
-      (before-goals picked .pick2 .ensures) (picked .pick3 .ensures)
+      let p = picked .pick-columns .ensures in
+      holds (text s) (cursor d) (k d) (b d) (t d) (stored d) (lent (start s)) (wiped .wipe .last .0) coefficients rights lower upper low high
+      (fitting s) (wiped .wipe .ensures) (c .compact .ensures) (copied .copy .ensures) (p .0) (p .1) (p .2) (p .3)
 
 lengths-fit-requires : tie.Need-lengths-fit-requires
 lengths-fit-requires c κs = search needs
@@ -153,36 +150,21 @@ scan-requires c κs = (refl, refl, refl)
 enum-known-d : tie.Need-enum-known-d
 enum-known-d c = search needs
 
-slice-aggregate-pick : tie.Need-slice-aggregate-pick
-slice-aggregate-pick c = search needs
+slice-aggregate-pick-columns : tie.Need-slice-aggregate-pick-columns
+slice-aggregate-pick-columns c = search needs
 
-pick-requires : tie.Need-pick-requires
-pick-requires c κs =
+pick-columns-requires : tie.Need-pick-columns-requires
+pick-columns-requires c κs =
     let s = scanned (c .before .before .before) in
-    (omega arith, (s .scan .kept .1 .0, long s .lower))
-
-slice-aggregate-pick-2 : tie.Need-slice-aggregate-pick-2
-slice-aggregate-pick-2 c = search needs
-
-pick-requires-2 : tie.Need-pick-requires-2
-pick-requires-2 c κs =
-    let s = scanned (before-lower (c .before .before .before)) in
-    (omega arith, (s .scan .kept .1 .0, long s .upper))
-
-slice-aggregate-pick-3 : tie.Need-slice-aggregate-pick-3
-slice-aggregate-pick-3 c = search needs
-
-pick-requires-3 : tie.Need-pick-requires-3
-pick-requires-3 c κs =
-    let s = scanned (before-lower (before-upper (c .before .before .before))) in
-    (omega arith, (s .scan .kept .1 .0, long s .goals))
+    let l = long s in
+    (s .scan .kept .1 .0, l .lower, l .upper, l .low, l .high)
 
 slice-aggregate-copy : tie.Need-slice-aggregate-copy
 slice-aggregate-copy c = search needs
 
 copy-requires : tie.Need-copy-requires
 copy-requires c κs =
-    let s = scanned (before-lower (before-upper (before-goals (c .before .before .before)))) in
+    let s = scanned (before-columns (c .before .before .before)) in
     long s .rights ∙ sym (s .scan .kept .1 .1 .0)
 
 wipe-requires : tie.Need-wipe-requires
@@ -203,8 +185,8 @@ hand-in-requires c κs =
     let o = c .before .before .before .before .before .before .before in
     let d = read (copied o) in
     let s = scanned d in (
-      sized (text s) (cursor d) (k d) (b d) (t d) (stored d) (coefficients o) (rights o) (lower o) (upper o) (goals o) (out o),
-      small (text s) (cursor d) (k d) (b d) (t d) (stored d) (coefficients o) (rights o) (lower o) (upper o) (goals o) (out o),
+      sized (text s) (cursor d) (k d) (b d) (t d) (stored d) (coefficients o) (rights o) (lower o) (upper o) (low o) (high o) (out o),
+      small (text s) (cursor d) (k d) (b d) (t d) (stored d) (coefficients o) (rights o) (lower o) (upper o) (low o) (high o) (out o),
       long s .ideals ∙ sym (long s .given),
     )
 
@@ -232,14 +214,17 @@ same-length-6 c = search needs
 same-length-7 : tie.Need-same-length-7
 same-length-7 c = search needs
 
+same-length-8 : tie.Need-same-length-8
+same-length-8 c = search needs
+
 returns-3 : tie.Need-returns-3
 returns-3 c =
     let h = c .before .before in
     let o = h .before .before .before .before .before .before .before .before in
     let d = read (copied o) in
     let s = scanned d in
-    accepting (text s) (cursor d) (k d) (b d) (t d) (stored d) (coefficients o) (rights o) (lower o) (upper o) (goals o) (out o) (lent (start s))
-    (h .hand-in .last .1 .1 .1 .1 .1 .0) (h .hand-in .last .1 .1 .1 .1 .1 .1 .0) (fitting s) (looked s .if2 .left) (h .hand-in .ensures .0)
+    accepting (text s) (cursor d) (k d) (b d) (t d) (stored d) (coefficients o) (rights o) (lower o) (upper o) (low o) (high o) (out o) (lent (start s))
+    (h .hand-in .last .1 .1 .1 .1 .1 .1 .0) (h .hand-in .last .1 .1 .1 .1 .1 .1 .1 .0) (fitting s) (looked s .if2 .left) (h .hand-in .ensures .0)
     (h .hand-in .ensures .1)
 
 returns-4 : tie.Need-returns-4
@@ -261,12 +246,8 @@ read-deck-spec =
     slice-aggregate-scan-3
     scan-requires
     enum-known-d
-    slice-aggregate-pick
-    pick-requires
-    slice-aggregate-pick-2
-    pick-requires-2
-    slice-aggregate-pick-3
-    pick-requires-3
+    slice-aggregate-pick-columns
+    pick-columns-requires
     slice-aggregate-copy
     copy-requires
     wipe-requires
@@ -281,5 +262,6 @@ read-deck-spec =
     same-length-5
     same-length-6
     same-length-7
+    same-length-8
     returns-3
     returns-4)

@@ -10,7 +10,7 @@ use Rattle.koralimbu.proofs.koralimbu_continue.Tie as tie
 module _ (a : tie.Start) where
   abbrev P : Posed
   P = posedBy (problemOf (a .args .n) (a .args .m) (a .args .limit)) (a .args .coefficients .now) (a .args .rights .now) (a .args .lower .now)
-      (a .args .upper .now) (a .args .goals .now) (a .args .given .now) (a .args .ideals .now)
+      (a .args .upper .now) (a .args .low .now) (a .args .high .now) (a .args .given .now) (a .args .ideals .now)
 
   abbrev B : Buffers
   B = buffers (a .args .tableau .now) (a .args .values .now) (a .args .strides .now)

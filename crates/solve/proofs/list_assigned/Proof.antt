@@ -19,8 +19,8 @@ use Rattle.solve.proofs.list_assigned.Tie as tie
 
 module _ (a : tie.Start) where
   abbrev P : Posed
-  P = posedBy (a .args .p) (a .args .coefficients .now) (a .args .rights .now) (a .args .lower .now) (a .args .upper .now) (a .args .goals .now)
-      (a .args .given .now) (a .args .ideals .now)
+  P = posedBy (a .args .p) (a .args .coefficients .now) (a .args .rights .now) (a .args .lower .now) (a .args .upper .now)
+      (a .args .low .now) (a .args .high .now) (a .args .given .now) (a .args .ideals .now)
 
 -- the call keeps the lengths of the lists
 module _ (w : tie.After-assign) where

@@ -50,9 +50,9 @@ module _ (k : tie.After-known-told2) where
   abbrev D : DeckBuffers
   D = left at
 
-  text-taken : Taken (start at .args .text .now) n m (D .coefficients) (D .rights) (D .lower) (D .upper) (D .goals) (D .given)
-      (D .ideals)
-  text-taken = taken (start at .args .text .now) largest n m _ _ _ _ _ _ _ _ largest-fit (found at (k .before .reading2 .given .1))
+  text-taken : Taken (start at .args .text .now) n m (D .coefficients) (D .rights) (D .lower) (D .upper) (D .low) (D .high)
+      (D .given) (D .ideals)
+  text-taken = taken (start at .args .text .now) largest n m _ _ _ _ _ _ _ _ _ largest-fit (found at (k .before .reading2 .given .1))
 
   rights-long : length (D .rights) ≡ deckRows
   rights-long = at .read-deck .kept .1 .1 .0

@@ -7,8 +7,8 @@ use Rattle.koralimbu.proofs.reading.koralimbu_read.Tie as tie
 
 module _ (a : tie.Start) where
   abbrev B : DeckBuffers
-  B = deckBuffers (a .args .coefficients .now) (a .args .rights .now) (a .args .lower .now) (a .args .upper .now) (a .args .goals .now)
-      (a .args .given .now) (a .args .ideals .now)
+  B = deckBuffers (a .args .coefficients .now) (a .args .rights .now) (a .args .lower .now) (a .args .upper .now) (a .args .low .now)
+      (a .args .high .now) (a .args .given .now) (a .args .ideals .now)
 
 number-requires : tie.Need-number-requires
 number-requires c κs = search needs
@@ -51,6 +51,9 @@ same-length-7 c = search needs
 same-length-8 : tie.Need-same-length-8
 same-length-8 c = search needs
 
+same-length-9 : tie.Need-same-length-9
+same-length-9 c = search needs
+
 returns-2 : tie.Need-returns-2
 returns-2 c =
     let after-tell-sizes = c .before .before .before in
@@ -81,4 +84,5 @@ koralimbu-read-spec =
     same-length-6
     same-length-7
     same-length-8
+    same-length-9
     returns-2)
