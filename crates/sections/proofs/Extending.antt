@@ -28,8 +28,9 @@ use Rattle.problem.specs.Kinds.{slackCount}
 use Rattle.problem.specs.declared.Refusal.{Refusal}
 use Rattle.problem.specs.declared.Refusal.the-variants.{Size, Coefficient, Bound, Goal, Term as WrongTerm}
 use Rattle.sections.specs.Rules.{Outcome, ok, no, then, onNumber, number, within}
-use Rattle.sections.specs.Sections.{deckColumns, deckRows, spanning, upperFrom, topGoal, interval, intervals, intervalSection}
-use Rattle.sections.specs.Sections.{rowOf, kindOf, kindNumber, leastNumber, row, coefficient, term, terms, Line, line, lines, rowSection}
+use Rattle.sections.specs.Sections.{deckColumns, deckRows, spanning, upperFrom, topGoal, topHigh, highFrom, interval, intervals}
+use Rattle.sections.specs.Sections.{intervalSection, rowOf, kindOf, kindNumber, leastNumber, row, coefficient, term, terms, Line}
+use Rattle.sections.specs.Sections.{line, lines, rowSection}
 use Rattle.sections.specs.declared.Interval.{Interval}
 use Rattle.sections.specs.declared.Term.{Term}
 use Rattle.sections.proofs.Numbers.{same-ok, ok-not-no, Then, then-ok}
@@ -101,8 +102,9 @@ interval-extends : Extends interval
 interval-extends =
     then-extends (λ s. spanning s maxBound Bound) _ (within-extends (negℤ (pos maxBound)) (pos maxBound) Bound) (λ lower.
     then-extends (λ s. upperFrom s lower) _ (within-extends lower (pos maxBound) Bound) (λ upper.
-    then-extends (λ s. within s (pos 0) (topGoal lower) Goal) _ (within-extends (pos 0) (topGoal lower) Goal) (λ goal.
-    ok-extends (record { lower = lower; upper = upper; goal = goal }))))
+    then-extends (λ s. within s (pos 0) (topGoal lower) Goal) _ (within-extends (pos 0) (topGoal lower) Goal) (λ low.
+    then-extends (λ s. highFrom s low) _ (within-extends low (topHigh low) Goal) (λ high.
+    ok-extends (record { lower = lower; upper = upper; low = low; high = high })))))
 
 intervals-extend : (k : ℕ) (done : List Interval) → Extends (λ s. intervals s k done)
 unfolding intervals

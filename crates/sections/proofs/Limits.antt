@@ -1,87 +1,135 @@
 -- The intervals that a text states lie within the limits.
---   Within is            at each place, and past the last one, where all numbers are 0
---   section-within       so do those of a section that was read
+--   goalFits ..          document 02, (v): "both 0 or both set, low at most high", both in the range, and none with a lower bound below 1
+--   Limited ..           what the limits say of the four numbers of an interval
+--   At j is, Within is   they say it at the place j, and at each place, also past the last one, where all numbers are 0
+--   section-within       so it is for a section that was read
 -- Assumes nothing.
 use mathlib.Core.Path.{_≡_, refl, subst}
-use mathlib.Core.Bool.{Bool, true, false, cond}
+use mathlib.Core.Bool.{Bool, true, false, cond, not, _&&_, _||_, false≢true}
 use mathlib.Core.List.{List, [], _∷_, _++_, map}
 use Prim.Native.Nat.{ℕ, zero, suc, _≤_}
 use native.Mathlib.Omega.{arith}
-use lib.IntN.{ℤ, pos, natAbs, negℤ}
+use borrow.Author.Tests.{leb-true, ne-eqb}
+use lib.Dec.{leb·zero}
+use lib.IntN.{ℤ, pos, negsuc, natAbs, negℤ}
 use lib.Signed.{leZ}
 use Rattle.whole.specs.Lists.{entry}
+use Rattle.whole.specs.Tests.{isZero, inRange}
+use Rattle.whole.proofs.Tests.{both-true, range-small}
 use Rattle.problem.specs.Limits.{maxBound, maxGoal}
 use Rattle.problem.specs.declared.Refusal.the-variants.{Size, Bound, Goal}
 use Rattle.sections.specs.Rules.{Outcome, ok, no, then, within}
-use Rattle.sections.specs.Sections.{deckColumns, spanning, upperFrom, topGoal, interval, intervals, intervalSection}
-use Rattle.sections.specs.StatedColumns.{lowerOf, upperOf, goalOf}
+use Rattle.sections.specs.Sections.{deckColumns, spanning, upperFrom, topGoal, topHigh, highFrom, interval, intervals, intervalSection}
+use Rattle.sections.specs.StatedColumns.{lowerOf, upperOf, lowOf, highOf}
 use Rattle.sections.specs.declared.Interval.{Interval}
-use Rattle.sections.proofs.Numbers.{same-ok, ok-not-no, within-in, abs-between, abs-within}
+use Rattle.sections.proofs.Numbers.{same-ok, ok-not-no, then-ok, within-in, abs-within}
+
+abbrev bothOrNone : ℤ → ℤ → Bool
+bothOrNone low high = cond (isZero low) (isZero high) (not (isZero high))
+
+abbrev pub goalFits : ℤ → ℤ → ℤ → Bool
+goalFits lower low high =
+    (inRange (pos 0) (pos maxGoal) low && inRange (pos 0) (pos maxGoal) high)
+    && ((bothOrNone low high && leZ low high) && (isZero low || leZ (pos 1) lower))
+
+pub record Limited (lower upper low high : ℤ) : Type 0 where
+  pub lower-small : natAbs lower ≤ maxBound
+  pub upper-small : natAbs upper ≤ maxBound
+  pub low-small : natAbs low ≤ maxGoal
+  pub high-small : natAbs high ≤ maxGoal
+  pub goals-fit : goalFits lower low high ≡ true
+
+abbrev pub At : ℕ → List Interval → Type 0
+At j is = Limited (entry j (map lowerOf is)) (entry j (map upperOf is)) (entry j (map lowOf is)) (entry j (map highOf is))
 
 pub record Within (is : List Interval) : Type 0 where
-  pub lower : (j : ℕ) → natAbs (entry j (map lowerOf is)) ≤ maxBound
-  pub upper : (j : ℕ) → natAbs (entry j (map upperOf is)) ≤ maxBound
-  pub goals : (j : ℕ) → natAbs (entry j (map goalOf is)) ≤ maxGoal
+  pub each : (j : ℕ) → At j is
+
+-- ---- the two goals, by the ranges that they were read in
+pair-fits : (lower low high : ℤ) → leZ (pos 0) low ≡ true → leZ low (topGoal lower) ≡ true → leZ low high ≡ true → leZ high (topHigh low) ≡ true
+    → goalFits lower low high ≡ true
+pair-fits lower (negsuc k) high a b c d = absurd (false≢true a)
+pair-fits lower (pos k) (negsuc n) a b c d = absurd (false≢true c)
+pair-fits lower (pos zero) (pos zero) a b c d = refl
+pair-fits lower (pos zero) (pos (suc n)) a b c d = absurd (omega (arith, leb-true (suc n) 0 d))
+pair-fits lower (pos (suc k)) (pos zero) a b c d = absurd (omega (arith, leb-true (suc k) 0 c))
+pair-fits lower (pos (suc k)) (pos (suc n)) a b c d = go (leZ (pos 1) lower) refl b
+  where
+    set : (m : ℕ) → isZero (pos (suc m)) ≡ false
+    set m = ne-eqb (suc m) 0 (λ z. omega arith)
+
+    go : (t : Bool) → leZ (pos 1) lower ≡ t → leZ (pos (suc k)) (cond t (pos maxGoal) (pos 0)) ≡ true
+        → goalFits lower (pos (suc k)) (pos (suc n)) ≡ true
+    go true e f = rw (set k, set n, leb·zero (suc k), leb·zero (suc n), e, f, c, rw (set k) at d)
+    go false e f = absurd (omega (arith, leb-true (suc k) 0 f))
+
+goals-small : (lower low high : ℤ) → goalFits lower low high ≡ true → (natAbs low ≤ maxGoal) × (natAbs high ≤ maxGoal)
+goals-small lower low high e =
+    let r = both-true (inRange (pos 0) (pos maxGoal) low) (inRange (pos 0) (pos maxGoal) high) (both-true _ _ e .0) in
+    (range-small maxGoal low (r .0), range-small maxGoal high (r .1))
 
 -- ---- an interval
-record One (i : Interval) : Type 0 where
-  lower : natAbs (i .lower) ≤ maxBound
-  upper : natAbs (i .upper) ≤ maxBound
-  goal : natAbs (i .goal) ≤ maxGoal
+numbers-limited : (s : List ℕ) (t₀ t₁ t₂ t₃ t₄ : ℕ) (lower upper low high : ℤ) → spanning s maxBound Bound t₀ ≡ ok lower t₁
+    → upperFrom s lower t₁ ≡ ok upper t₂ → within s (pos 0) (topGoal lower) Goal t₂ ≡ ok low t₃ → highFrom s low t₃ ≡ ok high t₄
+    → Limited lower upper low high
+numbers-limited s t₀ t₁ t₂ t₃ t₄ lower upper low high a b c d =
+    let p = within-in (negℤ (pos maxBound)) (pos maxBound) Bound lower t₁ s t₀ a in
+    let q = within-in lower (pos maxBound) Bound upper t₂ s t₁ b in
+    let r = within-in (pos 0) (topGoal lower) Goal low t₃ s t₂ c in
+    let w = within-in low (topHigh low) Goal high t₄ s t₃ d in
+    let small : natAbs lower ≤ maxBound = abs-within (negℤ (pos maxBound)) maxBound lower (omega arith) (p .0) (p .1) in
+    let fit = pair-fits lower low high (r .0) (r .1) (w .0) (w .1) in
+    record {
+      lower-small = small;
+      upper-small = abs-within lower maxBound upper small (q .0) (q .1);
+      low-small = goals-small lower low high fit .0;
+      high-small = goals-small lower low high fit .1;
+      goals-fit = fit;
+    }
 
--- with a goal or without
-goal-within : (lo v : ℤ) → leZ (pos 0) v ≡ true → leZ v (topGoal lo) ≡ true → natAbs v ≤ maxGoal
-goal-within lo v a b = go (leZ (pos 1) lo) b
+interval-limited : (s : List ℕ) (at e : ℕ) (i : Interval) → interval s at ≡ ok i e → Limited (i .lower) (i .upper) (i .low) (i .high)
+interval-limited s at e i h =
+    let a = then-ok (spanning s maxBound Bound at) after-lower i e h in
+    let b = then-ok (upperFrom s (a .what) (a .at)) (after-upper (a .what)) i e (a .second) in
+    let c = then-ok (within s (pos 0) (topGoal (a .what)) Goal (b .at)) (after-low (a .what) (b .what)) i e (b .second) in
+    let d = then-ok (highFrom s (c .what) (c .at)) (after-high (a .what) (b .what) (c .what)) i e (c .second) in
+    made (a .what) (b .what) (c .what) (d .what) (d .at)
+    (numbers-limited s at (a .at) (b .at) (c .at) (d .at) (a .what) (b .what) (c .what) (d .what) (a .first) (b .first) (c .first) (d .first))
+    (d .second)
   where
-    go : (t : Bool) → leZ v (cond t (pos maxGoal) (pos 0)) ≡ true → natAbs v ≤ maxGoal
-    go true e = abs-between 0 maxGoal v a e .1
-    go false e = omega (arith, abs-between 0 0 v a e .1)
+    after-high : (lower upper low high : ℤ) → ℕ → Outcome Interval
+    after-high lower upper low high p = ok (record { lower = lower; upper = upper; low = low; high = high }) p
 
-interval-within : (s : List ℕ) (at e : ℕ) (i : Interval) → interval s at ≡ ok i e → One i
-interval-within s at e i h = lowers (spanning s maxBound Bound at) refl h
-  where
-    goals : (lo up : ℤ) (p : ℕ) (o : Outcome ℤ) → natAbs lo ≤ maxBound → natAbs up ≤ maxBound → within s (pos 0) (topGoal lo) Goal p ≡ o
-        → then o (λ g q. ok (record { lower = lo; upper = up; goal = g }) q) ≡ ok i e → One i
-    goals lo up p (ok g q) a b f k =
-        let w = within-in (pos 0) (topGoal lo) Goal g q s p f in
-        subst One (same-ok k) (record { lower = a; upper = b; goal = goal-within lo g (w .0) (w .1) })
-    goals lo up p (no why) a b f k = absurd (ok-not-no k)
+    after-low : (lower upper low : ℤ) → ℕ → Outcome Interval
+    after-low lower upper low p = then (highFrom s low p) (λ high q. after-high lower upper low high q)
 
-    uppers : (lo : ℤ) (p : ℕ) (o : Outcome ℤ) → natAbs lo ≤ maxBound → upperFrom s lo p ≡ o
-        → then o (λ up q. then (within s (pos 0) (topGoal lo) Goal q) (λ g r. ok (record { lower = lo; upper = up; goal = g }) r)) ≡ ok i e → One i
-    uppers lo p (ok up q) a f k =
-        let w = within-in lo (pos maxBound) Bound up q s p f in
-        goals lo up q (within s (pos 0) (topGoal lo) Goal q) a (abs-within lo maxBound up a (w .0) (w .1)) refl k
-    uppers lo p (no why) a f k = absurd (ok-not-no k)
+    after-upper : (lower upper : ℤ) → ℕ → Outcome Interval
+    after-upper lower upper p = then (within s (pos 0) (topGoal lower) Goal p) (λ low q. after-low lower upper low q)
 
-    lowers : (o : Outcome ℤ) → spanning s maxBound Bound at ≡ o
-        → then o (λ lo p. then (upperFrom s lo p) (λ up q.
-        then (within s (pos 0) (topGoal lo) Goal q) (λ g r. ok (record { lower = lo; upper = up; goal = g }) r))) ≡ ok i e → One i
-    lowers (ok lo p) f k =
-        let w = within-in (negℤ (pos maxBound)) (pos maxBound) Bound lo p s at f in
-        uppers lo p (upperFrom s lo p) (abs-within (negℤ (pos maxBound)) maxBound lo (omega arith) (w .0) (w .1)) refl k
-    lowers (no why) f k = absurd (ok-not-no k)
+    after-lower : (lower : ℤ) → ℕ → Outcome Interval
+    after-lower lower p = then (upperFrom s lower p) (λ upper q. after-upper lower upper q)
+
+    made : (lower upper low high : ℤ) (p : ℕ) → Limited lower upper low high → after-high lower upper low high p ≡ ok i e
+        → Limited (i .lower) (i .upper) (i .low) (i .high)
+    made lower upper low high p l k = subst (λ (x : Interval). Limited (x .lower) (x .upper) (x .low) (x .high)) (same-ok k) l
 
 -- ---- so many of them
-one-more : (f : Interval → ℤ) (k : ℕ) (done : List Interval) (i : Interval) → ((j : ℕ) → natAbs (entry j (map f done)) ≤ k) → natAbs (f i) ≤ k
-    → (j : ℕ) → natAbs (entry j (map f (done ++ (i ∷ [])))) ≤ k
-one-more f k [] i h e zero = e
-one-more f k [] i h e (suc j) = omega arith
-one-more f k (d ∷ done) i h e zero = h 0
-one-more f k (d ∷ done) i h e (suc j) = one-more f k done i (λ n. h (suc n)) e j
+nothing : Limited (pos 0) (pos 0) (pos 0) (pos 0)
+nothing = record { lower-small = omega arith; upper-small = omega arith; low-small = omega arith; high-small = omega arith; goals-fit = refl }
 
-more : (done : List Interval) (i : Interval) → Within done → One i → Within (done ++ (i ∷ []))
-more done i w o = record {
-  lower = one-more lowerOf maxBound done i (w .lower) (o .lower);
-  upper = one-more upperOf maxBound done i (w .upper) (o .upper);
-  goals = one-more goalOf maxGoal done i (w .goals) (o .goal);
-}
+more : (done : List Interval) (i : Interval) → ((j : ℕ) → At j done) → Limited (i .lower) (i .upper) (i .low) (i .high)
+    → (j : ℕ) → At j (done ++ (i ∷ []))
+more [] i w o zero = o
+more [] i w o (suc j) = nothing
+more (d ∷ done) i w o zero = w 0
+more (d ∷ done) i w o (suc j) = more done i (λ n. w (suc n)) o j
 
 -- what the intervals behind the next one come to is told by `rest`
 next-within : (s : List ℕ) (k : ℕ) (done : List Interval) (at e : ℕ) (is : List Interval) (o : Outcome Interval) → interval s at ≡ o → Within done
     → (rest : (i : Interval) (p : ℕ) → Within (done ++ (i ∷ [])) → intervals s k (done ++ (i ∷ [])) p ≡ ok is e → Within is)
     → then o (λ i p. intervals s k (done ++ (i ∷ [])) p) ≡ ok is e → Within is
-next-within s k done at e is (ok i p) f w rest h = rest i p (more done i w (interval-within s at p i f)) h
+next-within s k done at e is (ok i p) f w rest h =
+    rest i p (record { each = more done i (w .each) (interval-limited s at p i f) }) h
 next-within s k done at e is (no why) f w rest h = absurd (ok-not-no h)
 
 intervals-within : (s : List ℕ) (k : ℕ) (done : List Interval) (at e : ℕ) (is : List Interval) → Within done → intervals s k done at ≡ ok is e
@@ -94,9 +142,6 @@ intervals-within s (suc k) done at e is w h =
 pub section-within : (s : List ℕ) (at e : ℕ) (is : List Interval) → intervalSection s at ≡ ok is e → Within is
 section-within s at e is h = go (within s (pos 1) (pos deckColumns) Size at) h
   where
-    none : Within []
-    none = record { lower = λ j. omega arith; upper = λ j. omega arith; goals = λ j. omega arith }
-
     go : (o : Outcome ℤ) → then o (λ n p. intervals s (natAbs n) [] p) ≡ ok is e → Within is
-    go (ok n p) f = intervals-within s (natAbs n) [] p e is none f
+    go (ok n p) f = intervals-within s (natAbs n) [] p e is (record { each = λ j. nothing }) f
     go (no why) f = absurd (ok-not-no f)

@@ -1,5 +1,5 @@
 -- Laws of the parts of a text, one for each way through the code: what was read, or at which number it was refused.
---   interval-read, -lower, -upper, -goal    an interval; intervals-more, -stop, -end, so many of them
+--   interval-read, -lower, -upper, -low, -high   an interval; intervals-more, -stop, -end, so many of them
 --   row-even, slack-few, number-small       a kind's row, how many columns it adds, and how large its number is
 --   kind-read, -no, row-read, -kind, -number   a row's kind and number
 --   term-read, -index, -coefficient, -in    a term; terms-more, -stop, -end, so many of them
@@ -22,27 +22,33 @@ use Rattle.problem.specs.declared.Row.{Row}
 use Rattle.problem.specs.declared.Refusal.{Refusal}
 use Rattle.problem.specs.declared.Refusal.the-variants.{Size, Coefficient, Bound, Goal, Term as WrongTerm}
 use Rattle.sections.specs.Rules.{Outcome, ok, no, then, within}
-use Rattle.sections.specs.Sections.{deckColumns, deckRows, spanning, upperFrom, topGoal, interval, intervals, rowOf, kindOf, withRoom}
+use Rattle.sections.specs.Sections.{deckColumns, deckRows, spanning, upperFrom, topGoal, highFrom, interval, intervals, rowOf, kindOf, withRoom}
 use Rattle.sections.specs.Sections.{kindNumber, leastNumber, row, coefficient, term, terms, Line, line, lines, intervalSection, rowSection}
 use Rattle.sections.specs.declared.Interval.{Interval}
 use Rattle.sections.specs.declared.Term.{Term}
 use Rattle.sections.proofs.Numbers.{same-ok, ok-not-no, within-in, abs-within, count-in}
 
-module _ (s : List ℕ) (t₀ t₁ t₂ t₃ : ℕ) (lo up g : ℤ) where
-  pub interval-read : spanning s maxBound Bound t₀ ≡ ok lo t₁ → upperFrom s lo t₁ ≡ ok up t₂ → within s (pos 0) (topGoal lo) Goal t₂ ≡ ok g t₃
-      → interval s t₀ ≡ ok (record { lower = lo; upper = up; goal = g }) t₃
-  interval-read p q r = rw p (rw q (rw r))
+module _ (s : List ℕ) (t₀ t₁ t₂ t₃ t₄ : ℕ) (lower upper low high : ℤ) where
+  pub interval-read : spanning s maxBound Bound t₀ ≡ ok lower t₁ → upperFrom s lower t₁ ≡ ok upper t₂
+      → within s (pos 0) (topGoal lower) Goal t₂ ≡ ok low t₃ → highFrom s low t₃ ≡ ok high t₄
+      → interval s t₀ ≡ ok (record { lower = lower; upper = upper; low = low; high = high }) t₄
+  interval-read p q r h = rw p (rw q (rw r (rw h)))
 
   pub interval-lower : (why : Refusal) → spanning s maxBound Bound t₀ ≡ no why → interval s t₀ ≡ no why
   interval-lower why p = rw p
 
-  pub interval-upper : (why : Refusal) → spanning s maxBound Bound t₀ ≡ ok lo t₁ → upperFrom s lo t₁ ≡ no why → interval s t₀ ≡ no why
+  pub interval-upper : (why : Refusal) → spanning s maxBound Bound t₀ ≡ ok lower t₁ → upperFrom s lower t₁ ≡ no why → interval s t₀ ≡ no why
   interval-upper why p q = rw p (rw q)
 
-  pub interval-goal : (why : Refusal) → spanning s maxBound Bound t₀ ≡ ok lo t₁ → upperFrom s lo t₁ ≡ ok up t₂
-      → within s (pos 0) (topGoal lo) Goal t₂ ≡ no why
+  pub interval-low : (why : Refusal) → spanning s maxBound Bound t₀ ≡ ok lower t₁ → upperFrom s lower t₁ ≡ ok upper t₂
+      → within s (pos 0) (topGoal lower) Goal t₂ ≡ no why
       → interval s t₀ ≡ no why
-  interval-goal why p q r = rw p (rw q (rw r))
+  interval-low why p q r = rw p (rw q (rw r))
+
+  pub interval-high : (why : Refusal) → spanning s maxBound Bound t₀ ≡ ok lower t₁ → upperFrom s lower t₁ ≡ ok upper t₂
+      → within s (pos 0) (topGoal lower) Goal t₂ ≡ ok low t₃ → highFrom s low t₃ ≡ no why
+      → interval s t₀ ≡ no why
+  interval-high why p q r h = rw p (rw q (rw r (rw h)))
 
 module _ (s : List ℕ) (done : List Interval) (ts us : ℕ) where
   pub intervals-more : (k : ℕ) (i : Interval) → 0 < k → interval s ts ≡ ok i us → intervals s k done ts ≡ intervals s (k - 1) (done ++ (i ∷ [])) us

@@ -1,6 +1,6 @@
 -- Document 01, "Continue, text, listing": the first two sections of a text. "Sections: the count of intervals, then for each its lower, upper and
 -- goal; the count of rows, then for each its kind, its number, its count of terms (0 to the count of intervals), then index and coefficient for each
--- term."
+-- term." Document 02, (v): "an interval's line in the text has four numbers", with "a low and a high goal" for the goal.
 --   deckColumns, deckRows   the most columns and rows of a text: the problem's
 --   coefficientCount        the most coefficients
 --   maxText                 "a text over 32,768 bytes is 11"
@@ -8,7 +8,7 @@
 --   Interval, Term          declared in src/; Row and Kind are the problem's
 --   Line                    a row with its terms
 --   spanning s k why at     a number in −k to k
---   interval, intervals     an interval, by upperFrom and topGoal, and so many of them
+--   interval, intervals     an interval, by upperFrom, topGoal and highFrom with its topHigh, and so many of them
 --   row                     a row's kind and number, by rowOf, kindOf, withRoom, kindNumber and leastNumber
 --   term, terms             a term, with its coefficient, and so many of them
 --   line, lines             a row with its terms, and so many of them
@@ -22,6 +22,7 @@ use Prim.Native.Nat.{ℕ, zero, suc, _+_, _*_}
 use lib.Dec.{ltb}
 use lib.IntN.{ℤ, pos, natAbs, negℤ}
 use lib.Signed.{leZ}
+use Rattle.whole.specs.Tests.{isZero}
 use Rattle.problem.specs.Limits.{maxColumns, maxRows, maxCoefficient, maxRight, maxBound, maxGoal}
 use Rattle.problem.specs.Kinds.{slackCount}
 use Rattle.problem.specs.declared.Kind.{Kind}
@@ -53,7 +54,7 @@ deckSizes = record { columns = deckColumns; rows = deckRows; text = maxText }
 abbrev pub spanning : List ℕ → ℕ → Refusal → ℕ → Outcome ℤ
 spanning s k why at = within s (negℤ (pos k)) (pos k) why at
 
--- ---- an interval: "its lower, upper and goal"
+-- ---- an interval: its lower, upper, low and high, each judged at its own place
 
 -- lower at most upper, judged at the upper's place
 abbrev pub upperFrom : List ℕ → ℤ → ℕ → Outcome ℤ
@@ -63,12 +64,21 @@ upperFrom s lower at = within s lower (pos maxBound) Bound at
 abbrev pub topGoal : ℤ → ℤ
 topGoal lower = cond (leZ (pos 1) lower) (pos maxGoal) (pos 0)
 
+-- "both 0 or both set": the highest high goal with this low one
+abbrev pub topHigh : ℤ → ℤ
+topHigh low = cond (isZero low) (pos 0) (pos maxGoal)
+
+-- "low at most high", judged at the high's place; "A pair that breaks the rule is refused as 5 is now."
+abbrev pub highFrom : List ℕ → ℤ → ℕ → Outcome ℤ
+highFrom s low at = within s low (topHigh low) Goal at
+
 abbrev pub interval : List ℕ → ℕ → Outcome Interval
 interval s at =
     then (spanning s maxBound Bound at) (λ lower at.
     then (upperFrom s lower at) (λ upper at.
-    then (within s (pos 0) (topGoal lower) Goal at) (λ goal at.
-    ok (record { lower = lower; upper = upper; goal = goal }) at)))
+    then (within s (pos 0) (topGoal lower) Goal at) (λ low at.
+    then (highFrom s low at) (λ high at.
+    ok (record { lower = lower; upper = upper; low = low; high = high }) at))))
 
 -- k intervals, after those done
 unfoldable pub intervals : List ℕ → ℕ → List Interval → ℕ → Outcome (List Interval)

@@ -2,8 +2,8 @@
 --   slackInterval lo   "Each y goes up to 1,000,000, has no goal, and takes the next column after the intervals, in row order."
 --   slackColumns ls    the y of each row that has one
 --   coefficientRow ..  a row's n coefficients: its terms `placed`, and `withSlack` its y at column c; coefficientRows, those of the rows
---   lowerOf, upperOf, goalOf, rightOf   the numbers of an interval and of a row
---   cell i             a column as it lies in the reader's table of columns: lower, upper, goal; columnWidth numbers. `cells`, of all columns
+--   lowerOf, upperOf, lowOf, highOf, rightOf   the numbers of an interval and of a row
+--   cell i             a column as it lies in the reader's table of columns: lower, upper, low, high; columnWidth numbers. `cells`, of all columns
 --   columnCells        the most numbers of that table
 --   padded size u      a buffer of size numbers that starts with the list u: "the rest becomes 0"
 --   blank n            n numbers that are 0; shut, since a long list of them is written out wherever it is open
@@ -20,7 +20,7 @@ use Rattle.sections.specs.declared.Interval.{Interval}
 use Rattle.sections.specs.declared.Term.{Term}
 
 abbrev pub slackInterval : ℕ → Interval
-slackInterval lo = record { lower = pos lo; upper = pos maxBound; goal = pos 0 }
+slackInterval lo = record { lower = pos lo; upper = pos maxBound; low = pos 0; high = pos 0 }
 
 abbrev pub slackColumn : Slack → List Interval
 slackColumn none = []
@@ -53,21 +53,24 @@ lowerOf i = i .lower
 abbrev pub upperOf : Interval → ℤ
 upperOf i = i .upper
 
-abbrev pub goalOf : Interval → ℤ
-goalOf i = i .goal
+abbrev pub lowOf : Interval → ℤ
+lowOf i = i .low
+
+abbrev pub highOf : Interval → ℤ
+highOf i = i .high
 
 abbrev pub rightOf : Line → ℤ
 rightOf l = l .row .right
 
 -- ---- in the reader's tables
 abbrev pub columnWidth : ℕ
-columnWidth = 3
+columnWidth = 4
 
 abbrev pub columnCells : ℕ
 columnCells = deckColumns * columnWidth
 
 abbrev pub cell : Interval → List ℤ
-cell i = i .lower ∷ i .upper ∷ i .goal ∷ []
+cell i = i .lower ∷ i .upper ∷ i .low ∷ i .high ∷ []
 
 unfoldable pub cells : List Interval → List ℤ
 cells [] = []

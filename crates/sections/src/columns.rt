@@ -14,6 +14,6 @@ pub(crate) fn put_column(columns: &mut [i64], i: usize, v: Interval)
     requires { ⌜ (i < deckColumns) × (length (now columns) ≡ columnCells) ⌝ }
     ensures { λ _. ⌜ now (columns .exit) ≡ overwritten (now (columns .entry)) (i * columnWidth) (cell v) ⌝ }
 {
-    let numbers = [v.lower, v.upper, v.goal];
+    let numbers = [v.lower, v.upper, v.low, v.high];
     copy(columns, i * Sizes::WIDTH, &numbers);
 }

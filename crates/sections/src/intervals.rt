@@ -14,7 +14,7 @@ use problem::Problem;
 use problem::Refusal;
 use whole::buffers::wipe;
 ghost use mathlib.Core.Path.{_≡_};
-ghost use Rattle.sections.specs.Sections.{topGoal, interval as interval·rule, intervalSection};
+ghost use Rattle.sections.specs.Sections.{topGoal, topHigh, interval as interval·rule, intervalSection};
 ghost use Rattle.sections.specs.StatedColumns.{columnCells, blank};
 ghost use Rattle.sections.specs.SectionsRead.{intervalGotOf, IntervalsRead, intervalsDone, intervalsLeft};
 
@@ -35,7 +35,18 @@ fn top_goal(lower: i64) -> i64
     }
 }
 
-// An interval's lower, upper and goal.
+// The highest high goal of a column with this low one: with no low goal there is no high one.
+fn top_high(low: i64) -> i64
+    ensures { λ r. ⌜ r ≡ topHigh low ⌝ }
+{
+    if natural(low) == 0 {
+        0
+    } else {
+        text::scanner::positive(Problem::MAX_GOAL)
+    }
+}
+
+// An interval's lower, upper, low and high.
 fn read_interval(s: &[u8], at: usize) -> IntervalGot
     ensures { λ r. ⌜ interval·rule (now (s .entry)) at ≡ intervalGotOf r ⌝ }
 {
@@ -48,10 +59,21 @@ fn read_interval(s: &[u8], at: usize) -> IntervalGot
                 Got::Value(upper, q) => {
                     let c = within(s, q, 0, top_goal(lower), Refusal::Goal);
                     match c {
-                        Got::Value(goal, e) => IntervalGot::Read(
-                            Interval { lower, upper, goal },
-                            e,
-                        ),
+                        Got::Value(low, r) => {
+                            let d = within(s, r, low, top_high(low), Refusal::Goal);
+                            match d {
+                                Got::Value(high, e) => IntervalGot::Read(
+                                    Interval {
+                                        lower,
+                                        upper,
+                                        low,
+                                        high,
+                                    },
+                                    e,
+                                ),
+                                Got::Refused(why) => IntervalGot::Refused(why),
+                            }
+                        }
                         Got::Refused(why) => IntervalGot::Refused(why),
                     }
                 }

@@ -25,8 +25,8 @@ impl Sizes {
 
     pub const TEXT: usize = 32768;
 
-    // The numbers of a column in the reader's table of columns: its lower bound, its upper bound and its goal.
-    pub const WIDTH: usize = 3;
+    // The numbers of a column in the reader's table of columns: its lower and its upper bound, its low and its high goal.
+    pub const WIDTH: usize = 4;
 
     pub const CELLS: usize = Sizes::COLUMNS * Sizes::WIDTH;
 
@@ -42,11 +42,12 @@ impl Sizes {
     }
 }
 
-// An interval's line: its bounds and its goal.
+// An interval's line: its bounds and its goals.
 pub struct Interval {
     pub lower: i64,
     pub upper: i64,
-    pub goal: i64,
+    pub low: i64,
+    pub high: i64,
 }
 
 // The places of a column's numbers in the reader's table.
@@ -55,7 +56,9 @@ impl Interval {
 
     pub const UPPER: usize = 1;
 
-    pub const GOAL: usize = 2;
+    pub const LOW: usize = 2;
+
+    pub const HIGH: usize = 3;
 }
 
 // A term of a row: the interval's index, from 1, and its coefficient.

@@ -273,12 +273,13 @@ fn put_slack(kind: Kind, column: usize, line: &mut [i64], columns: &mut [i64])
     let y = slack_of(kind);
     match y {
         Slack::None => {}
-        Slack::Column(coefficient, low) => {
+        Slack::Column(coefficient, least) => {
             line[column] = coefficient;
             let interval = Interval {
-                lower: low as i64,
+                lower: least as i64,
                 upper: text::scanner::positive(Problem::MAX_BOUND),
-                goal: 0,
+                low: 0,
+                high: 0,
             };
             put_column(columns, column, interval);
         }

@@ -1,4 +1,4 @@
--- `sections::columns::put_column` meets its contract: a column's three numbers are copied. Assumes nothing.
+-- `sections::columns::put_column` meets its contract: a column's four numbers are copied. Assumes nothing.
 use mathlib.Core.Path.{_≡_}
 use mir.Syntax.{w64}
 use mir.Val.{toZ, ofZ}
@@ -24,8 +24,9 @@ returns c =
     let v : Interval = c .before .before .before .before .before .args .v in
     let a : toZ w64 (ofZ w64 (v .lower)) ≡ v .lower = search needs in
     let b : toZ w64 (ofZ w64 (v .upper)) ≡ v .upper = search needs in
-    let g : toZ w64 (ofZ w64 (v .goal)) ≡ v .goal = search needs in
-    rw (a, b, g) at (c .before .copy .ensures)
+    let l : toZ w64 (ofZ w64 (v .low)) ≡ v .low = search needs in
+    let h : toZ w64 (ofZ w64 (v .high)) ≡ v .high = search needs in
+    rw (a, b, l, h) at (c .before .copy .ensures)
 
 pub put-column-spec : {M : Type 1} → statement M
 put-column-spec =
