@@ -4,3 +4,4 @@ pub mod Parts
 pub mod Storage
 pub mod Limits
 pub mod Extending
+pub mod Cases

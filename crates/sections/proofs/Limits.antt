@@ -1,11 +1,10 @@
 -- The intervals that a text states lie within the limits.
---   goalFits ..          document 02, (v): "both 0 or both set, low at most high", both in the range, and none with a lower bound below 1
 --   Limited ..           what the limits say of the four numbers of an interval
 --   At j is, Within is   they say it at the place j, and at each place, also past the last one, where all numbers are 0
 --   section-within       so it is for a section that was read
 -- Assumes nothing.
 use mathlib.Core.Path.{_≡_, refl, subst}
-use mathlib.Core.Bool.{Bool, true, false, cond, not, _&&_, _||_, false≢true}
+use mathlib.Core.Bool.{Bool, true, false, cond, false≢true}
 use mathlib.Core.List.{List, [], _∷_, _++_, map}
 use Prim.Native.Nat.{ℕ, zero, suc, _≤_}
 use native.Mathlib.Omega.{arith}
@@ -14,23 +13,16 @@ use lib.Dec.{leb·zero}
 use lib.IntN.{ℤ, pos, negsuc, natAbs, negℤ}
 use lib.Signed.{leZ}
 use Rattle.whole.specs.Lists.{entry}
-use Rattle.whole.specs.Tests.{isZero, inRange}
-use Rattle.whole.proofs.Tests.{both-true, range-small}
+use Rattle.whole.specs.Tests.{isZero}
+use Rattle.whole.proofs.Tests.{all-true, range-small}
 use Rattle.problem.specs.Limits.{maxBound, maxGoal}
+use Rattle.problem.specs.Checks.{goalInside, goalFits}
 use Rattle.problem.specs.declared.Refusal.the-variants.{Size, Bound, Goal}
 use Rattle.sections.specs.Rules.{Outcome, ok, no, then, within}
 use Rattle.sections.specs.Sections.{deckColumns, spanning, upperFrom, topGoal, topHigh, highFrom, interval, intervals, intervalSection}
 use Rattle.sections.specs.StatedColumns.{lowerOf, upperOf, lowOf, highOf}
 use Rattle.sections.specs.declared.Interval.{Interval}
 use Rattle.sections.proofs.Numbers.{same-ok, ok-not-no, then-ok, within-in, abs-within}
-
-abbrev bothOrNone : ℤ → ℤ → Bool
-bothOrNone low high = cond (isZero low) (isZero high) (not (isZero high))
-
-abbrev pub goalFits : ℤ → ℤ → ℤ → Bool
-goalFits lower low high =
-    (inRange (pos 0) (pos maxGoal) low && inRange (pos 0) (pos maxGoal) high)
-    && ((bothOrNone low high && leZ low high) && (isZero low || leZ (pos 1) lower))
 
 pub record Limited (lower upper low high : ℤ) : Type 0 where
   pub lower-small : natAbs lower ≤ maxBound
@@ -65,7 +57,7 @@ pair-fits lower (pos (suc k)) (pos (suc n)) a b c d = go (leZ (pos 1) lower) ref
 
 goals-small : (lower low high : ℤ) → goalFits lower low high ≡ true → (natAbs low ≤ maxGoal) × (natAbs high ≤ maxGoal)
 goals-small lower low high e =
-    let r = both-true (inRange (pos 0) (pos maxGoal) low) (inRange (pos 0) (pos maxGoal) high) (both-true _ _ e .0) in
+    let r = all-true (goalInside low) (goalInside high) _ e in
     (range-small maxGoal low (r .0), range-small maxGoal high (r .1))
 
 -- ---- an interval
