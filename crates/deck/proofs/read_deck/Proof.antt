@@ -73,10 +73,10 @@ module _ (c : tie.After-d) where
 
 -- from each list that is filled to the one before
 abbrev before-columns : tie.After-pick-columns → tie.After-d
-before-columns c = c .before .before .before .before
+before-columns c = c .before .before .before .before .before .before .before
 
 abbrev before-rights : tie.After-copy → tie.After-pick-columns
-before-rights c = c .before .before .before .before
+before-rights c = c .before .before .before .before .before .before .before
 
 abbrev before-wipe : tie.After-wipe → tie.After-copy
 before-wipe c = c .before .before .before
@@ -155,7 +155,7 @@ slice-aggregate-pick-columns c = search needs
 
 pick-columns-requires : tie.Need-pick-columns-requires
 pick-columns-requires c κs =
-    let s = scanned (c .before .before .before) in
+    let s = scanned (c .before .before .before .before .before .before) in
     let l = long s in
     (s .scan .kept .1 .0, l .lower, l .upper, l .low, l .high)
 
@@ -164,7 +164,7 @@ slice-aggregate-copy c = search needs
 
 copy-requires : tie.Need-copy-requires
 copy-requires c κs =
-    let s = scanned (before-columns (c .before .before .before)) in
+    let s = scanned (before-columns (c .before .before .before .before .before .before)) in
     long s .rights ∙ sym (s .scan .kept .1 .1 .0)
 
 wipe-requires : tie.Need-wipe-requires
@@ -182,7 +182,7 @@ compact-requires c κs =
 
 hand-in-requires : tie.Need-hand-in-requires
 hand-in-requires c κs =
-    let o = c .before .before .before .before .before .before .before in
+    let o = c .before .before .before .before .before .before .before .before in
     let d = read (copied o) in
     let s = scanned d in (
       sized (text s) (cursor d) (k d) (b d) (t d) (stored d) (coefficients o) (rights o) (lower o) (upper o) (low o) (high o) (out o),
@@ -220,7 +220,7 @@ same-length-8 c = search needs
 returns-3 : tie.Need-returns-3
 returns-3 c =
     let h = c .before .before in
-    let o = h .before .before .before .before .before .before .before .before in
+    let o = h .before .before .before .before .before .before .before .before .before in
     let d = read (copied o) in
     let s = scanned d in
     accepting (text s) (cursor d) (k d) (b d) (t d) (stored d) (coefficients o) (rights o) (lower o) (upper o) (low o) (high o) (out o) (lent (start s))
