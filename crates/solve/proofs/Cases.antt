@@ -1,4 +1,4 @@
--- The marked deck cases hold: the checker computes each from the definitions. Assumes nothing.
+-- The marked deck cases hold, and those of a low and a high goal: the checker computes each from the definitions. Assumes nothing.
 use mathlib.Core.Path.{refl}
 use Rattle.whole.specs.Tests.{every}
 use Rattle.whole.specs.Divisor.{divisorBy, divisor}
@@ -30,6 +30,7 @@ use Rattle.deck.specs.Posing.{readDeck, posed}
 use Rattle.report.specs.Listing.{linesFrom, listing}
 use Rattle.solve.specs.Program.{printed}
 use Rattle.solve.specs.Cases.{DeckCases}
+use Rattle.solve.specs.GoalCases.{GoalCases}
 
 pub deck-cases : DeckCases
 unfolding numbersFrom neighbourWish
@@ -52,4 +53,24 @@ deck-cases = record {
   fitted = refl;
   spent = refl;
   paving = refl;
+}
+
+pub goal-cases : GoalCases
+unfolding every divisorBy divisor plus neg allZero lead anyBeyond firstCause tableauFrom tableau lowered reduced each choose exchange clear round
+    gather passColumn passColumns eliminate sweep leading remaining rightSide form solve rootBits wholeRoot goalIdeal ideal seatOne seat singles
+    pairsWith pairs moves moved measure isRanked passes improves insert rankFrom firstMove firstColumn stepAt stepOf nextStep settleFrom settle
+    stride stridesFrom settleOn assign
+goal-cases = record {
+  between = refl;
+  edge = refl;
+  seats = refl;
+  tied = refl;
+  crossed = refl;
+  high-alone = refl;
+  low-alone = refl;
+  beyond = refl;
+  negative = refl;
+  lower-zero = refl;
+  none = refl;
+  bound-first = refl;
 }

@@ -1,4 +1,5 @@
 -- The root of the definitions.
 pub mod Program
 pub mod Cases
+pub mod GoalCases
 pub mod Swept

@@ -28,16 +28,16 @@ module _ (w : tie.After-assign) where
   start = let after-tableau = w .before .before .before in after-tableau .before .before .before
 
   abbrev values : List ℤ
-  values = w .assign .last .1 .1 .1 .1 .1 .1 .1 .1 .1 .0
+  values = w .assign .last .1 .1 .1 .1 .1 .1 .1 .1 .1 .1 .0
 
   abbrev strides : List ℕ
-  strides = w .assign .last .1 .1 .1 .1 .1 .1 .1 .1 .1 .1 .0
+  strides = w .assign .last .1 .1 .1 .1 .1 .1 .1 .1 .1 .1 .1 .0
 
   values-long : length values ≡ start .args .p .columns
-  values-long = w .assign .kept .1 .1 .1 .1 .1 .1 .1 .1 .1 .0 ∙ length-take-le _ _ (start .pre .0)
+  values-long = w .assign .kept .1 .1 .1 .1 .1 .1 .1 .1 .1 .1 .0 ∙ length-take-le _ _ (start .pre .0)
 
   strides-long : length strides ≡ start .args .p .columns
-  strides-long = w .assign .kept .1 .1 .1 .1 .1 .1 .1 .1 .1 .1 .0 ∙ length-take-le _ _ (start .pre .0)
+  strides-long = w .assign .kept .1 .1 .1 .1 .1 .1 .1 .1 .1 .1 .1 .0 ∙ length-take-le _ _ (start .pre .0)
 
   values-fit : start .args .p .columns ≤ length (values ++ drop (start .args .p .columns) (blank deckColumns))
   values-fit = put-back _ values _ values-long

@@ -58,8 +58,8 @@ returns-2 : tie.Need-returns-2
 returns-2 c =
     let after-tell-sizes = c .before .before .before in
     let after-upper = after-tell-sizes .before .before .before .before .before in
-    let after-read-deck = after-upper .before .before .before .before in
-    let after-read-deck-arg3 = after-read-deck .before .before .before .before .before in
+    let after-read-deck = after-upper .before .before .before .before .before in
+    let after-read-deck-arg3 = after-read-deck .before .before .before .before .before .before in
     let else1 = after-read-deck-arg3 .before .before .before in
     let start = else1 .before .before .before in
     let a = start in
