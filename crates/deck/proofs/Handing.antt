@@ -10,9 +10,9 @@ use native.Mathlib.Omega.{arith}
 use lib.IntN.{ℤ, pos, natAbs}
 use lib.ListN.{length}
 use Rattle.whole.specs.Lists.{zeros, entry}
-use Rattle.settling.specs.declared.Wish.{Wish}
-use Rattle.settling.specs.declared.Wish.the-variants.{Unset}
-use Rattle.settling.specs.Ideals.{wishMark, wishNumber}
+use Rattle.goals.specs.declared.Wish.{Wish}
+use Rattle.goals.specs.declared.Wish.the-variants.{Unset}
+use Rattle.goals.specs.Wishes.{wishMark, wishNumber}
 use Rattle.neighbours.specs.Neighbours.{Stated, statedBy, neighbourWish, numbersFrom, givenOf, idealsOf}
 use Rattle.neighbours.specs.Beside.{SmallColumns}
 use Rattle.neighbours.proofs.Laws.{wish-past, numbers-length, numbers-past}

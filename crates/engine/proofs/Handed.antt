@@ -17,9 +17,9 @@ use Rattle.problem.specs.declared.Lent.{Lent}
 use Rattle.problem.specs.declared.Refusal.the-variants.{Elimination, Standing}
 use Rattle.tableau.specs.RightSide.{Found, none, some, basis}
 use Rattle.goals.specs.Ideals.{goalIdeal}
-use Rattle.settling.specs.declared.Wish.{Wish}
-use Rattle.settling.specs.declared.Wish.the-variants.{Unset, Set}
-use Rattle.settling.specs.Ideals.{into, wishOf, columnWish, ideal}
+use Rattle.goals.specs.declared.Wish.{Wish}
+use Rattle.goals.specs.declared.Wish.the-variants.{Unset, Set}
+use Rattle.goals.specs.Wishes.{into, wishOf, columnWish, ideal}
 use Rattle.settling.specs.Seating.{idealAt, Seated, seated, far, seat}
 use Rattle.settling.specs.Steps.{partOf, nextStep}
 use Rattle.settling.specs.Strides.{strides}

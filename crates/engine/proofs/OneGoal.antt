@@ -8,7 +8,7 @@ use Rattle.whole.specs.Tests.{isZero, every}
 use Rattle.problem.specs.Checks.{Posed}
 use Rattle.problem.proofs.CheckLaws.{Fits, passes, fits}
 use Rattle.goals.proofs.OneGoal.{ideal-kept, fit-kept}
-use Rattle.settling.specs.declared.Wish.the-variants.{Set}
+use Rattle.goals.specs.declared.Wish.the-variants.{Set}
 use Rattle.settling.specs.Columns.{listed}
 use Rattle.engine.specs.Assign.{Buffers, n, columns, lentOf}
 use Rattle.engine.specs.Demand.{WithinLimits, handedIn}

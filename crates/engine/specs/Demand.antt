@@ -32,8 +32,8 @@ use Rattle.problem.specs.declared.Refusal.the-variants.{Elimination, NoWholeNum
 use Rattle.problem.specs.declared.Check.the-variants.{Passed}
 use Rattle.problem.specs.declared.Answer.the-variants.{Refused}
 use Rattle.tableau.specs.RightSide.{some}
-use Rattle.settling.specs.declared.Wish.{Wish}
-use Rattle.settling.specs.Ideals.{wishOf}
+use Rattle.goals.specs.declared.Wish.{Wish}
+use Rattle.goals.specs.Wishes.{wishOf}
 use Rattle.engine.specs.Assign.{Buffers, Done, n, matrix, lentOf, solved, assign}
 
 -- ---- the words

@@ -17,9 +17,9 @@ use lib.ListN.{length}
 use Rattle.whole.specs.Lists.{entry}
 use Rattle.whole.specs.Tests.{isZero}
 use Rattle.problem.specs.Checks.{Posed}
-use Rattle.settling.specs.declared.Wish.{Wish}
-use Rattle.settling.specs.declared.Wish.the-variants.{Unset, Set}
-use Rattle.settling.specs.Ideals.{into}
+use Rattle.goals.specs.declared.Wish.{Wish}
+use Rattle.goals.specs.declared.Wish.the-variants.{Unset, Set}
+use Rattle.goals.specs.Wishes.{into}
 use Rattle.engine.specs.Assign.{Buffers, assign, continue}
 use Rattle.engine.specs.Demand.{handedIn}
 use Rattle.engine.specs.Preview.{preview}

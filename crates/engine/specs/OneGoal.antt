@@ -17,8 +17,8 @@ use Rattle.whole.specs.Tests.{isZero, every}
 use Rattle.problem.specs.Checks.{Posed, goalsFit}
 use Rattle.goals.specs.OneGoal.{oneGoalIdeal, oneGoalFits}
 use Rattle.settling.specs.declared.Measure.{Measure}
-use Rattle.settling.specs.declared.Wish.{Wish}
-use Rattle.settling.specs.declared.Wish.the-variants.{Set}
+use Rattle.goals.specs.declared.Wish.{Wish}
+use Rattle.goals.specs.declared.Wish.the-variants.{Set}
 use Rattle.settling.specs.Columns.{Column, Columns}
 use Rattle.settling.specs.Measures.{fraction, larger, ratio}
 use Rattle.engine.specs.Assign.{Buffers, n, columns}

@@ -12,7 +12,7 @@ use mathlib.Core.List.{List, [], _∷_}
 use lib.IntN.{ℤ, pos, negsuc}
 use Rattle.whole.specs.Tests.{every}
 use Rattle.goals.specs.Ideals.{rootBits, wholeRoot, goalIdeal}
-use Rattle.settling.specs.declared.Wish.the-variants.{Unset, Set}
+use Rattle.goals.specs.declared.Wish.the-variants.{Unset, Set}
 use Rattle.neighbours.specs.Neighbours.{Stated, statedBy, chosen, total, neighbourWish, numbersFrom, givenOf, idealsOf}
 
 abbrev five : ℤ → ℤ → ℤ → ℤ → ℤ → List ℤ → List ℤ

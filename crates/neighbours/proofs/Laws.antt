@@ -25,8 +25,8 @@ use Rattle.whole.proofs.Integers.{rep, diff-rel}
 use Rattle.whole.proofs.Signed.{abs-add}
 use Rattle.problem.specs.Limits.{maxBound}
 use Rattle.goals.specs.Ideals.{goalIdeal}
-use Rattle.settling.specs.declared.Wish.the-variants.{Unset, Set}
-use Rattle.settling.specs.Ideals.{ideal}
+use Rattle.goals.specs.declared.Wish.the-variants.{Unset, Set}
+use Rattle.goals.specs.Wishes.{ideal}
 use Rattle.settling.proofs.Seats.{ideal-small}
 use Rattle.neighbours.specs.Neighbours.{Stated, idealOf, chosen, total, mean, meanBy}
 use Rattle.neighbours.specs.Neighbours.{neighbourIdeals, isPlainInterval, neighbourWish, numbersFrom}

@@ -19,7 +19,7 @@ use Rattle.whole.specs.Tests.{isZero, every, positive}
 use Rattle.whole.proofs.Counted.{every-not}
 use Rattle.whole.proofs.Integers.{isZero-true, floorQuotient-low, floorQuotient-high}
 use Rattle.whole.proofs.Tests.{both-true}
-use Rattle.settling.specs.declared.Wish.the-variants.{Unset, Set}
+use Rattle.goals.specs.declared.Wish.the-variants.{Unset, Set}
 use Rattle.neighbours.specs.Neighbours.{Stated, inRow, shares, isNeighbour, idealOf, chosen, neighbourIdeals}
 use Rattle.neighbours.specs.Neighbours.{total, meanBy, mean, isPlainInterval, neighbourWish}
 use Rattle.neighbours.specs.Rule.{SharedRow, Neighbour, Plain, Apart, Among, HandsMean, ReadersRule}

@@ -26,9 +26,9 @@ use Rattle.whole.specs.Lists.{entry}
 use Rattle.whole.specs.Quotient.{floorQuotient}
 use Rattle.whole.specs.Tests.{isZero, every}
 use Rattle.goals.specs.Ideals.{goalIdeal}
-use Rattle.settling.specs.declared.Wish.{Wish}
-use Rattle.settling.specs.declared.Wish.the-variants.{Unset, Set}
-use Rattle.settling.specs.Ideals.{into, wishMark, wishNumber}
+use Rattle.goals.specs.declared.Wish.{Wish}
+use Rattle.goals.specs.declared.Wish.the-variants.{Unset, Set}
+use Rattle.goals.specs.Wishes.{into, wishMark, wishNumber}
 
 pub record Stated : Type 0 where
   pub rows : ℕ

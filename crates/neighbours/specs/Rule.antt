@@ -18,7 +18,7 @@ use Prim.Native.Nat.{ℕ, suc, _<_, _≤_}
 use lib.IntN.{ℤ, pos, negℤ, _+ℤ_, _*ℤ_}
 use lib.ListN.{length}
 use lib.Signed.{_≤ℤ_, _<ℤ_}
-use Rattle.settling.specs.declared.Wish.the-variants.{Unset, Set}
+use Rattle.goals.specs.declared.Wish.the-variants.{Unset, Set}
 use Rattle.neighbours.specs.Neighbours.{Stated, idealOf, total, neighbourWish}
 
 pub record SharedRow (S : Stated) (j h : ℕ) : Type 0 where

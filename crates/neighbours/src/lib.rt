@@ -8,15 +8,15 @@ ghost use Rattle.whole.specs.Lists.{entry};
 ghost use Rattle.whole.specs.Tests.{isZero};
 ghost use Rattle.problem.specs.Limits.{maxColumns, maxRows, maxGoal};
 ghost use Rattle.goals.specs.Ideals.{goalIdeal};
-ghost use Rattle.settling.specs.Ideals.{into};
+ghost use Rattle.goals.specs.Wishes.{into};
 ghost use Rattle.neighbours.specs.Beside.{LongEnough, SmallColumns, rowsBy};
 ghost use Rattle.neighbours.specs.Neighbours.{statedBy, shares, neighbourIdeals, meanBy, mean, neighbourWish, givenOf, idealsOf};
+use goals::Wish;
 use goals::goal_ideal;
-use settling::Wish;
-use settling::into_bounds;
+use goals::into_bounds;
+use goals::wish_mark;
+use goals::wish_number;
 use settling::measures::is_zero;
-use settling::wish_mark;
-use settling::wish_number;
 use whole::floor_quotient;
 
 // How many columns and rows a problem has, and how many of its columns are intervals.

@@ -13,10 +13,10 @@ use lib.ListN.{length, set, drop, length-append, length-drop, List·getD-eq-defa
 use lib.Seq.{drop-drop}
 use Rattle.whole.specs.Lists.{entry}
 use Rattle.whole.proofs.Lists.{set-behind}
-use Rattle.settling.specs.declared.Wish.{Wish}
-use Rattle.settling.specs.declared.Wish.the-variants.{Unset, Set}
+use Rattle.goals.specs.declared.Wish.{Wish}
+use Rattle.goals.specs.declared.Wish.the-variants.{Unset, Set}
 use Rattle.settling.specs.Columns.{Column, width, columnAt, columnsIn, columnOf, listed, recordOf, packedFrom, packed}
-use Rattle.settling.specs.Ideals.{wishOf, wishMark, wishNumber}
+use Rattle.goals.specs.Wishes.{wishOf, wishMark, wishNumber}
 use Rattle.settling.specs.Packing.{put}
 use Rattle.settling.proofs.Fronts.{lt-or-ge}
 

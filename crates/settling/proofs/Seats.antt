@@ -25,9 +25,9 @@ use Rattle.whole.specs.Quotient.{floorQuotient, nearestQuotient}
 use Rattle.whole.proofs.Signed.{abs-add, abs-mul}
 use Rattle.problem.specs.Limits.{M, maxBound, beyond, anyBeyond}
 use Rattle.settling.specs.declared.Basis.{Basis}
-use Rattle.settling.specs.declared.Wish.{Wish}
+use Rattle.goals.specs.declared.Wish.{Wish}
 use Rattle.settling.specs.Columns.{Columns, width}
-use Rattle.settling.specs.Ideals.{into, wished, ideal}
+use Rattle.goals.specs.Wishes.{into, wished, ideal}
 use Rattle.settling.specs.Moves.{vector}
 use Rattle.settling.specs.Seating.{idealAt, gapAt, seatOne, seated, far, seat}
 use Rattle.settling.proofs.Sizes.{between, abs-less}

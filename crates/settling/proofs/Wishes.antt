@@ -15,7 +15,7 @@ use Rattle.problem.specs.Answers.{noSteps}
 use Rattle.problem.specs.Limits.{anyBeyond}
 use Rattle.problem.specs.declared.Counts.{Counts}
 use Rattle.problem.specs.declared.Answer.the-variants.{Spent}
-use Rattle.settling.specs.declared.Wish.the-variants.{Unset}
+use Rattle.goals.specs.declared.Wish.the-variants.{Unset}
 use Rattle.settling.specs.Columns.{Columns}
 use Rattle.settling.specs.Moves.{moved}
 use Rattle.settling.specs.Seating.{idealAt, seatOne, far, seat}

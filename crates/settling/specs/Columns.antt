@@ -19,8 +19,8 @@ use Prim.Native.Nat.{ℕ, zero, suc, _+_, _*_}
 use lib.IntN.{ℤ}
 use Rattle.whole.specs.Lists.{entry}
 use Rattle.settling.specs.declared.Cell.{Cell}
-use Rattle.settling.specs.declared.Wish.{Wish}
-use Rattle.settling.specs.Ideals.{wishOf, wishMark, wishNumber, columnWish}
+use Rattle.goals.specs.declared.Wish.{Wish}
+use Rattle.goals.specs.Wishes.{wishOf, wishMark, wishNumber, columnWish}
 
 pub record Column : Type 0 where
   pub lower : ℤ

@@ -1,5 +1,4 @@
 -- The root of the definitions.
-pub mod Ideals
 pub mod Columns
 pub mod Packing
 pub mod Seating

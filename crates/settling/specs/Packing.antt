@@ -9,8 +9,8 @@ use lib.IntN.{ℤ, natAbs}
 use lib.ListN.{length, set}
 use Rattle.whole.specs.Lists.{entry}
 use Rattle.problem.specs.Limits.{maxGoal}
-use Rattle.settling.specs.declared.Wish.{Wish}
-use Rattle.settling.specs.Ideals.{wishMark, wishNumber}
+use Rattle.goals.specs.declared.Wish.{Wish}
+use Rattle.goals.specs.Wishes.{wishMark, wishNumber}
 use Rattle.settling.specs.Columns.{Column, width}
 
 abbrev pub putWish : ℕ → Wish → List ℤ → List ℤ

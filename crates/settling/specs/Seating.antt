@@ -16,7 +16,7 @@ use Rattle.whole.specs.Quotient.{nearestQuotient}
 use Rattle.lattice.specs.Rows.{plus, lead}
 use Rattle.problem.specs.Limits.{anyBeyond}
 use Rattle.settling.specs.Columns.{Columns}
-use Rattle.settling.specs.Ideals.{ideal}
+use Rattle.goals.specs.Wishes.{ideal}
 
 abbrev pub idealAt : Columns → List ℤ → ℕ → ℤ
 idealAt C v c = ideal (C .column c .lower) (C .column c .upper) (C .column c .wish) (entry c v)

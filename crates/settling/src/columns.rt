@@ -8,11 +8,11 @@ ghost use Rattle.problem.specs.Limits.{maxGoal};
 ghost use Rattle.settling.specs.Columns.{width, valued, columnAt, columnOf, listed, packed};
 ghost use Rattle.settling.specs.Packing.{putWish, put, Packable};
 use crate::Cell;
-use crate::Wish;
-use crate::column_wish;
-use crate::wish_mark;
-use crate::wish_number;
-use crate::wish_of;
+use goals::Wish;
+use goals::column_wish;
+use goals::wish_mark;
+use goals::wish_number;
+use goals::wish_of;
 
 // How many numbers a record has.
 pub const WIDTH: usize = 6;

@@ -15,7 +15,7 @@ ghost use Rattle.settling.specs.Views.{vectors};
 use crate::Basis;
 use crate::columns::cell_at;
 use crate::columns::wish_at;
-use crate::ideal;
+use goals::ideal;
 use lattice::lead_from;
 use problem::Problem;
 use whole::buffers::copy;

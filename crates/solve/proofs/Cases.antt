@@ -13,7 +13,7 @@ use Rattle.tableau.specs.Table.{tableauFrom, tableau}
 use Rattle.tableau.specs.Elimination.{lowered, reduced, each, choose, exchange, clear, round, gather, passColumn, passColumns, eliminate}
 use Rattle.tableau.specs.RightSide.{sweep, leading, remaining, rightSide, form, solve}
 use Rattle.goals.specs.Ideals.{rootBits, wholeRoot, goalIdeal}
-use Rattle.settling.specs.Ideals.{ideal}
+use Rattle.goals.specs.Wishes.{ideal}
 use Rattle.settling.specs.Seating.{seatOne, seat}
 use Rattle.settling.specs.Moves.{singles, pairsWith, pairs, moves, moved}
 use Rattle.settling.specs.Measures.{measure}

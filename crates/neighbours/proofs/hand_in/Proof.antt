@@ -9,7 +9,7 @@ use mir.Val.{toZ, ofZ}
 use Rattle.whole.specs.Lists.{entry}
 use Rattle.whole.proofs.Signed.{back}
 use Rattle.whole.proofs.Writing.{WrittenTo, starts, goes-on, ends}
-use Rattle.settling.specs.Ideals.{wishMark, wishNumber}
+use Rattle.goals.specs.Wishes.{wishMark, wishNumber}
 use Rattle.neighbours.specs.Neighbours.{Stated, statedBy, neighbourWish, givenOf, idealsOf}
 use Rattle.neighbours.proofs.Laws.{numbers-length, numbers-at}
 use Rattle.neighbours.proofs.hand_in.Statement.{statement}

@@ -5,7 +5,7 @@ use lib.IntN.{pos, natAbs}
 use mir.Facts.{toZ-ofZ}
 use Rattle.whole.proofs.Signed.{back}
 use Rattle.goals.specs.Ideals.{goalIdeal}
-use Rattle.settling.specs.Ideals.{into}
+use Rattle.goals.specs.Wishes.{into}
 use Rattle.neighbours.proofs.ideal_of.Statement.{statement}
 use Rattle.neighbours.proofs.ideal_of.Tie as tie
 

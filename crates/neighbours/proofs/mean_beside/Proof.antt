@@ -13,7 +13,7 @@ use Rattle.whole.specs.Tests.{isZero}
 use Rattle.whole.proofs.Signed.{back, sfits-abs}
 use Rattle.problem.specs.Limits.{maxColumns, maxBound}
 use Rattle.goals.specs.Ideals.{goalIdeal}
-use Rattle.settling.specs.Ideals.{into}
+use Rattle.goals.specs.Wishes.{into}
 use Rattle.neighbours.specs.Neighbours.{Stated, statedBy, hasGoal, idealOf, shares, isNeighbour}
 use Rattle.neighbours.proofs.Laws.{Summed, summed-none, summed-skip, summed-more, summed-all, ideal-within}
 use Rattle.neighbours.proofs.mean_beside.Statement.{statement}

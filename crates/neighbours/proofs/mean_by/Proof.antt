@@ -10,7 +10,7 @@ use mir.Facts.{toZ-ofZ}
 use Rattle.whole.specs.Quotient.{floorQuotient}
 use Rattle.whole.proofs.Integers.{positive-of, positive-above}
 use Rattle.whole.proofs.Signed.{back}
-use Rattle.settling.specs.declared.Wish.the-variants.{Set}
+use Rattle.goals.specs.declared.Wish.the-variants.{Set}
 use Rattle.neighbours.specs.Neighbours.{meanBy}
 use Rattle.neighbours.proofs.mean_by.Statement.{statement}
 use Rattle.neighbours.proofs.mean_by.Tie as tie

@@ -9,7 +9,7 @@ use lib.ListN.{length, drop, length-append, length-drop, drop-of-length-le}
 use Rattle.whole.specs.Lists.{entry}
 use Rattle.whole.proofs.Signed.{back}
 use Rattle.settling.specs.Columns.{Column, width, columnOf, listed, packedFrom}
-use Rattle.settling.specs.Ideals.{wishOf}
+use Rattle.goals.specs.Wishes.{wishOf}
 use Rattle.settling.specs.Packing.{put}
 use Rattle.settling.proofs.Packing.{packed-length, packed-put}
 use Rattle.settling.proofs.columns.pack.Statement.{statement}

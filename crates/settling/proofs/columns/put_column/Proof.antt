@@ -8,7 +8,7 @@ use lib.ListN.{length, set, length-set}
 use mir.Syntax.{w64}
 use mir.Val.{toZ, ofZ}
 use mir.Facts.{toZ-ofZ}
-use Rattle.settling.specs.Ideals.{columnWish}
+use Rattle.goals.specs.Wishes.{columnWish}
 use Rattle.settling.specs.Packing.{putWish}
 use borrow.Author.Needs.{needs}
 use Rattle.settling.proofs.columns.put_column.Statement.{statement}

@@ -4,7 +4,7 @@ use Prim.Native.Nat.{_+_, _*_}
 use Rattle.whole.specs.Lists.{entry}
 use Rattle.whole.proofs.Signed.{back}
 use Rattle.settling.specs.Columns.{width}
-use Rattle.settling.specs.Ideals.{wishOf}
+use Rattle.goals.specs.Wishes.{wishOf}
 use borrow.Author.Needs.{needs}
 use Rattle.settling.proofs.columns.wish_at.Statement.{statement}
 use Rattle.settling.proofs.columns.wish_at.Tie as tie

@@ -9,7 +9,7 @@ use Rattle.whole.specs.Lists.{entry}
 use Rattle.whole.proofs.Signed.{back, sfits-abs}
 use Rattle.settling.specs.declared.Cell.{Cell}
 use Rattle.settling.specs.Columns.{Columns, columnsIn}
-use Rattle.settling.specs.Ideals as Ideals
+use Rattle.goals.specs.Wishes as Ideals
 use Rattle.settling.specs.Seating.{idealAt, gapAt}
 use Rattle.settling.proofs.Seats.{gap-small}
 use Rattle.settling.proofs.Machine.{read}

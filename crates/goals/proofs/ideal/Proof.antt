@@ -1,13 +1,13 @@
--- `settling::ideal` meets its contract: it brings the wish, or the present value, into the bounds. Assumes nothing.
+-- `goals::ideal` meets its contract: it brings the wish, or the present value, into the bounds. Assumes nothing.
 use mathlib.Core.Path.{_≡_}
 use borrow.Author.Needs.{needs}
 use mir.Syntax.{w64}
 use mir.Val.{toZ, ofZ}
 use mir.Facts.{toZ-ofZ}
 use Rattle.whole.proofs.Signed.{back}
-use Rattle.settling.specs.Ideals as Ideals
-use Rattle.settling.proofs.ideal.Statement.{statement}
-use Rattle.settling.proofs.ideal.Tie as tie
+use Rattle.goals.specs.Wishes as Wishes
+use Rattle.goals.proofs.ideal.Statement.{statement}
+use Rattle.goals.proofs.ideal.Tie as tie
 
 enum-told : tie.Need-enum-told
 enum-told c = search needs
@@ -22,7 +22,7 @@ into-bounds-requires-2 : tie.Need-into-bounds-requires-2
 into-bounds-requires-2 c κs = search needs
 
 returns : tie.Need-returns
-unfolding Ideals.ideal
+unfolding Wishes.ideal
 returns c =
     let s = c .before .before .before in
     cc (
@@ -36,7 +36,7 @@ returns c =
     )
 
 returns-2 : tie.Need-returns-2
-unfolding Ideals.ideal
+unfolding Wishes.ideal
 returns-2 c =
     let s = c .before .before .before .before in
     let y = c .before .before .wish .given .0 .0 in

@@ -3,8 +3,7 @@
 --   Wish                what a column is to come to: a number, or nothing set (declared in src/)
 --   wishOf given x      the wish that two numbers stand for, a mark and a number: "unset" is the mark 0, and not a number
 --   wishMark, wishNumber   the two numbers of a wish
---   columnWish low high w   the wish of a column with these goals, where w is handed in: without a goal w, and else what they ask for, document 02,
---                       (v); that is `goalIdeal`, of the room goals
+--   columnWish low high w   the wish of a column with these goals, where w is handed in: without a goal w, and else what the goals ask for
 --   wished w x          the wish, or the present value x where none is set
 --   ideal lo hi w x     the wish brought into the bounds; "Without a goal it is the present value brought into the bounds"
 -- Seating takes wishes and not goals: document 02, (ii), hands them in for columns without a goal.
@@ -13,9 +12,9 @@ use mathlib.Core.Bool.{cond}
 use lib.IntN.{ℤ, pos, natAbs}
 use lib.Signed.{ltZ}
 use Rattle.whole.specs.Tests.{isZero}
 use Rattle.goals.specs.Ideals.{goalIdeal}
-use Rattle.settling.specs.declared.Wish.{Wish}
-use Rattle.settling.specs.declared.Wish.the-variants.{Unset, Set}
+use Rattle.goals.specs.declared.Wish.{Wish}
+use Rattle.goals.specs.declared.Wish.the-variants.{Unset, Set}
 
 abbrev pub into : ℤ → ℤ → ℤ → ℤ
 into lo hi x = cond (ltZ x lo) lo (cond (ltZ hi x) hi x)

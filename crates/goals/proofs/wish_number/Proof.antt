@@ -1,10 +1,10 @@
--- `settling::wish_number` meets its contract. Assumes nothing.
+-- `goals::wish_number` meets its contract. Assumes nothing.
 use mathlib.Core.Path.{_≡_}
 use mir.Syntax.{w64}
 use mir.Val.{toZ, ofZ}
 use borrow.Author.Needs.{needs}
-use Rattle.settling.proofs.wish_number.Statement.{statement}
-use Rattle.settling.proofs.wish_number.Tie as tie
+use Rattle.goals.proofs.wish_number.Statement.{statement}
+use Rattle.goals.proofs.wish_number.Tie as tie
 
 enum-told : tie.Need-enum-told
 enum-told c = search needs

@@ -1,11 +1,11 @@
--- Laws of the ideal.
+-- Laws of the bounds.
 --   into-below, into-above, into-in     the three cases of bringing a number into bounds
 -- Assumes nothing.
 use mathlib.Core.Path.{_≡_, refl}
 use mathlib.Core.Bool.{true, false}
 use lib.IntN.{ℤ}
 use lib.Signed.{ltZ}
-use Rattle.settling.specs.Ideals.{into}
+use Rattle.goals.specs.Wishes.{into}
 
 pub into-below : (lo hi x : ℤ) → ltZ x lo ≡ true → into lo hi x ≡ lo
 into-below lo hi x e = rw e refl

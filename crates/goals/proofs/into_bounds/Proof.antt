@@ -1,11 +1,11 @@
--- `settling::into_bounds` meets its contract: its two tests are the definition's. Assumes nothing.
+-- `goals::into_bounds` meets its contract: its two tests are the definition's. Assumes nothing.
 use mathlib.Core.Path.{_≡_, sym}
 use mathlib.Core.Bool.{true, false}
 use lib.Signed.{ltZ}
 use mir.Facts.{toZ-ofZ}
-use Rattle.settling.proofs.Ideals.{into-below, into-above, into-in}
-use Rattle.settling.proofs.into_bounds.Statement.{statement}
-use Rattle.settling.proofs.into_bounds.Tie as tie
+use Rattle.goals.proofs.Bounds.{into-below, into-above, into-in}
+use Rattle.goals.proofs.into_bounds.Statement.{statement}
+use Rattle.goals.proofs.into_bounds.Tie as tie
 
 returns : tie.Need-returns
 returns c =

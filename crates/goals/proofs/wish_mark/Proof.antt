@@ -1,7 +1,7 @@
--- `settling::wish_mark` meets its contract. Assumes nothing.
+-- `goals::wish_mark` meets its contract. Assumes nothing.
 use borrow.Author.Needs.{needs}
-use Rattle.settling.proofs.wish_mark.Statement.{statement}
-use Rattle.settling.proofs.wish_mark.Tie as tie
+use Rattle.goals.proofs.wish_mark.Statement.{statement}
+use Rattle.goals.proofs.wish_mark.Tie as tie
 
 enum-told : tie.Need-enum-told
 enum-told c = search needs
