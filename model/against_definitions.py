@@ -210,9 +210,10 @@ def ideals_equation(rng):
     if isinstance(deck, int) or deck.n * (deck.m + deck.n) > MOST_STATED:
         return None
     n, m = deck.n, deck.m
-    stated = ("(statedBy %d %d %d %s %s %s %s %s)"
-              % (n, m, deck.intervals, integers(deck.coefficients[:m * n]),
-                 *[integers(getattr(deck, name)[:n]) for name in ("lower", "upper", "low", "high")]))
+    lists = [deck.coefficients[:m * n], deck.lower[:n], deck.upper[:n], deck.low[:n],
+             deck.high[:n]]
+    stated = ("(statedBy %d %d %d %s)"
+              % (n, m, deck.intervals, " ".join(map(integers, lists))))
     return ("(givenOf %s %d ≡ %s) × (idealsOf %s %d ≡ %s)"
             % (stated, n, integers(deck.given[:n]), stated, n, integers(deck.ideals[:n])))
 
