@@ -34,7 +34,8 @@ DRAWS = 5000
 
 
 class Deck:
-    """Curves (lower, upper, goal) and rows (kind, number, terms); curves count from 1."""
+    """Curves (lower, upper, goal) and rows (kind, number, terms); curves count from 1. Each
+    belongs to one part, so that its goal is its low and its high one."""
 
     def __init__(self):
         self.curves = []
@@ -86,7 +87,8 @@ class Deck:
 
     def text(self):
         lines = [str(len(self.curves))]
-        lines += ["%d %d %d" % curve for curve in self.curves]
+        lines += ["%d %d %d %d" % (lower, upper, goal, goal)
+                  for lower, upper, goal in self.curves]
         lines.append(str(len(self.rows)))
         for kind, number, terms in self.rows:
             pairs = ["%d %d" % term for term in terms]

@@ -67,7 +67,7 @@ def numbers_of(deck):
     """A read deck as the timing program takes it: a line for each buffer."""
     n, m = deck.n, deck.m
     buffers = [[n, m, LIMIT], deck.coefficients[:n * m], deck.rights[:m], deck.lower[:n],
-               deck.upper[:n], deck.goals[:n], deck.given[:n], deck.ideals[:n]]
+               deck.upper[:n], deck.low[:n], deck.high[:n], deck.given[:n], deck.ideals[:n]]
     return "".join(" ".join(map(str, numbers)) + "\n" for numbers in buffers)
 
 
@@ -100,6 +100,7 @@ def program(*words):
 
 
 def has_goals(path):
+    """Whether a low goal is set, and so the high one."""
     with open(path) as file:
         return any(goal != "0" for goal in file.read().splitlines()[5].split())
 

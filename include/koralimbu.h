@@ -22,7 +22,7 @@ extern "C" {
 /* The version, which rises with each change of a call or of the text; docs/CHANGES.md has the list. A header and an archive of different
  * versions must not be used together: a program compares KORALIMBU_VERSION with koralimbu_version() once, at its start. */
 #define KORALIMBU_VERSION_MAJOR 0
-#define KORALIMBU_VERSION_MINOR 5
+#define KORALIMBU_VERSION_MINOR 6
 #define KORALIMBU_VERSION_PATCH 0
 #define KORALIMBU_VERSION (KORALIMBU_VERSION_MAJOR * 1000000 + KORALIMBU_VERSION_MINOR * 1000 + KORALIMBU_VERSION_PATCH)
 
@@ -80,7 +80,7 @@ uint32_t koralimbu_version(void);
 #define KORALIMBU_DECK_COEFFICIENTS 2304
 #define KORALIMBU_MOST_TEXT 32768
 
-/* How far a number may lie from 0: a coefficient, a right side and a bound to both sides, a goal above only. */
+/* How far a number may lie from 0: a coefficient, a right side and a bound to both sides, a low and a high goal above only. */
 #define KORALIMBU_RANGE_COEFFICIENT 1000
 #define KORALIMBU_RANGE_RIGHT 1000000
 #define KORALIMBU_RANGE_BOUND 1000000
@@ -103,7 +103,7 @@ uint32_t koralimbu_version(void);
  *   coefficients  m * n         the rows, n to a row
  *   rights        m             what each row must add up to
  *   lower, upper  n             the bounds of each column
- *   goals         n             the goal of each column, in thousandths; 0 for none
+ *   low, high     n             the low and the high goal of each column, in thousandths; both 0 for none
  *   given         n             for each column 0 where no ideal is handed in for it, any other number where one is
  *   ideals        n             the ideal that is handed in for each column, which may be any int64_t
  *   tableau       n * (m + n)   afterwards the form, m + n to a row
@@ -111,11 +111,17 @@ uint32_t koralimbu_version(void);
  *   strides       n             afterwards the strides
  *   report        REPORT_COUNT  afterwards the verdict, the steps of the bounds part and those of the goals part
  *
- * The first seven are only read.
+ * The first eight are only read.
+ *
+ * Goals. A column has a low and a high goal, the low one at most the high one, or none, and then both are 0. A curve that belongs to one part
+ * has the same number twice. One that two parts share comes with two wishes: where one part wants 9 intervals on it and the other 24, its low
+ * goal is 9000 and its high goal 24000. Its ratio at a value v is the larger of 1000 * v / low and high / (1000 * v), so that it is pulled to
+ * where both wishes are missed by about the same factor. A caller with one goal for each column lends the same list as low and as high.
  *
  * Ideals. Before its first step a whole assignment seats the columns: it adds each vector of the basis as often as brings its lead, the first
  * column that it changes, nearest to that column's ideal. A column that leads no vector follows from the rows, and its ideal changes nothing.
- * A column with a goal has the ideal of its goal, and what is handed in for it is not used. Without a goal it has the one that is handed in,
+ * A column with a goal has the ideal of its two goals, the number of intervals with the least ratio, of two such the smaller: 15 for 9000 and
+ * 24000. It is brought into the bounds, and what is handed in for such a column is not used. Without a goal it has the one that is handed in,
  * brought into its bounds; where none is, the value that it has then, brought into its bounds. No refusal looks at what given and ideals hold.
  * A caller with no ideals lends n zeros for given; what ideals then holds does not matter, only its count, so that one list of n zeros may be
  * lent for both. Continue seats nothing: only the counts of the two lists matter to it.
@@ -131,8 +137,10 @@ uint32_t koralimbu_version(void);
  *                            right side beyond RANGE_RIGHT, of either sign
  *    4  REFUSED_BOUND        a bound is beyond RANGE_BOUND of either sign, or   as it was  as they were
  *                            a lower bound is above its upper bound
- *    5  REFUSED_GOAL         a goal is not 0 to RANGE_GOAL, or stands with a    as it was  as they were
- *                            lower bound below 1
+ *    5  REFUSED_GOAL         a low or a high goal is not 0 to RANGE_GOAL, or    as it was  as they were
+ *                            just one of the two is 0, or the low one is above
+ *                            the high one, or they are set with a lower bound
+ *                            below 1
  *    6  REFUSED_LIMIT        the step limit is above MOST_STEPS                 as it was  as they were
  *    7  REFUSED_ELIMINATION  the elimination met a number beyond M              all 0      as they were
  *    8  REFUSED_NONE         no whole numbers satisfy the rows                  the form   as they were
@@ -152,7 +160,8 @@ uint32_t koralimbu_assign(size_t n, size_t m, uint32_t limit,
                           const int64_t *rights, size_t rights_count,
                           const int64_t *lower, size_t lower_count,
                           const int64_t *upper, size_t upper_count,
-                          const int64_t *goals, size_t goals_count,
+                          const int64_t *low, size_t low_count,
+                          const int64_t *high, size_t high_count,
                           const int64_t *given, size_t given_count,
                           const int64_t *ideals, size_t ideals_count,
                           int64_t *tableau, size_t tableau_count,
@@ -166,7 +175,8 @@ uint32_t koralimbu_continue(size_t n, size_t m, uint32_t limit,
                             const int64_t *rights, size_t rights_count,
                             const int64_t *lower, size_t lower_count,
                             const int64_t *upper, size_t upper_count,
-                            const int64_t *goals, size_t goals_count,
+                            const int64_t *low, size_t low_count,
+                            const int64_t *high, size_t high_count,
                             const int64_t *given, size_t given_count,
                             const int64_t *ideals, size_t ideals_count,
                             int64_t *tableau, size_t tableau_count,
@@ -180,7 +190,7 @@ uint32_t koralimbu_continue(size_t n, size_t m, uint32_t limit,
  *   coefficients  m * n          the rows, n to a row
  *   rights        m              what each row must add up to
  *   lower, upper  n              the bounds of each column
- *   goals         n              the goal of each column, in thousandths; 0 for none
+ *   low, high     n              the low and the high goal of each column, in thousandths; both 0 for none
  *   given         n              as above; the preview seats nothing, so that only the counts of this list and the next matter
  *   ideals        n              as above
  *   standing      n              the value of each column, as it stands
@@ -189,7 +199,7 @@ uint32_t koralimbu_continue(size_t n, size_t m, uint32_t limit,
  *   strides       n              afterwards the strides
  *   report        PREVIEW_COUNT  afterwards the step
  *
- * The first eight are only read, so after is a list of its own. The columns that the step changes are those where it differs from standing.
+ * The first nine are only read, so after is a list of its own. The columns that the step changes are those where it differs from standing.
  *
  * The report, by the place of each number:
  *
@@ -217,8 +227,10 @@ uint32_t koralimbu_continue(size_t n, size_t m, uint32_t limit,
  *                            right side beyond RANGE_RIGHT, of either sign
  *    4  REFUSED_BOUND        a bound is beyond RANGE_BOUND of either sign, or   as it was  as they were
  *                            a lower bound is above its upper bound
- *    5  REFUSED_GOAL         a goal is not 0 to RANGE_GOAL, or stands with a    as it was  as they were
- *                            lower bound below 1
+ *    5  REFUSED_GOAL         a low or a high goal is not 0 to RANGE_GOAL, or    as it was  as they were
+ *                            just one of the two is 0, or the low one is above
+ *                            the high one, or they are set with a lower bound
+ *                            below 1
  *    7  REFUSED_ELIMINATION  the elimination met a number beyond M              all 0      as they were
  *   10  REFUSED_STANDING     a value of the standing list is beyond M, or the   as it was  as they were
  *                            list fails a row
@@ -227,7 +239,7 @@ uint32_t koralimbu_continue(size_t n, size_t m, uint32_t limit,
  *
  * A run step by step, each step shown before it is taken; some take thousands of steps:
  *
- *   while (koralimbu_preview(n, m, coefficients, m * n, rights, m, lower, n, upper, n, goals, n, given, n, ideals, n, values, n,
+ *   while (koralimbu_preview(n, m, coefficients, m * n, rights, m, lower, n, upper, n, low, n, high, n, given, n, ideals, n, values, n,
  *                            tableau, n * (m + n), after, n, strides, n, report, KORALIMBU_PREVIEW_COUNT) == KORALIMBU_ACCEPTED
  *          && report[0] != KORALIMBU_PART_NONE) {
  *     show(report, values, after);
@@ -239,7 +251,8 @@ uint32_t koralimbu_preview(size_t n, size_t m,
                            const int64_t *rights, size_t rights_count,
                            const int64_t *lower, size_t lower_count,
                            const int64_t *upper, size_t upper_count,
-                           const int64_t *goals, size_t goals_count,
+                           const int64_t *low, size_t low_count,
+                           const int64_t *high, size_t high_count,
                            const int64_t *given, size_t given_count,
                            const int64_t *ideals, size_t ideals_count,
                            const int64_t *standing, size_t standing_count,
@@ -255,7 +268,7 @@ uint32_t koralimbu_preview(size_t n, size_t m,
  *   coefficients  DECK_COEFFICIENTS  afterwards the rows, n to a row without gaps
  *   rights        DECK_ROWS          afterwards what each row must add up to
  *   lower, upper  DECK_COLUMNS       afterwards the bounds of each column
- *   goals         DECK_COLUMNS       afterwards the goal of each column, in thousandths; 0 for none
+ *   low, high     DECK_COLUMNS       afterwards the low and the high goal of each column, in thousandths; both 0 for none
  *   given         DECK_COLUMNS       afterwards 1 for each column that has an ideal of the reader's, else 0
  *   ideals        DECK_COLUMNS       afterwards the ideal of each such column, else 0
  *   sizes         SIZES_COUNT        afterwards n, m, and how many of the n columns are curves
@@ -265,17 +278,19 @@ uint32_t koralimbu_preview(size_t n, size_t m,
  *
  * The text. Numbers parted by spaces and line ends, in three sections:
  *
- *   the count of curves; for each its lower bound, its upper bound and its goal
+ *   the count of curves; for each its lower bound, its upper bound, its low goal and its high goal
  *   the count of rows; for each its kind, its number, its count of terms; for each term the index of its curve, from 1, and its coefficient
  *   the count of swept volumes; for each its count of paths; for each path its count of curves, and their indices in any order
  *
  * Kind 0: the sum equals the number; 1: it is at least the number; 2: it is at most the number; 3: it is even, and its half is at least the
  * number. The indices of a row rise.
  *
- * A deck without swept volumes ends with a 0: "1 1 9 3000 0 0" is one curve, no row and no volume. All paths of a volume get equal sums: for each
- * path after its first a row is added, path 1 less that path equals 0, behind all rows so far and in the order of the text. A curve on both paths
- * cancels: its coefficient is 0. A path like the first makes a row of zeros, and a volume of one path adds none. These are equal rows like any
- * other: m counts them, and curves that have a term in one are neighbours.
+ * A curve of one part has its goal twice, one without a goal two zeros, and one that two parts share the goals of both, the smaller first.
+ *
+ * A deck without swept volumes ends with a 0: "1 1 9 3000 3000 0 0" is one curve, no row and no volume. All paths of a volume get equal sums:
+ * for each path after its first a row is added, path 1 less that path equals 0, behind all rows so far and in the order of the text. A curve on
+ * both paths cancels: its coefficient is 0. A path like the first makes a row of zeros, and a volume of one path adds none. These are equal rows
+ * like any other: m counts them, and curves that have a term in one are neighbours.
  *
  * The reader hands in ideals, so that a curve without a goal starts near its neighbours: the curves with a goal that have a coefficient other
  * than 0 in some row where it has one too. Its ideal is the mean of theirs, rounded down, each counted once however many rows it shares; theirs
@@ -285,21 +300,23 @@ uint32_t koralimbu_preview(size_t n, size_t m,
  * What is returned, and what is then left:
  *
  *                                                                               coefficients, rights,  sizes
- *                                                                               lower, upper, goals,
- *                                                                               given, ideals
+ *                                                                               lower, upper, low,
+ *                                                                               high, given, ideals
  *    0  ACCEPTED             the text is read                                   the problem, then 0s   n, m, curves
  *    1  REFUSED_SIZE         the count of curves is not 1 to DECK_COLUMNS, or   as they were           0, 0, 0
  *                            that of rows is not 0 to DECK_ROWS, or a count of
  *                            paths makes a row more than DECK_ROWS
  *    2  REFUSED_LENGTH       a count of coefficients, rights, lower, upper,     as they were           0, 0, 0
- *                            goals, given or ideals is not the one above
+ *                            low, high, given or ideals is not the one above
  *    3  REFUSED_COEFFICIENT  a coefficient is beyond RANGE_COEFFICIENT, or a    as they were           0, 0, 0
  *                            row's number beyond RANGE_RIGHT, of either sign,
  *                            or a least half is below 0 or beyond RANGE_RIGHT
  *    4  REFUSED_BOUND        a bound is beyond RANGE_BOUND of either sign, or   as they were           0, 0, 0
  *                            a lower bound is above its upper bound
- *    5  REFUSED_GOAL         a goal is not 0 to RANGE_GOAL, or stands with a    as they were           0, 0, 0
- *                            lower bound below 1
+ *    5  REFUSED_GOAL         a low or a high goal is not 0 to RANGE_GOAL, or    as they were           0, 0, 0
+ *                            just one of the two is 0, or the low one is above
+ *                            the high one, or they are set with a lower bound
+ *                            below 1
  *   11  REFUSED_LAYOUT       a word is no number, a number is missing or one    as they were           0, 0, 0
  *                            too many, or the text is over MOST_TEXT bytes
  *   12  REFUSED_TERM         a kind is not 0 to 3 or makes a column more than   as they were           0, 0, 0
@@ -311,17 +328,19 @@ uint32_t koralimbu_preview(size_t n, size_t m,
  *                            a path names no curve or stands in it twice
  *
  * The counts are looked at first (2), then the length of the text (11); after that the first place of the text that breaks its rule decides.
- * A count of paths is judged where it stands, by all rows so far and those that it adds, before any of its paths.
+ * A low goal is judged where it stands, by its range and by the lower bound: what stands behind it plays no part. A high goal is judged beside
+ * its low one. A count of paths is judged where it stands, by all rows so far and those that it adds, before any of its paths.
  * A sizes whose count is not SIZES_COUNT is refused with REFUSED_LENGTH before anything else is looked at, and every buffer is left as it
  * was, sizes too.
  *
  * A call goes on with the parts that n and m need:
  *
  *   if (koralimbu_read(text, length, coefficients, KORALIMBU_DECK_COEFFICIENTS, rights, KORALIMBU_DECK_ROWS, lower, KORALIMBU_DECK_COLUMNS,
- *                      upper, KORALIMBU_DECK_COLUMNS, goals, KORALIMBU_DECK_COLUMNS, given, KORALIMBU_DECK_COLUMNS,
- *                      ideals, KORALIMBU_DECK_COLUMNS, sizes, KORALIMBU_SIZES_COUNT) == KORALIMBU_ACCEPTED) {
+ *                      upper, KORALIMBU_DECK_COLUMNS, low, KORALIMBU_DECK_COLUMNS, high, KORALIMBU_DECK_COLUMNS,
+ *                      given, KORALIMBU_DECK_COLUMNS, ideals, KORALIMBU_DECK_COLUMNS,
+ *                      sizes, KORALIMBU_SIZES_COUNT) == KORALIMBU_ACCEPTED) {
  *     size_t n = sizes[0], m = sizes[1];
- *     number = koralimbu_assign(n, m, 10000, coefficients, m * n, rights, m, lower, n, upper, n, goals, n, given, n, ideals, n,
+ *     number = koralimbu_assign(n, m, 10000, coefficients, m * n, rights, m, lower, n, upper, n, low, n, high, n, given, n, ideals, n,
  *                               tableau, n * (m + n), values, n, strides, n, report, KORALIMBU_REPORT_COUNT);
  *   }
  *
@@ -332,7 +351,8 @@ uint32_t koralimbu_read(const uint8_t *text, size_t text_count,
                         int64_t *rights, size_t rights_count,
                         int64_t *lower, size_t lower_count,
                         int64_t *upper, size_t upper_count,
-                        int64_t *goals, size_t goals_count,
+                        int64_t *low, size_t low_count,
+                        int64_t *high, size_t high_count,
                         int64_t *given, size_t given_count,
                         int64_t *ideals, size_t ideals_count,
                         size_t *sizes, size_t sizes_count);

@@ -8,11 +8,12 @@ and has the checker compute the left sides: whole assignments and Continue with
 every lent buffer afterwards, texts with the listing's bytes, the runs of both calls with
 what falls at a step (document 02, (xiii)), previews with what they tell and leave
 (document 02, (i)), many of which show a step, and the two lists of ideals that the reader
-hands in for what texts state (document 02, (ii)); ideals play a part in half of the calls
-and a fifth of the listed texts. Another fifth of these has rows by the paths of swept
-volumes (document 02, (iii)), and about as many are refused by their volumes, at each of
-the places where they can be. Cases are kept small, since the checker computes slowly.
-The last line is 'N passed, M failed'.
+hands in for what texts state (document 02, (ii)). Ideals play a part in a third of the
+calls and a sixth of the listed texts, high goals above the low ones (document 02, (v)) in
+another third of the calls. A sixth of the texts has rows by the paths of swept volumes
+(document 02, (iii)), about as many are refused by their volumes, at each of the places where
+they can be, and about as many show what there is of pairs of goals. Cases are kept small,
+since the checker computes slowly. The last line is 'N passed, M failed'.
 """
 
 import os
@@ -23,11 +24,12 @@ from fractions import Fraction
 
 import needs
 import runs
-from engine import PROBLEM_LISTS, preview, ratio
+from engine import PROBLEM_LISTS, has_goal, preview, ratio_of
 from generate import (REFUSED_KINDS, Case, beside_deck, join, preview_case, problem_case,
                       rng_for, text_case, volume_kinds)
 from listing import blank_lent, listing, problem_of
 from needs import ROOT
+from pairs import TEXT_KINDS, share_curves, text_kinds
 from text import read
 
 SCRATCH = os.path.join(ROOT, "target", "against")
@@ -62,7 +64,7 @@ def naturals(numbers):
 
 def posed(problem):
     return ("(record { problem = record { columns = %d; rows = %d; limit = %d };"
-            " coefficients = %s; rights = %s; lower = %s; upper = %s; goals = %s;"
+            " coefficients = %s; rights = %s; lower = %s; upper = %s; low = %s; high = %s;"
             " given = %s; ideals = %s })"
             % (problem.n, problem.m, problem.limit,
                *[integers(getattr(problem, name)) for name in PROBLEM_LISTS]))
@@ -97,15 +99,15 @@ def is_large(problem):
     return problem.n * (problem.m + problem.n) > MOST_NUMBERS
 
 
-def problem_equation(rng, by_ideals=False):
-    """A call on buffers as an equation, or None where it is too large, or where ideals are
-    to play a part and play none."""
+def problem_equation(rng, by_ideals=False, by_high=False):
+    """A call on buffers as an equation, or None where it is too large, or where ideals or
+    high goals are to play a part and play none."""
     case = problem_case(rng)
     problem = case.problem
     if is_large(problem):
         return None
     problem.limit = min(problem.limit, MOST_STEPS) if problem.limit <= 65535 else problem.limit
-    if by_ideals and not case.moved_by_ideals():
+    if by_ideals and not case.moved_by_ideals() or by_high and not case.moved_by_high_goals():
         return None
     before = "(record { %s })" % buffers(case.lent)
     outcome, bounds, goals = case.run()
@@ -122,8 +124,8 @@ def listed_by_ideals(deck):
 
 def text_equation(rng, is_read=False, by_ideals=False, shown=None):
     """A text and its listing as an equation, or None where it is too large, is to be read
-    and is refused, where ideals are to play a part and play none, or a kind of volumes is
-    to be shown and is not."""
+    and is refused, where ideals are to play a part and play none, or a kind of volumes or of
+    pairs is to be shown and is not."""
     data = text_case(rng)
     deck = read(data)
     refused = isinstance(deck, int)
@@ -131,7 +133,7 @@ def text_equation(rng, is_read=False, by_ideals=False, shown=None):
         return None
     if is_read and refused or by_ideals and not listed_by_ideals(deck):
         return None
-    if shown is not None and shown not in volume_kinds(data):
+    if shown is not None and shown not in volume_kinds(data) + text_kinds(data):
         return None
     out = listing(data)
     first = out.split(b"\n")[0].split(b" ")
@@ -170,7 +172,8 @@ def run_equation(rng):
         if part == runs.BOUNDS:
             pairs = [(d, 1) for d in runs.distances(problem, values)]
         else:
-            pairs = [ratio(goal, v) for goal, v in zip(problem.goals, values) if goal > 0]
+            pairs = [ratio_of(problem, j, v) for j, v in enumerate(values)
+                     if has_goal(problem.low[j])]
         name = "distances" if part == runs.BOUNDS else "ratios"
         fallen.append(("sorted below (%s (columns %s) %s)"
                        % (name, posed(problem), integers(values)), measured(pairs)))
@@ -198,14 +201,19 @@ def preview_equation(rng):
 def ideals_equation(rng):
     """The two lists of ideals of a read text as an equation, or None where the text is
     refused or too large."""
-    beside = rng.random() < 0.7
-    deck = read(join(beside_deck(rng).tokens()) if beside else text_case(rng))
+    if rng.random() < 0.7:
+        sketch = beside_deck(rng)
+        share_curves(rng, sketch)
+        deck = read(join(sketch.tokens()))
+    else:
+        deck = read(text_case(rng))
     if isinstance(deck, int) or deck.n * (deck.m + deck.n) > MOST_STATED:
         return None
     n, m = deck.n, deck.m
-    stated = ("(statedBy %d %d %d %s %s %s %s)"
-              % (n, m, deck.intervals, integers(deck.coefficients[:m * n]),
-                 integers(deck.lower[:n]), integers(deck.upper[:n]), integers(deck.goals[:n])))
+    lists = [deck.coefficients[:m * n], deck.lower[:n], deck.upper[:n], deck.low[:n],
+             deck.high[:n]]
+    stated = ("(statedBy %d %d %d %s)"
+              % (n, m, deck.intervals, " ".join(map(integers, lists))))
     return ("(givenOf %s %d ≡ %s) × (idealsOf %s %d ≡ %s)"
             % (stated, n, integers(deck.given[:n]), stated, n, integers(deck.ideals[:n])))
 
@@ -223,23 +231,32 @@ def some(make, count, seed, **wanted):
 
 
 def problem_equations(count, seed):
-    """Of calls; ideals play a part in half of them."""
-    return (some(problem_equation, count - count // 2, seed)
-            + some(problem_equation, count // 2, seed + 1, by_ideals=True))
+    """Of calls; ideals play a part in a third of them, and high goals in another."""
+    third = count // 3
+    return (some(problem_equation, count - 2 * third, seed)
+            + some(problem_equation, third, seed + 1, by_ideals=True)
+            + some(problem_equation, third, seed + 2, by_high=True))
+
+
+def shown_equations(kinds, count, seed):
+    """Of texts that show these kinds, as many of each and together at most count."""
+    return [equation for number, kind in enumerate(kinds)
+            for equation in some(text_equation, count // len(kinds), seed + number, shown=kind)]
 
 
 def text_equations(count, seed):
-    """Of texts: a fifth are any, many of them refused, a fifth are read, a fifth are read
-    and ideals play a part in them, and a fifth have rows by paths. The last fifth is refused
-    by its volumes, as often at each place; what does not go into these is any text."""
-    fifth = count // 5
-    refused = [equation for number, kind in enumerate(REFUSED_KINDS)
-               for equation in some(text_equation, fifth // len(REFUSED_KINDS),
-                                    seed + 4 + number, shown=kind)]
-    return (some(text_equation, count - 3 * fifth - len(refused), seed)
-            + some(text_equation, fifth, seed + 1, is_read=True)
-            + some(text_equation, fifth, seed + 2, is_read=True, by_ideals=True)
-            + some(text_equation, fifth, seed + 3, shown="a path row") + refused)
+    """Of texts: a sixth are any, many of them refused, a sixth are read, a sixth are read
+    and ideals play a part in them, and a sixth have rows by paths. A sixth is refused by its
+    volumes, as often at each place, and a sixth shows each kind of pairs of goals as often;
+    what does not go into these is any text."""
+    sixth = count // 6
+    shown = shown_equations(REFUSED_KINDS, sixth, seed + 4)
+    # plain curves and equal goals are in all the others
+    shown += shown_equations(TEXT_KINDS[2:], sixth, seed + 4 + len(REFUSED_KINDS))
+    return (some(text_equation, count - 3 * sixth - len(shown), seed)
+            + some(text_equation, sixth, seed + 1, is_read=True)
+            + some(text_equation, sixth, seed + 2, is_read=True, by_ideals=True)
+            + some(text_equation, sixth, seed + 3, shown="a path row") + shown)
 
 
 # ------------------------------------------------------------- the scratch crate

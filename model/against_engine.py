@@ -5,11 +5,11 @@
 Builds the crate koralimbu as a static library, links that into a shared object below
 target/, and calls koralimbu_assign and koralimbu_continue on the problems of
 generate.py, valid and damaged, with ideals handed in for none, some or all columns
-(document 02, (ii)); in how many calls they play a part is printed. The returned number,
-the report and every buffer afterwards must be the model's, the problem's buffers and the
-numbers on both sides of each buffer must be as before, and a report of a wrong length
-must be refused with nothing changed. Step limits beyond 32 bits, which C's type cannot
-hold, are left out.
+(document 02, (ii)) and goals that are equal or apart (document 02, (v)); in how many calls
+the ideals and the high goals play a part is printed. The returned number, the report and
+every buffer afterwards must be the model's, the problem's buffers and the numbers on both
+sides of each buffer must be as before, and a report of a wrong length must be refused with
+nothing changed. Step limits beyond 32 bits, which C's type cannot hold, are left out.
 
 Then RUNS runs are made list by list: the case's call with the step limit 0, and
 Continue with the limit 1 until no step is made. The lists must be those of the
@@ -243,7 +243,7 @@ def compare_previews(tally, functions, count, seed):
 
 def compare_calls(tally, functions, count, seed):
     """Whole assignments and Continues of random problems."""
-    left_out = moved = 0
+    left_out = moved = parted = 0
     for number in range(1, count + 1):
         rng = rng_for(seed, number)
         case = problem_case(rng)
@@ -255,11 +255,14 @@ def compare_calls(tally, functions, count, seed):
         what = "case %d of seed %d: %s, n %d, m %d, limit %d" % (
             number, seed, case.call, problem.n, problem.m, problem.limit)
         moved += case.moved_by_ideals()
+        parted += case.moved_by_high_goals()
         got = engine_call(functions, case, report)
         tally.compare(what, got, model_call(case, report))
     print("%d left out: a step limit beyond 32 bits" % left_out)
     print("%d calls in which ideals that are handed in play a part" % moved)
+    print("%d calls in which high goals above the low ones do" % parted)
     tally.require("a call in which an ideal plays a part", moved > 0)
+    tally.require("a call in which a high goal plays a part", parted > 0)
 
 
 def main(arguments):

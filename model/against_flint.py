@@ -163,7 +163,7 @@ def engine_form(assign, rng, n, rows):
     rights = [rng.randint(-9, 9) for _ in range(m)] if rng.random() < 0.5 else [0] * m
     goals = [10 ** 9] * n if rng.random() < 0.2 else [0] * n
     lists = {"coefficients": [a for row in rows for a in row], "rights": rights, "lower": [1] * n,
-             "upper": [10 ** 6] * n, "goals": goals, "given": [rng.choice([0, 0, 1, -7]) for _ in range(n)],
+             "upper": [10 ** 6] * n, "low": goals, "high": goals, "given": [rng.choice([0, 0, 1, -7]) for _ in range(n)],
              "ideals": [rng.randint(-99, 999) for _ in range(n)], "tableau": [7] * (n * (m + n)),
              "values": [0] * n, "strides": [0] * n, "report": [0] * 3}
     buffers = {name: Buffer(NUMBERS.get(name, ctypes.c_int64), numbers)

@@ -10,7 +10,8 @@ anything before the call. The returned number and every buffer afterwards must b
 model's, the ideals that the reader hands in among them (document 02, (ii)), and the text
 and the numbers on both sides of each buffer must be as before. How many of the texts
 set ideals or leave plain intervals without one, and how many show what of swept volumes
-(document 02, (iii)), is printed; there must be some of each.
+(document 02, (iii)) and of pairs of goals (document 02, (v)), is printed; there must be
+some of each.
 Where a text has a known listing, a whole assignment goes on from the read buffers as
 the header says, and must give that listing. The last line is 'N passed, M failed'.
 """
@@ -24,11 +25,12 @@ from boundary import Buffer, Tally, call, declare, load
 from engine import MAX_COLUMNS, MAX_ROWS, PROBLEM_LISTS, WRONG_LENGTH
 from generate import Case, noise, rng_for, text_case, volumes_met
 from listing import blank_lent, problem_of, refusal_lines, verdict_lines
+from pairs import kinds_met
 from text import MAX_COEFFICIENTS, MAX_TEXT, Deck, read
 
 LENGTHS = {"coefficients": MAX_COEFFICIENTS, "rights": MAX_ROWS, "lower": MAX_COLUMNS,
-           "upper": MAX_COLUMNS, "goals": MAX_COLUMNS, "given": MAX_COLUMNS,
-           "ideals": MAX_COLUMNS, "sizes": 3}
+           "upper": MAX_COLUMNS, "low": MAX_COLUMNS, "high": MAX_COLUMNS,
+           "given": MAX_COLUMNS, "ideals": MAX_COLUMNS, "sizes": 3}
 NUMBERS = {"text": ctypes.c_uint8, "sizes": ctypes.c_size_t}
 
 # What texts show of the ideals that the reader hands in.
@@ -100,7 +102,7 @@ def listed_texts():
 def full_deck(plain):
     """48 intervals and 48 rows of 48 terms; so many of the intervals are plain, the first
     and the last among them."""
-    wanted, without = b"1 1000000 1000000000\n", b"1 1000000 0\n"
+    wanted, without = b"1 1000000 1000000000 1000000000\n", b"1 1000000 0 0\n"
     intervals = (without * (plain - plain // 2) + wanted * (MAX_COLUMNS - plain)
                  + without * (plain // 2))
     terms = b"".join(b" %d -1000" % index for index in range(1, MAX_COLUMNS + 1))
@@ -128,13 +130,13 @@ def full_volumes():
     so that ever more of them stay in the row; one path more; a count of intervals that no
     text can have; and the most volumes that a text can have, and one more than it has."""
     every = list(range(MAX_COLUMNS, 0, -1))
-    head = (b"%d\n" % MAX_COLUMNS + b"1 1000000 0\n" * 24 + b"1 1000000 1000000000\n" * 24
-            + b"0\n1\n")
+    head = (b"%d\n" % MAX_COLUMNS + b"1 1000000 0 0\n" * 24
+            + b"1 1000000 1000000000 1000000000\n" * 24 + b"0\n1\n")
     paths = [path_of(every)] + [path_of(every[:count]) for count in every]
     yield "49 paths", head + b"49\n" + b"".join(paths)
     yield "50 paths", head + b"50\n" + b"".join(paths) + paths[0]
     yield "48 intervals twice", head + b"1\n9999999999 " + b" ".join([paths[0][3:]] * 2)
-    one, volume = b"1\n1 9 0\n0\n", b"1 1 1\n"
+    one, volume = b"1\n1 9 0 0\n0\n", b"1 1 1\n"
     most = (MAX_TEXT - len(one + b"9999\n")) // len(volume)
     for count, had in ((most, most), (most + 1, most), (9999999999, most - 1)):
         yield "%d of %d volumes" % (had, count), one + b"%d\n" % count + volume * had
@@ -146,7 +148,8 @@ def wrong_lengths():
         for wrong in (0, length - 1, length + 1):
             yield "%s of %d" % (name, wrong), dict(LENGTHS, **{name: wrong})
     # as many numbers together as there must be
-    for one, other in (("given", "ideals"), ("ideals", "given"), ("goals", "given")):
+    for one, other in (("given", "ideals"), ("ideals", "given"), ("low", "high"),
+                       ("high", "low"), ("high", "given")):
         lengths = {one: MAX_COLUMNS - 1, other: MAX_COLUMNS + 1}
         yield "%s shorter, %s longer" % (one, other), dict(LENGTHS, **lengths)
     yield "all of 0", dict.fromkeys(LENGTHS, 0)
@@ -189,7 +192,7 @@ def ideals_met(after):
     if after["number"] != 0:
         return []
     n, _, intervals = after["sizes"]
-    plain = [after["given"][j] for j in range(intervals) if after["goals"][j] == 0]
+    plain = [after["given"][j] for j in range(intervals) if after["low"][j] == 0]
     found = {"an ideal set": any(plain), "a plain interval without one": not all(plain),
              "a slack beside a set ideal": any(plain) and n > intervals}
     return [kind for kind in IDEALS if found[kind]]
@@ -198,8 +201,8 @@ def ideals_met(after):
 def compare_readings(tally, reader, count, seed):
     """Every case, on buffers that hold anything."""
     met = dict.fromkeys(IDEALS, 0)
-    met.update(volumes_met(data for _, data, lengths in made(count, seed)
-                           if lengths == LENGTHS))
+    texts = [data for _, data, lengths in made(count, seed) if lengths == LENGTHS]
+    met.update(volumes_met(texts), **kinds_met(texts))
     for number, (what, data, lengths) in enumerate(cases(count, seed)):
         lists = noisy_lists(rng_for(seed + 1, number), lengths)
         got = reader_call(reader, data, lists)

@@ -103,7 +103,7 @@ def unreadable(program):
     unread = os.open(os.devnull, os.O_WRONLY)
     yield "standard input is only written", run(program, stdin=unread), (0, b"", closed)
     os.close(unread)
-    for data in (b"", b"1\n3 5 0\n0\n0\n"):
+    for data in (b"", b"1\n3 5 0 0\n0\n0\n"):
         reading, writing = filled(data)
         os.set_blocking(reading, False)
         yield ("a read fails after %d bytes" % len(data), run(program, stdin=reading),
@@ -164,7 +164,7 @@ def dying(program):
     with open(os.path.join(DECKS, "paving.txt"), "rb") as file:
         deck = file.read()
     # the last path's only curve is 10
-    paths = b"10\n" + b"1 9 0\n" * 10 + b"0\n1\n2\n1 2\n1 10"
+    paths = b"10\n" + b"1 9 0 0\n" * 10 + b"0\n1\n2\n1 2\n1 10"
     for data in (deck[:cut_within(deck)], paths[:-1], b""):
         writer = subprocess.Popen([sys.executable, "-c", DYING, data.hex()], stdout=subprocess.PIPE)
         end = run(program, stdin=writer.stdout)
@@ -175,7 +175,7 @@ def dying(program):
 
 def unended(program):
     """Document 01 lets a text end without a line end: it is listed like any other."""
-    for data in (b"1 3 5 0 0 0", b"1 3 5 0 0 0 ", b"1 3 5 0 0 0\t", b"x".rjust(MAX_TEXT), b"x".rjust(MAX_TEXT + 1)):
+    for data in (b"1 3 5 0 0 0 0", b"1 3 5 0 0 0 0 ", b"1 3 5 0 0 0 0\t", b"x".rjust(MAX_TEXT), b"x".rjust(MAX_TEXT + 1)):
         yield ("%d bytes that end with %r" % (len(data), data[-1:]), ended(start(program, stdin=subprocess.PIPE), data),
                (0, listing(data), b""))
 
@@ -183,7 +183,7 @@ def unended(program):
 def lengths(program):
     """Texts from a file and through a pipe: none, the longest, too long by one byte and by far, and without an end."""
     for length in (0, MAX_TEXT, MAX_TEXT + 1, 5000000):
-        data = b"1\n3 5 0\n0\n0\n".ljust(length) if length else b""
+        data = b"1\n3 5 0 0\n0\n0\n".ljust(length) if length else b""
         wanted = (0, listing(data), b"")
         with tempfile.TemporaryFile() as file:
             file.write(data)
@@ -230,7 +230,7 @@ def terminals(program):
 
 def arguments(program):
     """The usage line; what stands at standard input is left there."""
-    deck = b"1\n3 5 0\n0\n0\n"
+    deck = b"1\n3 5 0 0\n0\n0\n"
     for words in (["x"], [""], ["--help"], [os.path.join(DECKS, "paving.txt")], ["-", "x"]):
         reading, writing = filled(deck)
         end = run(program, *words, stdin=reading)

@@ -4,7 +4,8 @@ Every function carries out a sentence of document 01 and quotes it. Whole
 numbers are Python's, so nothing here overflows or is cut off. Rows and columns
 are counted from 0 in the code and from 1 in document 01.
 
-Ideals handed in and previews are document 02's, whose sentences stand at them.
+Ideals handed in, previews and the pair of goals are document 02's, whose sentences
+stand at them.
 
 assign(problem, lent) is a whole assignment, cont(problem, lent) is Continue.
 Both return (outcome, steps of the bounds part, steps of the goals part), where
@@ -15,6 +16,7 @@ preview(problem, standing, lent) shows the next step (document 02, (i)); it retu
 
 import collections
 import functools
+import math
 
 # “These limits belong to the problem and are named once with it.”
 MIN_COLUMNS = 1
@@ -47,28 +49,38 @@ SEATING_BEYOND = 9
 LIST_NOT_FIT = 10
 
 # The lists of a problem, and those that a call may write, in the order of every call.
-PROBLEM_LISTS = ["coefficients", "rights", "lower", "upper", "goals", "given", "ideals"]
+PROBLEM_LISTS = ["coefficients", "rights", "lower", "upper", "low", "high", "given",
+                 "ideals"]
 LENT_LISTS = ["tableau", "values", "strides"]
 
 
 class Problem:
     """“n columns, 1 to 48; m rows, 0 to 48”; the coefficients lie flat, n to a row.
 
+    Document 02, (v): “Each column's record now holds a low and a high goal”.
+
     Document 02, (ii): “Any number may be handed in as an ideal”, so that no number can say
     that there is none: given has a mark for each column, 0 where its ideal is unset and any
     other number where the one in ideals is handed in."""
 
-    def __init__(self, n, m, coefficients, rights, lower, upper, goals, given, ideals, limit):
+    def __init__(self, n, m, coefficients, rights, lower, upper, low, high, given, ideals,
+                 limit):
         self.n = n
         self.m = m
         self.coefficients = coefficients
         self.rights = rights
         self.lower = lower
         self.upper = upper
-        self.goals = goals
+        self.low = low
+        self.high = high
         self.given = given
         self.ideals = ideals
         self.limit = limit
+
+
+def twice(goals):
+    """The lists low and high of columns with one goal each: “Older cases have both equal.”"""
+    return list(goals), list(goals)
 
 
 def unset(n):
@@ -110,7 +122,8 @@ def wrong_length(problem, lent):
             or len(problem.rights) != m
             or len(problem.lower) != n
             or len(problem.upper) != n
-            or len(problem.goals) != n
+            or len(problem.low) != n
+            or len(problem.high) != n
             or len(problem.given) != n
             or len(problem.ideals) != n
             or len(lent.tableau) != n * (m + n)
@@ -126,14 +139,30 @@ def row_number_outside(problem):
 
 def bound_outside(problem):
     """“a lower and an upper bound, both within ±1,000,000, lower at most upper”."""
-    return any(abs(low) > MAX_BOUND or abs(high) > MAX_BOUND or low > high
-               for low, high in zip(problem.lower, problem.upper))
+    return any(abs(lower) > MAX_BOUND or abs(upper) > MAX_BOUND or lower > upper
+               for lower, upper in zip(problem.lower, problem.upper))
+
+
+def has_goal(low):
+    """Whether a column has a goal: “both 0 or both set” (document 02, (v)), so that the low
+    one tells."""
+    return low != 0
+
+
+def pair_breaks_the_rule(lower, low, high):
+    """Document 02, (v): “both 0 or both set, low at most high”; and document 01 of each:
+    “0 (no goal) to 1,000,000,000. A column with a goal has lower bound 1 or more.”"""
+    return (not 0 <= low <= MAX_GOAL
+            or not 0 <= high <= MAX_GOAL
+            or (low == 0) != (high == 0)
+            or low > high
+            or (has_goal(low) and lower < 1))
 
 
 def goal_outside(problem):
-    """“0 (no goal) to 1,000,000,000. A column with a goal has lower bound 1 or more.”"""
-    return any(not 0 <= goal <= MAX_GOAL or (goal > 0 and low < 1)
-               for goal, low in zip(problem.goals, problem.lower))
+    """“A pair that breaks the rule is refused as 5 is now.”"""
+    return any(pair_breaks_the_rule(*column)
+               for column in zip(problem.lower, problem.low, problem.high))
 
 
 def limit_outside(problem):
@@ -293,18 +322,20 @@ def strides_of(basis, n):
 
 # --------------------------------------------------------------------- seating
 
-def into_bounds(value, low, high):
+def into_bounds(value, lower, upper):
     """“then bring it into the bounds”."""
-    return max(low, min(high, value))
+    return max(lower, min(upper, value))
 
 
-def goal_ideal(goal):
-    """“k is floor(g/1000); take 1 if k = 0, k + 1 if k(k + 1) × 1,000,000 < g × g,
-    else k” - before it is brought into the bounds."""
-    k = goal // 1000
+def goal_ideal(low, high):
+    """Document 02, (v): “The ideal uses k, the whole part of (square root of low times
+    high) / 1,000: k + 1 exactly if k(k + 1) × 1,000,000 < low × high, and 1 for k = 0” -
+    otherwise k, as in document 01, and before it is brought into the bounds."""
+    # the whole part of a root's thousandth is that of the root's whole part
+    k = math.isqrt(low * high) // 1000
     if k == 0:
         return 1
-    if k * (k + 1) * 1000000 < goal * goal:
+    if k * (k + 1) * 1000000 < low * high:
         return k + 1
     return k
 
@@ -313,8 +344,8 @@ def ideal(problem, j, present):
     """“The ideal of a column with goal g ... Without a goal it is the present value
     brought into the bounds.” Document 02, (ii): an ideal that is handed in “is used only
     without a goal, and brought into the bounds”; “unset, document 01's rule holds”."""
-    if problem.goals[j] > 0:
-        wanted = goal_ideal(problem.goals[j])
+    if has_goal(problem.low[j]):
+        wanted = goal_ideal(problem.low[j], problem.high[j])
     elif problem.given[j] != 0:
         wanted = problem.ideals[j]
     else:
@@ -400,16 +431,21 @@ def part_of(problem, values):
     return BOUNDS if outside else GOALS
 
 
-def ratio(goal, value):
-    """“Its ratio, for goal g and value v of 1 or more, is the larger of 1000v/g and
-    g/1000v” - as a pair, numerator and denominator."""
-    thousandths = 1000 * value
-    return (thousandths, goal) if thousandths >= goal else (goal, thousandths)
-
-
 def compare_ratios(a, b):
     """“compared exactly by cross products”: below 0, 0 or above 0."""
     return a[0] * b[1] - b[0] * a[1]
+
+
+def ratio(low, high, value):
+    """Document 02, (v): “The ratio is the larger of 1000v/low and high/1000v”, for a “value
+    v of 1 or more” - as a pair, numerator and denominator."""
+    over, short = (1000 * value, low), (high, 1000 * value)
+    return over if compare_ratios(over, short) >= 0 else short
+
+
+def ratio_of(problem, j, value):
+    """The ratio of column j, which has a goal, at a value."""
+    return ratio(problem.low[j], problem.high[j], value)
 
 
 def rank_by_distance(problem, values):
@@ -421,9 +457,8 @@ def rank_by_distance(problem, values):
 
 def rank_by_ratio(problem, values):
     """“Columns with a goal, largest ratio first, same ties.”"""
-    ratios = [ratio(goal, value) if goal > 0 else None
-              for goal, value in zip(problem.goals, values)]
-    wanted = [j for j in range(problem.n) if problem.goals[j] > 0]
+    wanted = [j for j in range(problem.n) if has_goal(problem.low[j])]
+    ratios = {j: ratio_of(problem, j, values[j]) for j in wanted}
 
     def order(a, b):
         return compare_ratios(ratios[b], ratios[a]) or a - b
@@ -448,8 +483,8 @@ def improves_goals(problem, values, changes, old):
         value = values[j] + change
         if not problem.lower[j] <= value <= problem.upper[j]:
             return False
-        goal = problem.goals[j]
-        if goal > 0 and compare_ratios(ratio(goal, value), old) >= 0:
+        if (has_goal(problem.low[j])
+                and compare_ratios(ratio_of(problem, j, value), old) >= 0):
             return False
     return True
 
@@ -468,7 +503,7 @@ def bounds_step(problem, by_column, values):
 def goals_step(problem, by_column, values):
     """The same in the goals part."""
     for i in rank_by_ratio(problem, values):
-        old = ratio(problem.goals[i], values[i])
+        old = ratio_of(problem, i, values[i])
         for changes in by_column[i]:
             if improves_goals(problem, values, changes, old):
                 return changes
@@ -598,7 +633,7 @@ def next_step(problem, basis, values):
         if part == BOUNDS:
             old = distance(problem, i, values[i])
         else:
-            old = ratio(problem.goals[i], values[i])
+            old = ratio_of(problem, i, values[i])
         for name, move in moves:
             # “A move improves column i if it changes i”
             if move[i] != 0 and improves(problem, values, changes_of(move), old):

@@ -13,7 +13,8 @@ A problem is printed as lines of fields parted by one space:
     rights LENGTH numbers...
     lower LENGTH numbers...
     upper LENGTH numbers...
-    goals LENGTH numbers...
+    low LENGTH numbers...                the low goal of each column, 0 for none
+    high LENGTH numbers...               its high goal
     given LENGTH numbers...              0 where no ideal is handed in
     ideals LENGTH numbers...
     tableau LENGTH numbers...            the lent buffers before the call
@@ -30,7 +31,8 @@ is beyond 64 signed bits, so a caller with unsigned counts can take every case.
 To import: problems(count, seed) yields Case objects, texts(count, seed) yields
 bytes; problem_case(rng) and text_case(rng) make one. preview_case(rng) makes the
 problem, the standing list and the lent buffers of a preview. volume_kinds(data) tells
-what a text shows of volumes, and volumes_met(texts) counts that.
+what a text shows of volumes, and volumes_met(texts) counts that; pairs.py has the same of
+pairs of goals.
 """
 
 import copy
@@ -42,10 +44,11 @@ import needs
 from engine import (GOALS, LENT_LISTS, M, MAX_BOUND, MAX_COEFFICIENT, MAX_COLUMNS, MAX_GOAL,
                     MAX_LIMIT, MAX_RIGHT, MAX_ROWS, PROBLEM_LISTS, Lent, Problem, assign,
                     basis_of, bring_to_form, cont, fill, move_named, move_names, part_of,
-                    unset)
+                    twice, unset)
 from listing import listing
-from text import (MAX_TEXT, NOT_AS_LAID_OUT, Numbers, Refused, neighbour_ideal, path_rows,
-                  read_front, read_volumes)
+from pairs import damage_column, damage_line, part_goals, share_curves
+from text import (MAX_TEXT, NOT_AS_LAID_OUT, Numbers, Refused, is_wanted, neighbour_ideal,
+                  path_rows, read_front, read_volumes)
 
 BIGGEST = 2 ** 63 - 1
 SMALLEST = -2 ** 63
@@ -70,10 +73,10 @@ class Case:
         """Runs the model on the lent buffers and returns its answer."""
         return (assign if self.call == "assign" else cont)(self.problem, self.lent)
 
-    def left_with(self, given):
-        """What the model answers and leaves, on copies, with these marks of the ideals."""
+    def left_with(self, **lists):
+        """What the model answers and leaves, on copies, with other lists of these names."""
         problem = copy.copy(self.problem)
-        problem.given = given
+        vars(problem).update(lists)
         lent = Lent(*[list(getattr(self.lent, name)) for name in LENT_LISTS])
         return Case(self.call, problem, lent).run(), lent.values
 
@@ -81,7 +84,13 @@ class Case:
         """Whether the ideals that are handed in play a part in what the call answers or
         leaves."""
         given = self.problem.given
-        return any(given) and self.left_with(given) != self.left_with([0] * len(given))
+        return any(given) and self.left_with() != self.left_with(given=[0] * len(given))
+
+    def moved_by_high_goals(self):
+        """Whether it plays a part in a verdict that high goals are above the low ones."""
+        left = self.left_with()
+        (outcome, _, _), _ = left
+        return not isinstance(outcome, int) and left != self.left_with(high=self.problem.low)
 
 
 def noise(rng, length, smallest=SMALLEST, biggest=BIGGEST):
@@ -108,32 +117,33 @@ def random_matrix(rng, n, m, size, density):
 
 
 def random_columns(rng, n, spread, goals):
-    """Lower bounds, upper bounds and goals; goals is the chance of a goal."""
+    """Lower bounds, upper bounds, low goals and high goals, these two equal; goals is the
+    chance of a goal."""
     lower, upper, wanted = [], [], []
     for _ in range(n):
         goal = 0
-        low = rng.randint(-spread, spread)
+        least = rng.randint(-spread, spread)
         if rng.random() < goals:
             goal = rng.randint(1, 2000 * spread)
-            low = rng.randint(1, spread)
-        lower.append(low)
-        upper.append(low + rng.choice([0, 1, 2, spread, 10 * spread]))
+            least = rng.randint(1, spread)
+        lower.append(least)
+        upper.append(least + rng.choice([0, 1, 2, spread, 10 * spread]))
         wanted.append(goal)
-    return lower, upper, wanted
+    return lower, upper, *twice(wanted)
 
 
 def columns_around(rng, values, spread, goals):
     """The same with bounds that the values lie in."""
     lower, upper, wanted = [], [], []
     for value in values:
-        low = value - rng.randint(0, spread)
+        least = value - rng.randint(0, spread)
         if value >= 1 and rng.random() < goals:
-            low = max(low, 1)
-        lower.append(low)
+            least = max(least, 1)
+        lower.append(least)
         upper.append(value + rng.randint(0, spread))
         wanted.append(rng.randint(1, 2000 * spread)
-                      if low >= 1 and rng.random() < goals else 0)
-    return lower, upper, wanted
+                      if least >= 1 and rng.random() < goals else 0)
+    return lower, upper, *twice(wanted)
 
 
 def random_limit(rng):
@@ -203,9 +213,9 @@ def large_problem(rng):
             coefficients[i * n + rng.randrange(n)] = rng.choice([-1, 1])
     hidden = [rng.randint(1, 12) for _ in range(n)]
     rights = products(n, m, coefficients, hidden)
-    lower, upper, goals = random_columns(rng, n, 8, rng.choice([0.5, 1]))
+    columns = random_columns(rng, n, 8, rng.choice([0.5, 1]))
     limit = rng.choice([0, 1, 5, 40])
-    return Problem(n, m, coefficients, rights, lower, upper, goals, *unset(n), limit), hidden
+    return Problem(n, m, coefficients, rights, *columns, *unset(n), limit), hidden
 
 
 def extreme_counts(rng):
@@ -224,11 +234,11 @@ def chain_problem(rng):
     for k in range(m):
         coefficients[k * n + k] = rng.choice([10, 37, 100, 999, MAX_COEFFICIENT])
         coefficients[k * n + k + 1] = rng.choice([-1, -1, -1, 1, -2])
-    low = rng.choice([0, 1, 1])
-    goals = [rng.choice([0, 1000, MAX_GOAL]) if low else 0 for _ in range(n)]
-    high = rng.choice([10, MAX_BOUND, MAX_BOUND])
-    problem = Problem(n, m, coefficients, [0] * m, [low] * n, [high] * n, goals, *unset(n),
-                      rng.choice([0, 10, 100]))
+    lower = rng.choice([0, 1, 1])
+    goals = [rng.choice([0, 1000, MAX_GOAL]) if lower else 0 for _ in range(n)]
+    upper = rng.choice([10, MAX_BOUND, MAX_BOUND])
+    problem = Problem(n, m, coefficients, [0] * m, [lower] * n, [upper] * n, *twice(goals),
+                      *unset(n), rng.choice([0, 10, 100]))
     return problem, [0] * n
 
 
@@ -255,8 +265,8 @@ def near_m_problem(rng):
         # the first column has a lower bound, so that seating grows
         lower[0] = rng.choice([-MAX_BOUND, 1, 1, 2])
         rights[-1] = rng.randint(-2, 2)
-    problem = Problem(n, m, coefficients, rights, lower, [MAX_BOUND] * n, [0] * n, *unset(n),
-                      rng.choice([0, 3, 100]))
+    problem = Problem(n, m, coefficients, rights, lower, [MAX_BOUND] * n, *twice([0] * n),
+                      *unset(n), rng.choice([0, 3, 100]))
     return problem, [0] * n
 
 
@@ -268,7 +278,7 @@ def there_and_back_problem(rng):
     goal = rng.choice([1000, 2000000, 2148000, 3000000])
     goals = [goal, goal + rng.choice([0, 1000]), 0, 0]
     problem = Problem(4, 2, coefficients, [0, 0], [1, 1, -9, -MAX_BOUND],
-                      [MAX_BOUND] * 4, goals, *unset(4), rng.choice([0, 3, 100]))
+                      [MAX_BOUND] * 4, *twice(goals), *unset(4), rng.choice([0, 3, 100]))
     return problem, [0] * 4
 
 
@@ -285,12 +295,12 @@ def strided_problem(rng):
         coefficients[i * n + 2 * i + 1] = rng.choice([-f, f])
         rights.append(f * rng.randint(-3, 3) + rng.choice([-f // 3, rng.randint(0, f)]))
         hidden += [rights[i], 0]
-    lower, upper, goals = random_columns(rng, n, rng.choice([10, 60]), rng.choice([0, 0.3]))
+    columns = random_columns(rng, n, rng.choice([10, 60]), rng.choice([0, 0.3]))
+    problem = Problem(n, m, coefficients, rights, *columns, *unset(n), random_limit(rng))
     for j in range(n):
-        if goals[j] == 0 and rng.random() < 0.7:
-            lower[j], upper[j] = -99, 99
-    return Problem(n, m, coefficients, rights, lower, upper, goals, *unset(n),
-                   random_limit(rng)), hidden
+        if problem.low[j] == 0 and rng.random() < 0.7:
+            problem.lower[j], problem.upper[j] = -99, 99
+    return problem, hidden
 
 
 FAMILIES = [small_problem] * 6 + [middle_problem] * 4 + [wild_problem] * 3 + [
@@ -302,12 +312,13 @@ FAMILIES = [small_problem] * 6 + [middle_problem] * 4 + [wild_problem] * 3 + [
 MARKS = [1, 1, 1, 1, -1, 2, -7, 1000000, BIGGEST, SMALLEST]
 
 
-def random_ideal(rng, low, high):
+def random_ideal(rng, lower, upper):
     """A number to hand in: within the bounds, at their ends, outside near by and far away,
     0, below 0, and at the ends of 64 bits."""
-    return rng.choice([rng.randint(low, high), rng.randint(low, high), rng.randint(low, high),
-                       low, high, low - rng.randint(1, 30), high + rng.randint(1, 30),
-                       0, -rng.randint(1, 99), SMALLEST, BIGGEST])
+    within = [rng.randint(lower, upper) for _ in range(3)]
+    return rng.choice(within + [lower, upper, lower - rng.randint(1, 30),
+                                upper + rng.randint(1, 30), 0, -rng.randint(1, 99),
+                                SMALLEST, BIGGEST])
 
 
 def hand_in(rng, problem):
@@ -370,7 +381,7 @@ def change_a_length(rng, problem, lent):
 
 def change_a_number(rng, problem, lent):
     """Sets one number at or past its limit, or one count, or one length."""
-    what = rng.randrange(10)
+    what = rng.randrange(12)
     if what == 0:
         problem.n = rng.choice([0, MAX_COLUMNS + 1, problem.n + 1, MAX_COLUMNS, 2 ** 32])
     elif what == 1:
@@ -382,14 +393,17 @@ def change_a_number(rng, problem, lent):
     elif what == 4:
         put(rng, rng.choice([problem.lower, problem.upper]),
             past(rng, -MAX_BOUND, MAX_BOUND))
-    elif what == 5:
-        put(rng, problem.goals, past(rng, 0, MAX_GOAL))
+    elif what in (5, 8, 9):
+        # a length may be changed already
+        columns = min(map(len, (problem.lower, problem.low, problem.high)))
+        if columns > 0:
+            damage_column(rng, problem, rng.randrange(columns))
     elif what == 6:
         problem.limit = rng.choice([MAX_LIMIT, MAX_LIMIT + 1, 2 ** 31, BIGGEST])
     elif what == 7:
         j = rng.randrange(min(len(problem.lower), len(problem.upper)) or 1)
-        low, high = problem.lower[j:j + 1], problem.upper[j:j + 1]
-        problem.lower[j:j + 1], problem.upper[j:j + 1] = high, low
+        lower, upper = problem.lower[j:j + 1], problem.upper[j:j + 1]
+        problem.lower[j:j + 1], problem.upper[j:j + 1] = upper, lower
     else:
         change_a_length(rng, problem, lent)
 
@@ -422,6 +436,7 @@ def tie_columns(rng, problem):
 def problem_case(rng):
     """One call on buffers."""
     problem, hidden = rng.choice(FAMILIES)(rng)
+    part_goals(rng, problem)
     hand_in(rng, problem)
     if rng.random() < 0.15:
         repeat_rows(rng, problem)
@@ -477,8 +492,8 @@ def held_problem(rng):
     standing = [rng.randint(20, 40) for _ in range(n)]
     coefficients = random_matrix(rng, n, m, 2, 0.6)
     rights = products(n, m, coefficients, standing)
-    problem = Problem(n, m, coefficients, rights, list(standing), list(standing), [0] * n,
-                      *unset(n), random_limit(rng))
+    problem = Problem(n, m, coefficients, rights, list(standing), list(standing),
+                      *twice([0] * n), *unset(n), random_limit(rng))
     table = fill(problem)
     basis = basis_of(table, bring_to_form(table), m)
     pairs = [name for name in move_names(len(basis)) if len(name) == 2]
@@ -495,7 +510,10 @@ def held_problem(rng):
     if rng.random() < 0.5:
         problem.lower[wanting] = problem.upper[wanting] = wanted
     else:
-        problem.goals[wanting] = 1000 * max(1, wanted)
+        # as far below that as above it, so that it is wanted all the same
+        times = rng.choice([1, 2, 5])
+        problem.low[wanting] = 1000 * max(1, wanted) // times
+        problem.high[wanting] = 1000 * max(1, wanted) * times
     return problem, standing
 
 
@@ -533,8 +551,8 @@ def problems(count, seed):
 # ---------------------------------------------------------------------- deck texts
 
 class Sketch:
-    """A deck in the making: intervals as (lower, upper, goal), rows as (kind,
-    number, terms) with terms as (index from 1, coefficient), volumes as lists of
+    """A deck in the making: intervals as (lower, upper, low goal, high goal), rows as
+    (kind, number, terms) with terms as (index from 1, coefficient), volumes as lists of
     paths, each a list of indices from 1."""
 
     def __init__(self):
@@ -543,8 +561,8 @@ class Sketch:
         self.volumes = []
 
     def curve(self, goal, lower=1, upper=MAX_BOUND):
-        """Adds an interval and returns its index."""
-        self.intervals.append((lower, upper, goal))
+        """Adds an interval, both of whose goals are this one, and returns its index."""
+        self.intervals.append((lower, upper, goal, goal))
         return len(self.intervals)
 
     def row(self, kind, number, terms):
@@ -672,8 +690,8 @@ def midpoint_deck(rng):
     for _ in range(rng.randint(1, 4)):
         a, b, c = shared, sketch.curve(random_goal(rng)), sketch.curve(random_goal(rng))
         if rng.random() < 0.2:
-            low = rng.randint(1, 30)
-            b = sketch.curve(0, low, low + rng.randint(0, 3))
+            lower = rng.randint(1, 30)
+            b = sketch.curve(0, lower, lower + rng.randint(0, 3))
         sketch.row(1, 2, [(a, 1), (b, 1), (c, -1)])
         sketch.row(1, 2, [(a, 1), (b, -1), (c, 1)])
         sketch.row(1, 2, [(a, -1), (b, 1), (c, 1)])
@@ -838,12 +856,12 @@ def brim_deck(rng):
 
 def without_some_goals(rng, sketch):
     """Leaves out some goals of a deck, and narrows the bounds of others."""
-    for at, (lower, upper, goal) in enumerate(sketch.intervals):
+    for at, (lower, upper, *goals) in enumerate(sketch.intervals):
         chance = rng.random()
-        if goal and chance < 0.35:
-            sketch.intervals[at] = (lower, upper, 0)
-        elif goal and chance < 0.5:
-            sketch.intervals[at] = (lower, min(upper, lower + rng.randint(0, 9)), goal)
+        if any(goals) and chance < 0.35:
+            sketch.intervals[at] = (lower, upper, 0, 0)
+        elif any(goals) and chance < 0.5:
+            sketch.intervals[at] = (lower, min(upper, lower + rng.randint(0, 9)), *goals)
 
 
 def strided_deck(rng):
@@ -852,9 +870,9 @@ def strided_deck(rng):
     sketch = Sketch()
     for _ in range(rng.randint(1, 3)):
         factor = rng.choice([2, 3, 5, 7, 12, 40])
-        low = rng.choice([-300, 0, 1])
-        a = sketch.curve(rng.choice([0, 0, random_goal(rng)]) if low == 1 else 0, low, 300)
-        b = sketch.curve(rng.choice([0, 0, random_goal(rng)]) if low == 1 else 0, low)
+        lower = rng.choice([-300, 0, 1])
+        a = sketch.curve(rng.choice([0, 0, random_goal(rng)]) if lower == 1 else 0, lower, 300)
+        b = sketch.curve(rng.choice([0, 0, random_goal(rng)]) if lower == 1 else 0, lower)
         sketch.row(0, rng.randint(0, 5 * factor), [(a, 1), (b, -factor)])
     return sketch
 
@@ -919,6 +937,7 @@ def sketch_for(rng):
     sketch = rng.choice(DECKS)(rng)
     if rng.random() < 0.3:
         without_some_goals(rng, sketch)
+    share_curves(rng, sketch)
     if rng.random() < 0.15:
         add_volumes(rng, sketch)
     return sketch
@@ -959,7 +978,7 @@ def damage_tokens(rng, lines, sections):
         damage_volumes(rng, sections)
         return
     i, j = place(rng, lines)
-    what = rng.randrange(9)
+    what = rng.randrange(12)
     if what == 0:
         lines[i][j] = rng.choice(BAD_RUNS)
     elif what in (1, 2, 3):
@@ -973,6 +992,8 @@ def damage_tokens(rng, lines, sections):
         lines[i][j], lines[k][l] = lines[k][l], lines[i][j]
     elif what == 7:
         damage_row(rng, sections[1][-1])
+    elif what <= 10:
+        damage_line(rng, rng.choice(sections[0]))
     else:
         lines.append([rng.choice(NUMBERS + BAD_RUNS)])
 
@@ -1120,7 +1141,7 @@ def kinds_read(columns, intervals, rows, volumes):
     paths = [path for volume in volumes for path in volume]
     pairs = [(set(volume[0]), set(path)) for volume in volumes for path in volume[1:]]
     every = rows + path_rows(volumes)
-    plain = [j for j in range(intervals) if columns[j][2] == 0]
+    plain = [j for j in range(intervals) if not is_wanted(columns[j])]
     found = {
         "volumes": volumes != [],
         "several volumes": len(volumes) > 1,

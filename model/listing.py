@@ -16,7 +16,8 @@ def problem_of(deck):
     """The parts of the reader's buffers that n and m need, under the listing's limit."""
     n, m = deck.n, deck.m
     return Problem(n, m, deck.coefficients[:m * n], deck.rights[:m], deck.lower[:n],
-                   deck.upper[:n], deck.goals[:n], deck.given[:n], deck.ideals[:n], LIMIT)
+                   deck.upper[:n], deck.low[:n], deck.high[:n], deck.given[:n],
+                   deck.ideals[:n], LIMIT)
 
 
 def blank_lent(problem):

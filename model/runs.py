@@ -7,8 +7,8 @@ breaks of the request's words. Ratios are Python's fractions, compared exactly.
 
 from fractions import Fraction
 
-from engine import (BOUNDS, GOALS, basis_of, bring_to_form, distance, fill, part_of, ratio,
-                    settle)
+from engine import (BOUNDS, GOALS, basis_of, bring_to_form, distance, fill, has_goal, part_of,
+                    ratio_of, settle)
 
 
 def run_from(problem, values):
@@ -29,8 +29,8 @@ def distances(problem, values):
 
 def ratios(problem, values):
     """“the same for ratios”: of the columns with a goal."""
-    return sorted((Fraction(*ratio(goal, value))
-                   for goal, value in zip(problem.goals, values) if goal > 0),
+    return sorted((Fraction(*ratio_of(problem, j, value))
+                   for j, value in enumerate(values) if has_goal(problem.low[j])),
                   reverse=True)
 
 

@@ -2,14 +2,16 @@
 
 “The first place that breaks its rule decides the refusal.”
 
-Ideals and swept volumes are document 02's, whose sentences stand at them.
+Ideals, swept volumes and the pair of goals are document 02's, whose sentences stand at
+them.
 """
 
 import re
 
 from engine import (COUNTS_OUTSIDE, WRONG_LENGTH, ROW_NUMBER_OUTSIDE, BOUND_OUTSIDE,
                     GOAL_OUTSIDE, MIN_COLUMNS, MAX_COLUMNS, MAX_ROWS, MAX_COEFFICIENT,
-                    MAX_RIGHT, MAX_BOUND, MAX_GOAL, PROBLEM_LISTS, goal_ideal, into_bounds)
+                    MAX_RIGHT, MAX_BOUND, MAX_GOAL, PROBLEM_LISTS, goal_ideal, has_goal,
+                    into_bounds)
 
 MAX_TEXT = 32768
 MAX_COEFFICIENTS = MAX_COLUMNS * MAX_ROWS
@@ -50,7 +52,9 @@ class Deck:
         self.rights = [0] * MAX_ROWS
         self.lower = [0] * MAX_COLUMNS
         self.upper = [0] * MAX_COLUMNS
-        self.goals = [0] * MAX_COLUMNS
+        # document 02, (v): the low and the high goal
+        self.low = [0] * MAX_COLUMNS
+        self.high = [0] * MAX_COLUMNS
         # document 02, (ii): whether an ideal is set, and the number
         self.given = [0] * MAX_COLUMNS
         self.ideals = [0] * MAX_COLUMNS
@@ -82,10 +86,10 @@ class Numbers:
             raise Refused(NOT_AS_LAID_OUT)
         return int(run)
 
-    def next_within(self, low, high, refusal):
-        """The next number; outside low to high it is the refusal given."""
+    def next_within(self, least, most, refusal):
+        """The next number; outside least to most it is the refusal given."""
         number = self.next()
-        if not low <= number <= high:
+        if not least <= number <= most:
             raise Refused(refusal)
         return number
 
@@ -114,13 +118,16 @@ class Row:
 
 
 def read_interval(numbers):
-    """“then for each its lower, upper and goal”."""
+    """Document 02, (v): “an interval's line in the text has four numbers”, its lower, upper,
+    low and high."""
     lower = numbers.next_within(-MAX_BOUND, MAX_BOUND, BOUND_OUTSIDE)
     # “lower at most upper”, refused at the upper's place
     upper = numbers.next_within(lower, MAX_BOUND, BOUND_OUTSIDE)
-    # “A column with a goal has lower bound 1 or more”, refused at the goal's place
-    goal = numbers.next_within(0, MAX_GOAL if lower >= 1 else 0, GOAL_OUTSIDE)
-    return lower, upper, goal
+    # “A column with a goal has lower bound 1 or more”, refused at the low goal's place
+    low = numbers.next_within(0, MAX_GOAL if lower >= 1 else 0, GOAL_OUTSIDE)
+    # “both 0 or both set, low at most high”, refused at the high goal's place
+    high = numbers.next_within(low, MAX_GOAL if has_goal(low) else 0, GOAL_OUTSIDE)
+    return lower, upper, low, high
 
 
 def read_terms(numbers, intervals):
@@ -157,7 +164,7 @@ def read_row(numbers, intervals, columns):
 
 
 def read_front(numbers):
-    """“Sections: the count of intervals, then for each its lower, upper and goal; the
+    """“Sections: the count of intervals, then for each” its line of four numbers; “the
     count of rows, then for each its kind ...”. Returns the count of intervals, the columns
     and the rows."""
     intervals = numbers.next_within(MIN_COLUMNS, MAX_COLUMNS, COUNTS_OUTSIDE)
@@ -170,7 +177,7 @@ def read_front(numbers):
         if row.y is not None:
             # “Each y goes up to 1,000,000, has no goal”
             least = row.number if row.kind == EVEN else 0
-            columns.append((least, MAX_Y, 0))
+            columns.append((least, MAX_Y, 0, 0))
     return intervals, columns, rows
 
 
@@ -236,6 +243,12 @@ def read_sections(data):
     return columns, rows, volumes
 
 
+def is_wanted(column):
+    """Whether a column has a goal."""
+    _, _, low, _ = column
+    return has_goal(low)
+
+
 def neighbours_of(j, columns, rows):
     """Document 02, (ii): “all intervals with a goal that have a nonzero coefficient in some
     row with it, each counted once”. They are a set, so that one that shares two rows with
@@ -247,17 +260,17 @@ def neighbours_of(j, columns, rows):
         named = {index for index, _ in row.terms}
         if j in named:
             beside |= named
-    return {h for h in beside if columns[h][2] > 0}
+    return {h for h in beside if is_wanted(columns[h])}
 
 
 def neighbour_ideal(j, columns, rows):
     """Document 02, (ii): “From now on the reader gives such an interval an ideal: the mean,
     rounded down, of the ideals of all intervals with a goal that ...”, where an ideal is
-    document 01's, which is in the bounds. None where it is unset: “if there are none”."""
+    that of the pair of goals, in the bounds. None where it is unset: “if there are none”."""
     ideals = []
     for h in neighbours_of(j, columns, rows):
-        lower, upper, goal = columns[h]
-        ideals.append(into_bounds(goal_ideal(goal), lower, upper))
+        lower, upper, low, high = columns[h]
+        ideals.append(into_bounds(goal_ideal(low, high), lower, upper))
     return sum(ideals) // len(ideals) if ideals else None
 
 
@@ -265,8 +278,7 @@ def put_ideals(deck, intervals, columns, rows):
     """“such an interval” has no goal. “It is unset ... for slacks”, which are the columns
     after the intervals."""
     for j in range(intervals):
-        _, _, goal = columns[j]
-        mean = neighbour_ideal(j, columns, rows) if goal == 0 else None
+        mean = None if is_wanted(columns[j]) else neighbour_ideal(j, columns, rows)
         if mean is not None:
             deck.given[j] = 1
             deck.ideals[j] = mean
@@ -277,10 +289,11 @@ def fill_deck(deck, columns, rows):
     rest becomes 0.”"""
     n, m = len(columns), len(rows)
     blank = Deck()
-    for j, (lower, upper, goal) in enumerate(columns):
+    for j, (lower, upper, low, high) in enumerate(columns):
         blank.lower[j] = lower
         blank.upper[j] = upper
-        blank.goals[j] = goal
+        blank.low[j] = low
+        blank.high[j] = high
     for i, row in enumerate(rows):
         # the number of an even row is the least y; its right side is 0
         blank.rights[i] = 0 if row.kind == EVEN else row.number
@@ -302,7 +315,8 @@ def wrong_length(deck):
             or len(deck.rights) != MAX_ROWS
             or len(deck.lower) != MAX_COLUMNS
             or len(deck.upper) != MAX_COLUMNS
-            or len(deck.goals) != MAX_COLUMNS
+            or len(deck.low) != MAX_COLUMNS
+            or len(deck.high) != MAX_COLUMNS
             or len(deck.given) != MAX_COLUMNS
             or len(deck.ideals) != MAX_COLUMNS)
 

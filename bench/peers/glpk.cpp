@@ -73,12 +73,13 @@ private:
 
     void state_goals() {
         for (size_t k = 0; k < wanted.size(); k++) {
-            for (int sign : {-1, 1}) {
-                Terms terms;
-                terms.add(wanted[k], 1);
-                terms.add(further(k), sign * weight(k));
-                state_row(terms, sign < 0 ? GLP_UP : GLP_LO, goal(k));
-            }
+            Terms below, above;
+            below.add(wanted[k], 1);
+            below.add(further(k), -weight_low(k));
+            state_row(below, GLP_UP, low(k));
+            above.add(wanted[k], 1);
+            above.add(further(k), weight_high(k));
+            state_row(above, GLP_LO, high(k));
         }
     }
 

@@ -62,9 +62,9 @@ private:
     void state_goals() {
         for (size_t k = 0; k < wanted.size(); k++) {
             int columns[] = {int(wanted[k] + 1), int(further(k) + 1)};
-            REAL below[] = {1, -weight(k)}, above[] = {1, weight(k)};
-            add_constraintex(program, 2, below, columns, LE, goal(k));
-            add_constraintex(program, 2, above, columns, GE, goal(k));
+            REAL below[] = {1, -weight_low(k)}, above[] = {1, weight_high(k)};
+            add_constraintex(program, 2, below, columns, LE, low(k));
+            add_constraintex(program, 2, above, columns, GE, high(k));
         }
     }
 

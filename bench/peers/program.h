@@ -1,6 +1,7 @@
-// A deck as an integer program: whole v within bounds that satisfy the rows, and as near to the goals g as one of two measures says:
-// the sum of |v − g| / g, or the largest of them. Further columns d carry that: v − w d ≤ g and v + w d ≥ g, where for the sum each
-// column with a goal has a d of its own that costs 1 / g, and w is 1; and for the largest all share one d that costs 1, and w is g.
+// A deck as an integer program: whole v within bounds that satisfy the rows, and as near to the goals as one of two measures says: the sum of
+// the larger of (v − low) / low and (high − v) / high, or the largest of them. Where both goals are g, that is |v − g| / g. Further columns d
+// carry it: v − a d ≤ low and v + b d ≥ high, where for the sum each column with a goal has a d of its own that costs 1 / high, a is low / high
+// and b is 1; and for the largest all share one d that costs 1, a is low and b is high.
 #pragma once
 
 #include <cmath>
@@ -17,7 +18,7 @@ class Solve : public Work {
 public:
     Solve(const Deck &deck, Aim aim) : deck(deck), aim(aim), outcome(Outcome::NoAnswer), values(deck.n) {
         for (size_t j = 0; j < deck.n; j++) {
-            if (deck.goals[j] > 0) {
+            if (deck.low[j] > 0) {
                 wanted.push_back(j);
             }
         }
@@ -40,11 +41,13 @@ public:
 protected:
     size_t further_count() const { return aim == Aim::Sum ? wanted.size() : wanted.empty() ? 0 : 1; }
 
-    // The column d of the k-th column with a goal, its weight w, its cost, and that goal.
+    // The column d of the k-th column with a goal, its weights a and b, its cost, and those goals.
     size_t further(size_t k) const { return deck.n + (aim == Aim::Sum ? k : 0); }
-    double weight(size_t k) const { return aim == Aim::Sum ? 1 : goal(k); }
-    double cost(size_t k) const { return aim == Aim::Sum ? 1 / goal(k) : 1; }
-    double goal(size_t k) const { return deck.goals[wanted[k]] / 1000.0; }
+    double weight_low(size_t k) const { return aim == Aim::Sum ? low(k) / high(k) : low(k); }
+    double weight_high(size_t k) const { return aim == Aim::Sum ? 1 : high(k); }
+    double cost(size_t k) const { return aim == Aim::Sum ? 1 / high(k) : 1; }
+    double low(size_t k) const { return deck.low[wanted[k]] / 1000.0; }
+    double high(size_t k) const { return deck.high[wanted[k]] / 1000.0; }
 
     const Deck &deck;
     Aim aim;

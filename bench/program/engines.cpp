@@ -5,11 +5,11 @@
 #ifdef WITH_ENGINES
 extern "C" {
 uint32_t plain_assign(size_t, size_t, uint32_t, const int64_t *, size_t, const int64_t *, size_t, const int64_t *, size_t,
-                      const int64_t *, size_t, const int64_t *, size_t, const int64_t *, size_t, const int64_t *, size_t, int64_t *,
-                      size_t, int64_t *, size_t, uint64_t *, size_t, uint32_t *, size_t);
+                      const int64_t *, size_t, const int64_t *, size_t, const int64_t *, size_t, const int64_t *, size_t,
+                      const int64_t *, size_t, int64_t *, size_t, int64_t *, size_t, uint64_t *, size_t, uint32_t *, size_t);
 uint32_t tuned_assign(size_t, size_t, uint32_t, const int64_t *, size_t, const int64_t *, size_t, const int64_t *, size_t,
-                      const int64_t *, size_t, const int64_t *, size_t, const int64_t *, size_t, const int64_t *, size_t, int64_t *,
-                      size_t, int64_t *, size_t, uint64_t *, size_t, uint32_t *, size_t);
+                      const int64_t *, size_t, const int64_t *, size_t, const int64_t *, size_t, const int64_t *, size_t,
+                      const int64_t *, size_t, int64_t *, size_t, int64_t *, size_t, uint64_t *, size_t, uint32_t *, size_t);
 uint32_t plain_form(size_t, size_t, const int64_t *, int64_t *);
 uint32_t tuned_form(size_t, size_t, const int64_t *, int64_t *);
 }
@@ -41,8 +41,8 @@ Answer room_for(const Deck &deck) {
 
 void assign(Assign engine, const Deck &d, Answer &a) {
     a.number = engine(d.n, d.m, d.limit, d.coefficients.data(), d.n * d.m, d.rights.data(), d.m, d.lower.data(), d.n, d.upper.data(),
-                      d.n, d.goals.data(), d.n, d.given.data(), d.n, d.ideals.data(), d.n, a.tableau.data(), a.tableau.size(),
-                      a.values.data(), d.n, a.strides.data(), d.n, a.report.data(), 3);
+                      d.n, d.low.data(), d.n, d.high.data(), d.n, d.given.data(), d.n, d.ideals.data(), d.n, a.tableau.data(),
+                      a.tableau.size(), a.values.data(), d.n, a.strides.data(), d.n, a.report.data(), 3);
 }
 
 Deck rows_alone(const Deck &deck) {
@@ -51,7 +51,8 @@ Deck rows_alone(const Deck &deck) {
     rows.rights.assign(rows.rights.size(), 0);
     rows.lower.assign(rows.lower.size(), -FAR);
     rows.upper.assign(rows.upper.size(), FAR);
-    rows.goals.assign(rows.goals.size(), 0);
+    rows.low.assign(rows.low.size(), 0);
+    rows.high.assign(rows.high.size(), 0);
     rows.given.assign(rows.given.size(), 0);
     return rows;
 }

@@ -4,8 +4,8 @@
 #include "work.h"
 
 using Assign = uint32_t (*)(size_t, size_t, uint32_t, const int64_t *, size_t, const int64_t *, size_t, const int64_t *, size_t,
-                            const int64_t *, size_t, const int64_t *, size_t, const int64_t *, size_t, const int64_t *, size_t, int64_t *,
-                            size_t, int64_t *, size_t, uint64_t *, size_t, uint32_t *, size_t);
+                            const int64_t *, size_t, const int64_t *, size_t, const int64_t *, size_t, const int64_t *, size_t,
+                            const int64_t *, size_t, int64_t *, size_t, int64_t *, size_t, uint64_t *, size_t, uint32_t *, size_t);
 using Form = uint32_t (*)(size_t, size_t, const int64_t *, int64_t *);
 
 // The proved engine has no form of its own over C's boundary.

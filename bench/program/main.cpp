@@ -6,8 +6,8 @@
 //   timing forms DECK...           the same with the form alone
 //   timing stack DECK...           how much stack one whole assignment takes
 //
-// A DECK is a file of numbers: n, m, the limit, then coefficients, right sides, lower bounds, upper bounds, goals, and of the ideals
-// whether they are set and what they are. What is printed is lines of fields parted by tabs; run.py makes the table of them.
+// A DECK is a file of numbers: n, m, the limit, then coefficients, right sides, lower bounds, upper bounds, low goals, high goals, and of the
+// ideals whether they are set and what they are. What is printed is lines of fields parted by tabs; run.py makes the table of them.
 #include <cstdio>
 #include <cstdlib>
 #include <cstring>
@@ -42,7 +42,8 @@ static Deck read_deck(const std::string &path) {
     deck.rights = numbers(file, deck.m);
     deck.lower = numbers(file, deck.n);
     deck.upper = numbers(file, deck.n);
-    deck.goals = numbers(file, deck.n);
+    deck.low = numbers(file, deck.n);
+    deck.high = numbers(file, deck.n);
     deck.given = numbers(file, deck.n);
     deck.ideals = numbers(file, deck.n);
     // The engines in Rust make slices of these, whose pointers are never null.

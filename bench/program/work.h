@@ -11,7 +11,7 @@ struct Deck {
     std::string name;
     size_t n, m;
     uint32_t limit;
-    std::vector<int64_t> coefficients, rights, lower, upper, goals, given, ideals;
+    std::vector<int64_t> coefficients, rights, lower, upper, low, high, given, ideals;
 };
 
 // What a whole assignment leaves.

@@ -1,5 +1,5 @@
 /* What the header says, tried over the archive: the version, null pointers, every refusal and limit by its name, the preview beside
- * Continue, ideals, the sizes of a deck, swept volumes, calls in several threads at once, and calls on a small stack.
+ * Continue, pairs of goals, ideals, the sizes of a deck, swept volumes, calls in several threads at once, and calls on a small stack.
  *
  * Prints a line for each check that fails, and last 'N passed, M failed'.
  */
@@ -14,7 +14,7 @@
 #include "koralimbu.h"
 
 /* The names are numbers for the preprocessor too. */
-#if KORALIMBU_VERSION < 5000 || KORALIMBU_MOST_COEFFICIENTS != KORALIMBU_MOST_ROWS * KORALIMBU_MOST_COLUMNS \
+#if KORALIMBU_VERSION < 6000 || KORALIMBU_MOST_COEFFICIENTS != KORALIMBU_MOST_ROWS * KORALIMBU_MOST_COLUMNS \
     || KORALIMBU_MOST_TABLEAU != KORALIMBU_MOST_COLUMNS * (KORALIMBU_MOST_ROWS + KORALIMBU_MOST_COLUMNS) \
     || KORALIMBU_DECK_COEFFICIENTS != KORALIMBU_DECK_ROWS * KORALIMBU_DECK_COLUMNS
 #error "names of koralimbu.h that do not agree"
@@ -29,13 +29,15 @@
 #define ROUNDS 20
 /* What a buffer holds before a call. */
 #define MARK 77
+/* The lists of which the calls below lend any count: low, high, given and ideals. All have room for a number too many. */
+#define LISTS 4
 
 /* A problem, and the list that Continue and the preview start from. */
 struct posed {
     size_t n, m;
     uint32_t limit;
-    int64_t coefficients[ROWS * COLUMNS], rights[ROWS], lower[COLUMNS], upper[COLUMNS], goals[COLUMNS], start[COLUMNS];
-    int64_t given[COLUMNS], ideals[COLUMNS];
+    int64_t coefficients[ROWS * COLUMNS], rights[ROWS], lower[COLUMNS], upper[COLUMNS], start[COLUMNS];
+    int64_t low[COLUMNS], high[COLUMNS], given[COLUMNS], ideals[COLUMNS];
 };
 
 struct answer {
@@ -51,25 +53,27 @@ struct seen {
     uint64_t strides[COLUMNS];
 };
 
-/* A deck's text as it was read, with room for an ideal too many. */
+/* A deck's text as it was read, with room for a goal and an ideal too many. */
 struct deck {
     uint32_t number;
     size_t sizes[KORALIMBU_SIZES_COUNT];
     int64_t coefficients[KORALIMBU_DECK_COEFFICIENTS], rights[KORALIMBU_DECK_ROWS];
-    int64_t lower[KORALIMBU_DECK_COLUMNS], upper[KORALIMBU_DECK_COLUMNS], goals[KORALIMBU_DECK_COLUMNS];
+    int64_t lower[KORALIMBU_DECK_COLUMNS], upper[KORALIMBU_DECK_COLUMNS];
+    int64_t low[KORALIMBU_DECK_COLUMNS + 1], high[KORALIMBU_DECK_COLUMNS + 1];
     int64_t given[KORALIMBU_DECK_COLUMNS + 1], ideals[KORALIMBU_DECK_COLUMNS + 1];
 };
 
 typedef uint32_t engine(size_t n, size_t m, uint32_t limit, const int64_t *coefficients, size_t coefficients_count,
                         const int64_t *rights, size_t rights_count, const int64_t *lower, size_t lower_count,
-                        const int64_t *upper, size_t upper_count, const int64_t *goals, size_t goals_count,
+                        const int64_t *upper, size_t upper_count, const int64_t *low, size_t low_count,
+                        const int64_t *high, size_t high_count,
                         const int64_t *given, size_t given_count, const int64_t *ideals, size_t ideals_count,
                         int64_t *tableau, size_t tableau_count, int64_t *values, size_t values_count,
                         uint64_t *strides, size_t strides_count, uint32_t *report, size_t report_count);
 
-static const char paving[] = "3\n1 1000000 3000\n1 1000000 3000\n1 1000000 3000\n1\n3 2 3 1 1 2 1 3 1\n0\n";
+static const char paving[] = "3\n1 1000000 3000 3000\n1 1000000 3000 3000\n1 1000000 3000 3000\n1\n3 2 3 1 1 2 1 3 1\n0\n";
 /* A volume of three paths: curve 1; curves 2 and 3; curve 4. */
-static const char swept[] = "4\n1 99 9000\n1 99 4000\n1 99 4000\n1 99 0\n0\n1\n3\n1 1\n2 2 3\n1 4\n";
+static const char swept[] = "4\n1 99 9000 9000\n1 99 4000 4000\n1 99 4000 4000\n1 99 0 0\n0\n1\n3\n1 1\n2 2 3\n1 4\n";
 
 static int passed, failed;
 
@@ -113,8 +117,15 @@ static void fill(int64_t *list, size_t count, int64_t number)
         list[k] = number;
 }
 
-/* Lends so many numbers of given and of ideals, which have room for one too many. */
-static void settle_with(engine *call, const struct posed *p, struct answer *a, size_t given, size_t ideals)
+/* The low and the high goal of a column. */
+static void want(struct posed *p, size_t j, int64_t low, int64_t high)
+{
+    p->low[j] = low;
+    p->high[j] = high;
+}
+
+/* Lends so many numbers of low, high, given and ideals. */
+static void settle_with(engine *call, const struct posed *p, struct answer *a, const size_t counts[LISTS])
 {
     size_t n = p->n, m = p->m, k;
 
@@ -124,17 +135,19 @@ static void settle_with(engine *call, const struct posed *p, struct answer *a, s
     fill(a->tableau, sizeof a->tableau / sizeof *a->tableau, MARK);
     for (k = 0; k < COLUMNS; k++)
         a->strides[k] = MARK;
-    a->number = call(n, m, p->limit, p->coefficients, m * n, p->rights, m, p->lower, n, p->upper, n, p->goals, n,
-                     p->given, given, p->ideals, ideals,
+    a->number = call(n, m, p->limit, p->coefficients, m * n, p->rights, m, p->lower, n, p->upper, n, p->low, counts[0],
+                     p->high, counts[1], p->given, counts[2], p->ideals, counts[3],
                      a->tableau, n * (m + n), a->values, n, a->strides, n, a->report, KORALIMBU_REPORT_COUNT);
 }
 
 static void settle(engine *call, const struct posed *p, struct answer *a)
 {
-    settle_with(call, p, a, p->n, p->n);
+    size_t counts[LISTS] = {p->n, p->n, p->n, p->n};
+
+    settle_with(call, p, a, counts);
 }
 
-static void look_with(const struct posed *p, struct seen *s, size_t given, size_t ideals)
+static void look_with(const struct posed *p, struct seen *s, const size_t counts[LISTS])
 {
     size_t n = p->n, m = p->m, k;
 
@@ -145,17 +158,19 @@ static void look_with(const struct posed *p, struct seen *s, size_t given, size_
     fill(s->after, COLUMNS, MARK);
     for (k = 0; k < COLUMNS; k++)
         s->strides[k] = MARK;
-    s->number = koralimbu_preview(n, m, p->coefficients, m * n, p->rights, m, p->lower, n, p->upper, n, p->goals, n,
-                                  p->given, given, p->ideals, ideals, p->start, n,
+    s->number = koralimbu_preview(n, m, p->coefficients, m * n, p->rights, m, p->lower, n, p->upper, n, p->low, counts[0],
+                                  p->high, counts[1], p->given, counts[2], p->ideals, counts[3], p->start, n,
                                   s->tableau, n * (m + n), s->after, n, s->strides, n, s->report, KORALIMBU_PREVIEW_COUNT);
 }
 
 static void look(const struct posed *p, struct seen *s)
 {
-    look_with(p, s, p->n, p->n);
+    size_t counts[LISTS] = {p->n, p->n, p->n, p->n};
+
+    look_with(p, s, counts);
 }
 
-static void read_with(const uint8_t *text, size_t count, struct deck *d, size_t given, size_t ideals)
+static void read_with(const uint8_t *text, size_t count, struct deck *d, const size_t counts[LISTS])
 {
     memset(d, 0, sizeof *d);
     d->sizes[0] = d->sizes[1] = d->sizes[2] = MARK;
@@ -163,17 +178,20 @@ static void read_with(const uint8_t *text, size_t count, struct deck *d, size_t 
     fill(d->rights, KORALIMBU_DECK_ROWS, MARK);
     fill(d->lower, KORALIMBU_DECK_COLUMNS, MARK);
     fill(d->upper, KORALIMBU_DECK_COLUMNS, MARK);
-    fill(d->goals, KORALIMBU_DECK_COLUMNS, MARK);
+    fill(d->low, KORALIMBU_DECK_COLUMNS + 1, MARK);
+    fill(d->high, KORALIMBU_DECK_COLUMNS + 1, MARK);
     fill(d->given, KORALIMBU_DECK_COLUMNS + 1, MARK);
     fill(d->ideals, KORALIMBU_DECK_COLUMNS + 1, MARK);
     d->number = koralimbu_read(text, count, d->coefficients, KORALIMBU_DECK_COEFFICIENTS, d->rights, KORALIMBU_DECK_ROWS,
-                               d->lower, KORALIMBU_DECK_COLUMNS, d->upper, KORALIMBU_DECK_COLUMNS, d->goals, KORALIMBU_DECK_COLUMNS,
-                               d->given, given, d->ideals, ideals, d->sizes, KORALIMBU_SIZES_COUNT);
+                               d->lower, KORALIMBU_DECK_COLUMNS, d->upper, KORALIMBU_DECK_COLUMNS, d->low, counts[0],
+                               d->high, counts[1], d->given, counts[2], d->ideals, counts[3], d->sizes, KORALIMBU_SIZES_COUNT);
 }
 
 static void read_text(const uint8_t *text, size_t count, struct deck *d)
 {
-    read_with(text, count, d, KORALIMBU_DECK_COLUMNS, KORALIMBU_DECK_COLUMNS);
+    static const size_t counts[LISTS] = {KORALIMBU_DECK_COLUMNS, KORALIMBU_DECK_COLUMNS, KORALIMBU_DECK_COLUMNS, KORALIMBU_DECK_COLUMNS};
+
+    read_with(text, count, d, counts);
 }
 
 /* Whether count numbers of a list are all the same one. */
@@ -292,8 +310,9 @@ static int deck_kept(const struct deck *d)
 {
     return all_are(d->coefficients, KORALIMBU_DECK_COEFFICIENTS, MARK) && all_are(d->rights, KORALIMBU_DECK_ROWS, MARK)
            && all_are(d->lower, KORALIMBU_DECK_COLUMNS, MARK) && all_are(d->upper, KORALIMBU_DECK_COLUMNS, MARK)
-           && all_are(d->goals, KORALIMBU_DECK_COLUMNS, MARK) && all_are(d->given, KORALIMBU_DECK_COLUMNS + 1, MARK)
-           && all_are(d->ideals, KORALIMBU_DECK_COLUMNS + 1, MARK) && d->sizes[0] == 0 && d->sizes[1] == 0 && d->sizes[2] == 0;
+           && all_are(d->low, KORALIMBU_DECK_COLUMNS + 1, MARK) && all_are(d->high, KORALIMBU_DECK_COLUMNS + 1, MARK)
+           && all_are(d->given, KORALIMBU_DECK_COLUMNS + 1, MARK) && all_are(d->ideals, KORALIMBU_DECK_COLUMNS + 1, MARK)
+           && d->sizes[0] == 0 && d->sizes[1] == 0 && d->sizes[2] == 0;
 }
 
 static void reads(const char *what, const char *text, uint32_t wanted)
@@ -307,7 +326,7 @@ static void reads(const char *what, const char *text, uint32_t wanted)
 
 /* ---------------------------------------------------------------- null pointers */
 
-enum { LOWER, UPPER, GOALS, GIVEN, IDEALS, TABLEAU, VALUES, STRIDES, REPORT, STANDING, TAKEN, COEFFICIENTS, RIGHTS, SIZES };
+enum { LOWER, UPPER, LOW, HIGH, GIVEN, IDEALS, TABLEAU, VALUES, STRIDES, REPORT, STANDING, TAKEN, COEFFICIENTS, RIGHTS, SIZES };
 
 /* Null with a count of 0 at one place, and what is lent otherwise. */
 #define LENT(place, pointer, count) none == (place) ? NULL : (pointer), none == (place) ? 0 : (size_t)(count)
@@ -315,23 +334,23 @@ enum { LOWER, UPPER, GOALS, GIVEN, IDEALS, TABLEAU, VALUES, STRIDES, REPORT, STA
 /* One column without rows, so that the first two buffers have no numbers. */
 static uint32_t without(engine *call, int none)
 {
-    int64_t lower = 3, upper = 5, goals = 0, given = 1, ideals = 4, tableau = 0, values = 4;
+    int64_t lower = 3, upper = 5, low = 0, high = 0, given = 1, ideals = 4, tableau = 0, values = 4;
     uint64_t strides = 0;
     uint32_t report[KORALIMBU_REPORT_COUNT];
 
-    return call(1, 0, LIMIT, NULL, 0, NULL, 0, LENT(LOWER, &lower, 1), LENT(UPPER, &upper, 1), LENT(GOALS, &goals, 1),
+    return call(1, 0, LIMIT, NULL, 0, NULL, 0, LENT(LOWER, &lower, 1), LENT(UPPER, &upper, 1), LENT(LOW, &low, 1), LENT(HIGH, &high, 1),
                 LENT(GIVEN, &given, 1), LENT(IDEALS, &ideals, 1), LENT(TABLEAU, &tableau, 1), LENT(VALUES, &values, 1), LENT(STRIDES, &strides, 1),
                 LENT(REPORT, report, KORALIMBU_REPORT_COUNT));
 }
 
 static uint32_t preview_without(int none)
 {
-    int64_t lower = 3, upper = 5, goals = 0, given = 1, ideals = 4, standing = 4, tableau = 0, after = 0;
+    int64_t lower = 3, upper = 5, low = 0, high = 0, given = 1, ideals = 4, standing = 4, tableau = 0, after = 0;
     uint64_t strides = 0;
     uint32_t report[KORALIMBU_PREVIEW_COUNT];
 
-    return koralimbu_preview(1, 0, NULL, 0, NULL, 0, LENT(LOWER, &lower, 1), LENT(UPPER, &upper, 1), LENT(GOALS, &goals, 1),
-                             LENT(GIVEN, &given, 1), LENT(IDEALS, &ideals, 1), LENT(STANDING, &standing, 1),
+    return koralimbu_preview(1, 0, NULL, 0, NULL, 0, LENT(LOWER, &lower, 1), LENT(UPPER, &upper, 1), LENT(LOW, &low, 1),
+                             LENT(HIGH, &high, 1), LENT(GIVEN, &given, 1), LENT(IDEALS, &ideals, 1), LENT(STANDING, &standing, 1),
                              LENT(TABLEAU, &tableau, 1), LENT(VALUES, &after, 1), LENT(STRIDES, &strides, 1),
                              LENT(REPORT, report, KORALIMBU_PREVIEW_COUNT));
 }
@@ -342,7 +361,8 @@ static uint32_t read_without(int none)
 
     return koralimbu_read((const uint8_t *)paving, sizeof paving - 1, LENT(COEFFICIENTS, d.coefficients, KORALIMBU_DECK_COEFFICIENTS),
                           LENT(RIGHTS, d.rights, KORALIMBU_DECK_ROWS), LENT(LOWER, d.lower, KORALIMBU_DECK_COLUMNS),
-                          LENT(UPPER, d.upper, KORALIMBU_DECK_COLUMNS), LENT(GOALS, d.goals, KORALIMBU_DECK_COLUMNS),
+                          LENT(UPPER, d.upper, KORALIMBU_DECK_COLUMNS), LENT(LOW, d.low, KORALIMBU_DECK_COLUMNS),
+                          LENT(HIGH, d.high, KORALIMBU_DECK_COLUMNS),
                           LENT(GIVEN, d.given, KORALIMBU_DECK_COLUMNS), LENT(IDEALS, d.ideals, KORALIMBU_DECK_COLUMNS),
                           LENT(SIZES, d.sizes, KORALIMBU_SIZES_COUNT));
 }
@@ -353,15 +373,15 @@ static void all_null(engine *call)
     uint32_t report[KORALIMBU_REPORT_COUNT];
 
     expect("no column and every buffer null",
-           call(0, 0, 0, NULL, 0, NULL, 0, NULL, 0, NULL, 0, NULL, 0, NULL, 0, NULL, 0, NULL, 0, NULL, 0, NULL, 0,
+           call(0, 0, 0, NULL, 0, NULL, 0, NULL, 0, NULL, 0, NULL, 0, NULL, 0, NULL, 0, NULL, 0, NULL, 0, NULL, 0, NULL, 0,
                 report, KORALIMBU_REPORT_COUNT),
            KORALIMBU_REFUSED_SIZE);
     expect("a column and every buffer null",
-           call(1, 0, 0, NULL, 0, NULL, 0, NULL, 0, NULL, 0, NULL, 0, NULL, 0, NULL, 0, NULL, 0, NULL, 0, NULL, 0,
+           call(1, 0, 0, NULL, 0, NULL, 0, NULL, 0, NULL, 0, NULL, 0, NULL, 0, NULL, 0, NULL, 0, NULL, 0, NULL, 0, NULL, 0,
                 report, KORALIMBU_REPORT_COUNT),
            KORALIMBU_REFUSED_LENGTH);
     expect("every buffer null, the report too",
-           call(1, 0, 0, NULL, 0, NULL, 0, NULL, 0, NULL, 0, NULL, 0, NULL, 0, NULL, 0, NULL, 0, NULL, 0, NULL, 0, NULL, 0),
+           call(1, 0, 0, NULL, 0, NULL, 0, NULL, 0, NULL, 0, NULL, 0, NULL, 0, NULL, 0, NULL, 0, NULL, 0, NULL, 0, NULL, 0, NULL, 0),
            KORALIMBU_REFUSED_LENGTH);
 }
 
@@ -371,19 +391,19 @@ static void preview_all_null(void)
 
     expect("a preview of no column and every buffer null",
            koralimbu_preview(0, 0, NULL, 0, NULL, 0, NULL, 0, NULL, 0, NULL, 0, NULL, 0, NULL, 0, NULL, 0, NULL, 0,
-                             NULL, 0, NULL, 0, report, KORALIMBU_PREVIEW_COUNT), KORALIMBU_REFUSED_SIZE);
+                             NULL, 0, NULL, 0, NULL, 0, report, KORALIMBU_PREVIEW_COUNT), KORALIMBU_REFUSED_SIZE);
     expect("a preview of a column and every buffer null",
            koralimbu_preview(1, 0, NULL, 0, NULL, 0, NULL, 0, NULL, 0, NULL, 0, NULL, 0, NULL, 0, NULL, 0, NULL, 0,
-                             NULL, 0, NULL, 0, report, KORALIMBU_PREVIEW_COUNT), KORALIMBU_REFUSED_LENGTH);
+                             NULL, 0, NULL, 0, NULL, 0, report, KORALIMBU_PREVIEW_COUNT), KORALIMBU_REFUSED_LENGTH);
     expect("a preview with every buffer null, the report too",
            koralimbu_preview(0, 0, NULL, 0, NULL, 0, NULL, 0, NULL, 0, NULL, 0, NULL, 0, NULL, 0, NULL, 0, NULL, 0,
-                             NULL, 0, NULL, 0, NULL, 0),
+                             NULL, 0, NULL, 0, NULL, 0, NULL, 0),
            KORALIMBU_REFUSED_LENGTH);
 }
 
 static void try_null_pointers(void)
 {
-    static const int lent[] = {COEFFICIENTS, RIGHTS, LOWER, UPPER, GOALS, GIVEN, IDEALS, SIZES};
+    static const int lent[] = {COEFFICIENTS, RIGHTS, LOWER, UPPER, LOW, HIGH, GIVEN, IDEALS, SIZES};
     static struct deck d;
     engine *calls[] = {koralimbu_assign, koralimbu_continue};
     size_t k;
@@ -404,7 +424,8 @@ static void try_null_pointers(void)
         expect("a null buffer of a deck", read_without(lent[k]), KORALIMBU_REFUSED_LENGTH);
     read_text(NULL, 0, &d);
     expect("a null text", d.number, KORALIMBU_REFUSED_LAYOUT);
-    expect("a deck's buffers all null", koralimbu_read(NULL, 0, NULL, 0, NULL, 0, NULL, 0, NULL, 0, NULL, 0, NULL, 0, NULL, 0, NULL, 0),
+    expect("a deck's buffers all null",
+           koralimbu_read(NULL, 0, NULL, 0, NULL, 0, NULL, 0, NULL, 0, NULL, 0, NULL, 0, NULL, 0, NULL, 0, NULL, 0),
            KORALIMBU_REFUSED_LENGTH);
 }
 
@@ -460,14 +481,6 @@ static void try_ranges(void)
     try_range("an upper bound", &p, p.upper, KORALIMBU_RANGE_BOUND, KORALIMBU_REFUSED_BOUND);
     p.upper[0] = KORALIMBU_RANGE_BOUND;
     try_range("a lower bound", &p, p.lower, KORALIMBU_RANGE_BOUND, KORALIMBU_REFUSED_BOUND);
-    pose(&p, 1, 0);
-    p.lower[0] = 1;
-    p.goals[0] = KORALIMBU_RANGE_GOAL;
-    both("a goal", &p, KORALIMBU_ACCEPTED);
-    p.goals[0]++;
-    both("a goal beyond", &p, KORALIMBU_REFUSED_GOAL);
-    p.goals[0] = -1;
-    both("a goal below 0", &p, KORALIMBU_REFUSED_GOAL);
 }
 
 /* 1000 v(k) = v(k + 1). */
@@ -497,7 +510,7 @@ static void try_m(void)
         p.lower[j] = 1;
         p.upper[j] = KORALIMBU_RANGE_BOUND;
     }
-    p.goals[0] = KORALIMBU_RANGE_GOAL;
+    want(&p, 0, KORALIMBU_RANGE_GOAL, KORALIMBU_RANGE_GOAL);
     assigned("seating beyond M", &p, KORALIMBU_REFUSED_SEATING, 0);
     pose(&p, 1, 0);
     p.limit = 0;
@@ -541,7 +554,7 @@ static void try_report(void)
 
     for (count = KORALIMBU_REPORT_COUNT - 1; count <= KORALIMBU_REPORT_COUNT + 1; count += 2) {
         expect("a report of another count", koralimbu_assign(1, 0, LIMIT, NULL, 0, NULL, 0, &lower, 1, &upper, 1, &goals, 1,
-               &given, 1, &ideals, 1, &tableau, 1, &values, 1, &strides, 1, report, count), KORALIMBU_REFUSED_LENGTH);
+               &goals, 1, &given, 1, &ideals, 1, &tableau, 1, &values, 1, &strides, 1, report, count), KORALIMBU_REFUSED_LENGTH);
         check("what such a report is left as", report[0] == MARK && report[1] == MARK && report[2] == MARK);
     }
 }
@@ -577,7 +590,7 @@ static void try_a_run(void)
     p.coefficients[1] = -1;
     for (j = 0; j < 2; j++) {
         p.lower[j] = 1 + 2 * (int64_t)j;
-        p.goals[j] = 4000;
+        want(&p, j, 4000, 4000);
         p.start[j] = 1;
     }
     steps("a step towards the bounds", &p, KORALIMBU_PART_BOUNDS, 2, 1, KORALIMBU_SIGN_PLUS, 0, 0);
@@ -629,7 +642,7 @@ static void try_preview_counts(void)
         for (j = 0; j <= KORALIMBU_PREVIEW_COUNT; j++)
             report[j] = MARK;
         expect("a preview's other count", koralimbu_preview(1, 0, NULL, 0, NULL, 0, &lower, 1, &upper, 1, &goals, 1,
-               &given, 1, &ideals, 1, standing, counts[k][0], &tableau, 1, after, counts[k][1], &strides, 1, report, counts[k][2]),
+               &goals, 1, &given, 1, &ideals, 1, standing, counts[k][0], &tableau, 1, after, counts[k][1], &strides, 1, report, counts[k][2]),
                KORALIMBU_REFUSED_LENGTH);
         check("the lists at such a count", tableau == MARK && all_are(after, 2, MARK) && strides == MARK && all_are(standing, 2, 1));
         for (j = 0; j < KORALIMBU_PREVIEW_COUNT && report[j] == left; j++)
@@ -638,10 +651,8 @@ static void try_preview_counts(void)
     }
     /* The report comes first: there is no column either. */
     expect("a report of another count and no column", koralimbu_preview(0, 0, NULL, 0, NULL, 0, NULL, 0, NULL, 0, NULL, 0, NULL, 0, NULL, 0,
-           NULL, 0, NULL, 0, NULL, 0, NULL, 0, report, 1), KORALIMBU_REFUSED_LENGTH);
+           NULL, 0, NULL, 0, NULL, 0, NULL, 0, NULL, 0, report, 1), KORALIMBU_REFUSED_LENGTH);
 }
-
-/* ---------------------------------------------------------------- ideals */
 
 /* A whole assignment seats the columns at these values, where no step improves them. It only reads the problem. */
 static void seats(const char *what, const struct posed *p, const int64_t *values)
@@ -658,6 +669,85 @@ static void seats(const char *what, const struct posed *p, const int64_t *values
     check(what, memcmp(&copy, p, sizeof copy) == 0);
 }
 
+/* ---------------------------------------------------------------- goals */
+
+/* A column in wide bounds is seated at the ideal of its goals: by the root of their product, and at k(k + 1) from k to k + 1. */
+static void try_goal_ideals(void)
+{
+    static const int64_t pairs[][3] = {{4000, 9000, 6}, {9000, 24000, 15}, {1000, 2000, 1}, {1000, 2001, 2}, {2000, 3000, 2}, {2000, 3001, 3},
+                                       {1, 1, 1}, {1, 999999, 1}, {1, KORALIMBU_RANGE_GOAL, 32}, {400, 400, 1}, {1414, 1414, 1}, {1415, 1415, 2},
+                                       {KORALIMBU_RANGE_GOAL, KORALIMBU_RANGE_GOAL, KORALIMBU_RANGE_BOUND}};
+    static struct posed p;
+    size_t k;
+
+    pose(&p, 1, 0);
+    p.lower[0] = 1;
+    p.upper[0] = KORALIMBU_RANGE_BOUND;
+    for (k = 0; k < sizeof pairs / sizeof *pairs; k++) {
+        want(&p, 0, pairs[k][0], pairs[k][1]);
+        seats("the ideal of two goals", &p, &pairs[k][2]);
+    }
+}
+
+/* A column that wants 4 to 9 comes to 6, by a step for each interval; tied to another one it comes between what both want. */
+static void try_goal_ratios(void)
+{
+    static const int64_t lone[][2] = {{4, 2}, {9, 3}, {6, 0}, {1, 5}}, tied[][3] = {{8000, 6, 0}, {12000, 7, 1}, {3000, 5, 1}, {30000, 11, 5}};
+    static struct posed p;
+    static struct answer a;
+    size_t k;
+
+    pose(&p, 1, 0);
+    p.lower[0] = 1;
+    want(&p, 0, 4000, 9000);
+    for (k = 0; k < 4; k++) {
+        p.start[0] = lone[k][0];
+        settle(koralimbu_continue, &p, &a);
+        check("a column between its goals", a.values[0] == 6 && a.report[0] == KORALIMBU_FITTED && a.report[2] == (uint32_t)lone[k][1]);
+        previewed("a column between its goals", &p, KORALIMBU_ACCEPTED);
+    }
+    pose(&p, 2, 1);
+    p.coefficients[0] = 1;
+    p.coefficients[1] = -1;
+    fill(p.lower, 2, 1);
+    fill(p.upper, 2, 99);
+    want(&p, 0, 4000, 9000);
+    for (k = 0; k < 4; k++) {
+        want(&p, 1, tied[k][0], tied[k][0]);
+        settle(koralimbu_assign, &p, &a);
+        check("two columns between their goals", all_are(a.values, 2, tied[k][1]) && a.report[2] == (uint32_t)tied[k][2]);
+    }
+}
+
+/* Pairs of goals at a lower bound, and whether they are taken. */
+static void try_goal_pairs(void)
+{
+    enum { MOST = KORALIMBU_RANGE_GOAL };
+    static const int64_t taken[][3] = {{1, 0, 0}, {0, 0, 0}, {-3, 0, 0}, {1, 1, 1}, {1, 1, MOST}, {1, MOST, MOST}, {10, 4000, 9000}};
+    static const int64_t refused[][3] = {{1, -1, -1}, {1, -1, 0}, {1, 0, -1}, {1, 1, -1}, {1, 1, MOST + 1}, {1, MOST + 1, MOST + 1},
+                                         {1, INT64_MIN, INT64_MAX}, {1, 0, 1}, {1, 1, 0}, {1, 0, MOST}, {1, MOST, 0}, {0, 0, 1},
+                                         {1, 2, 1}, {1, MOST, MOST - 1}, {1, INT64_MAX, 1}, {0, 1, 1}, {0, 1, 2}, {-3, 4000, 9000}};
+    static struct posed p;
+    size_t k, j;
+
+    pose(&p, 2, 0);
+    for (j = 0; j < 2; j++) {
+        for (k = 0; k < sizeof taken / sizeof *taken; k++) {
+            p.lower[j] = taken[k][0];
+            want(&p, j, taken[k][1], taken[k][2]);
+            both("a pair of goals", &p, KORALIMBU_ACCEPTED);
+        }
+        for (k = 0; k < sizeof refused / sizeof *refused; k++) {
+            p.lower[j] = refused[k][0];
+            want(&p, j, refused[k][1], refused[k][2]);
+            both("a pair of goals that breaks the rule", &p, KORALIMBU_REFUSED_GOAL);
+        }
+        want(&p, j, 0, 0);
+    }
+}
+
+/* ---------------------------------------------------------------- ideals */
+
 /* Three columns with bounds 3 and 7: one without an ideal, whatever its number, one with this mark and number, and one whose goal is 5. */
 static void try_ideal(int64_t given, int64_t ideal, int64_t wanted)
 {
@@ -667,7 +757,7 @@ static void try_ideal(int64_t given, int64_t ideal, int64_t wanted)
     pose(&p, 3, 0);
     fill(p.lower, 3, 3);
     fill(p.upper, 3, 7);
-    p.goals[2] = 5000;
+    want(&p, 2, 5000, 5000);
     p.given[1] = p.given[2] = given;
     fill(p.ideals, 3, ideal);
     seats("an ideal", &p, values);
@@ -697,7 +787,7 @@ static void try_no_ideal(void)
     p.coefficients[0] = p.coefficients[1] = 1;
     p.coefficients[2] = -2;
     p.lower[0] = 1;
-    p.goals[0] = 5000;
+    want(&p, 0, 5000, 5000);
     seats("no ideal", &p, stays);
     p.ideals[1] = INT64_MIN;
     seats("no ideal, whatever its number", &p, stays);
@@ -733,7 +823,7 @@ static void try_unused_ideals(void)
     p.coefficients[0] = 1;
     p.coefficients[1] = -1;
     p.lower[0] = 1;
-    p.goals[0] = 8000;
+    want(&p, 0, 8000, 8000);
     p.lower[1] = 5;
     p.start[0] = p.start[1] = 2;
     settle(koralimbu_continue, &p, &plain);
@@ -750,8 +840,8 @@ static void try_unused_ideals(void)
     }
 }
 
-/* All three calls refuse so many numbers of given and of ideals, and leave what they were lent. */
-static void counted(const char *what, const struct posed *p, size_t given, size_t ideals, uint32_t wanted)
+/* All three calls refuse so many numbers of low, high, given and ideals, and leave what they were lent. */
+static void counted(const char *what, const struct posed *p, const size_t counts[LISTS], uint32_t wanted)
 {
     static struct posed copy;
     static struct answer a;
@@ -761,33 +851,35 @@ static void counted(const char *what, const struct posed *p, size_t given, size_
 
     memcpy(&copy, p, sizeof copy);
     for (k = 0; k < 2; k++) {
-        settle_with(calls[k], p, &a, given, ideals);
+        settle_with(calls[k], p, &a, counts);
         expect(what, a.number, wanted);
         check(what, kept(p, &a));
     }
-    look_with(p, &s, given, ideals);
+    look_with(p, &s, counts);
     expect(what, s.number, wanted);
     check(what, left_alone(p, &s));
     check(what, memcmp(&copy, p, sizeof copy) == 0);
 }
 
-/* None, one less, one more and the most, of one list, of the other and of both, where n are needed. */
+/* Of each list none, one less, one more and the most, where n are needed: alone, and beside a wrong count of another, as one less beside one more. */
 static void miscounted(const char *what, const struct posed *p, uint32_t wanted)
 {
-    size_t counts[] = {0, p->n == 0 ? 1 : p->n - 1, p->n < COLUMNS ? p->n + 1 : 1, COLUMNS}, k, j;
+    size_t wrong[] = {0, p->n == 0 ? 1 : p->n - 1, p->n < COLUMNS ? p->n + 1 : 1, COLUMNS}, one, other, k;
 
-    for (k = 0; k < 4; k++) {
-        if (counts[k] == p->n)
-            continue;
-        counted(what, p, counts[k], p->n, wanted);
-        counted(what, p, p->n, counts[k], wanted);
-        for (j = 0; j < 4; j++)
-            counted(what, p, counts[k], counts[j], wanted);
-    }
+    for (one = 0; one < LISTS; one++)
+        for (other = 0; other < LISTS; other++)
+            for (k = 0; k < 4; k++) {
+                size_t counts[LISTS] = {p->n, p->n, p->n, p->n};
+
+                counts[other] = wrong[(k + 1) % 4];
+                counts[one] = wrong[k];
+                if (wrong[k] != p->n)
+                    counted(what, p, counts, wanted);
+            }
 }
 
-/* A wrong count of ideals beside what else can be wrong: sizes are told before it, everything else after it. */
-static void try_ideal_counts(void)
+/* A wrong count of goals or ideals beside what else can be wrong: sizes are told before it, everything else after it. */
+static void try_list_counts(void)
 {
     static struct posed p;
 
@@ -796,13 +888,13 @@ static void try_ideal_counts(void)
     p.coefficients[1] = -1;
     fill(p.given, COLUMNS, INT64_MIN);
     fill(p.ideals, COLUMNS, INT64_MAX);
-    both("counts of ideals", &p, KORALIMBU_ACCEPTED);
-    miscounted("a wrong count of ideals", &p, KORALIMBU_REFUSED_LENGTH);
+    both("counts of goals and ideals", &p, KORALIMBU_ACCEPTED);
+    miscounted("a wrong count of goals or ideals", &p, KORALIMBU_REFUSED_LENGTH);
     p.start[1] = 1;
     miscounted("a wrong count before a list that fails a row", &p, KORALIMBU_REFUSED_LENGTH);
     p.limit = KORALIMBU_MOST_STEPS + 1;
     miscounted("a wrong count before a limit", &p, KORALIMBU_REFUSED_LENGTH);
-    p.goals[1] = -1;
+    want(&p, 1, -1, -1);
     miscounted("a wrong count before a goal", &p, KORALIMBU_REFUSED_LENGTH);
     p.lower[0] = 11;
     miscounted("a wrong count before a bound", &p, KORALIMBU_REFUSED_LENGTH);
@@ -819,6 +911,60 @@ static void try_ideal_counts(void)
     miscounted("a wrong count before an elimination beyond M", &p, KORALIMBU_REFUSED_LENGTH);
     pose(&p, KORALIMBU_MOST_COLUMNS, 0);
     miscounted("a wrong count of the most columns", &p, KORALIMBU_REFUSED_LENGTH);
+}
+
+/* ---------------------------------------------------------------- the reader's goals */
+
+/* The number that is refused stands behind these words. What follows it is not looked at, and what stands in its place is. */
+static void refuses_at(const char *what, const char *before, const char *number, uint32_t wanted)
+{
+    static char text[TEXT + 1];
+
+    sprintf(text, "%s %s", before, number);
+    reads(what, text, wanted);
+    sprintf(text, "%s\n%s x", before, number);
+    reads(what, text, wanted);
+    sprintf(text, "%s x %s", before, number);
+    reads(what, text, KORALIMBU_REFUSED_LAYOUT);
+    reads(what, before, KORALIMBU_REFUSED_LAYOUT);
+}
+
+static void try_deck_goal_places(void)
+{
+    static const char *const outside[] = {"-1", "1000000001", "9999999999", "-9999999999"};
+    static const char *const set[] = {"1", "4000", "1000000000"}, *const less[] = {"0", "1", "3999"};
+    size_t k;
+
+    for (k = 0; k < 4; k++) {
+        refuses_at("a low goal outside", "1 1 9", outside[k], KORALIMBU_REFUSED_GOAL);
+        refuses_at("a later low goal outside", "2 1 9 4000 9000 0 9", outside[k], KORALIMBU_REFUSED_GOAL);
+        refuses_at("a high goal outside", "1 1 9 4000", outside[k], KORALIMBU_REFUSED_GOAL);
+        refuses_at("a high goal outside, alone", "1 1 9 0", outside[k], KORALIMBU_REFUSED_GOAL);
+    }
+    for (k = 0; k < 3; k++) {
+        refuses_at("a low goal with the lower bound 0", "1 0 9", set[k], KORALIMBU_REFUSED_GOAL);
+        refuses_at("a low goal with a lower bound below 0", "1 -3 9", set[k], KORALIMBU_REFUSED_GOAL);
+        refuses_at("a high goal alone", "1 1 9 0", set[k], KORALIMBU_REFUSED_GOAL);
+        refuses_at("a high goal alone, with the lower bound 0", "1 0 9 0", set[k], KORALIMBU_REFUSED_GOAL);
+        refuses_at("a high goal below the low one", "1 1 9 4000", less[k], KORALIMBU_REFUSED_GOAL);
+        refuses_at("a later high goal below the low one", "2 1 9 0 0 1 9 4000", less[k], KORALIMBU_REFUSED_GOAL);
+    }
+    reads("an older line with a goal", "2 1 9 3000 1 9 3000 0 0", KORALIMBU_REFUSED_GOAL);
+    reads("an older line without one", "1 1 9 0 0 0", KORALIMBU_REFUSED_LAYOUT);
+}
+
+/* The goals of a deck of four curves and a column that a row added. */
+static void try_deck_goals(void)
+{
+    static const char text[] = "4 1 9 4000 9000 0 9 0 0 1 9 1 1000000000 2 9 7000 7000 1 1 0 1 1 1 0";
+    static const int64_t low[] = {4000, 0, 1, 7000}, high[] = {9000, 0, 1000000000, 7000};
+    static struct deck d;
+
+    read_text((const uint8_t *)text, sizeof text - 1, &d);
+    expect("a deck with two goals", d.number, KORALIMBU_ACCEPTED);
+    check("its low goals", memcmp(d.low, low, sizeof low) == 0 && all_are(d.low + 4, KORALIMBU_DECK_COLUMNS - 4, 0));
+    check("its high goals", memcmp(d.high, high, sizeof high) == 0 && all_are(d.high + 4, KORALIMBU_DECK_COLUMNS - 4, 0));
+    check("what lies behind them", d.low[KORALIMBU_DECK_COLUMNS] == MARK && d.high[KORALIMBU_DECK_COLUMNS] == MARK);
 }
 
 /* ---------------------------------------------------------------- the reader's ideals */
@@ -843,14 +989,18 @@ static void try_deck_ideals(void)
 {
     static const int64_t beside[] = {6, 0, 0, 0}, added[] = {6, 0, 0, 0, 0, 0}, none[6];
 
-    reads_ideals("the mean of 4 and 9, each counted once", "4 1 99 0 1 99 4000 1 99 9000 1 99 80000 2 0 0 2 1 1 2 -1 0 0 3 1 1 2 1 3 -1 0",
-                 4, beside);
-    reads_ideals("no ideal of an added column", "4 1 99 0 1 99 4000 1 99 9000 1 99 80000 2 1 0 2 1 5 2 -1 3 0 3 1 1 2 1 3 -1 0", 6, added);
-    reads_ideals("the bounds of neighbours", "4 -3 -2 0 1 3 4000 9 9 1000 1 99 80000 1 0 0 3 1 1 2 1 3 -1 0", 4, beside);
-    reads_ideals("no row", "2 1 99 0 1 99 4000 0 0", 2, none);
-    reads_ideals("a row alone", "2 1 99 0 1 99 4000 1 3 0 1 1 1 0", 3, none);
-    reads_ideals("no plain curve", "2 1 99 3000 1 99 4000 1 3 0 2 1 1 2 1 0", 3, none);
-    reads_ideals("none but plain curves", "2 1 99 0 1 99 0 1 3 0 2 1 1 2 1 0", 3, none);
+    reads_ideals("the mean of 4 and 9, each counted once",
+                 "4 1 99 0 0 1 99 4000 4000 1 99 9000 9000 1 99 80000 80000 2 0 0 2 1 1 2 -1 0 0 3 1 1 2 1 3 -1 0", 4, beside);
+    reads_ideals("no ideal of an added column",
+                 "4 1 99 0 0 1 99 4000 4000 1 99 9000 9000 1 99 80000 80000 2 1 0 2 1 5 2 -1 3 0 3 1 1 2 1 3 -1 0", 6, added);
+    reads_ideals("the bounds of neighbours",
+                 "4 -3 -2 0 0 1 3 4000 4000 9 9 1000 1000 1 99 80000 80000 1 0 0 3 1 1 2 1 3 -1 0", 4, beside);
+    reads_ideals("the ideal of two goals, and the mean of 4 and 8",
+                 "4 1 99 0 0 1 99 4000 4000 1 99 4000 16000 1 99 80000 80000 1 0 0 3 1 1 2 1 3 -1 0", 4, beside);
+    reads_ideals("no row", "2 1 99 0 0 1 99 4000 4000 0 0", 2, none);
+    reads_ideals("a row alone", "2 1 99 0 0 1 99 4000 4000 1 3 0 1 1 1 0", 3, none);
+    reads_ideals("no plain curve", "2 1 99 3000 3000 1 99 4000 4000 1 3 0 2 1 1 2 1 0", 3, none);
+    reads_ideals("none but plain curves", "2 1 99 0 0 1 99 0 0 1 3 0 2 1 1 2 1 0", 3, none);
 }
 
 /* A plain curve beside all others of the largest deck, each of which wants the most. */
@@ -860,9 +1010,9 @@ static void try_most_neighbours(void)
     static int64_t most[KORALIMBU_DECK_COLUMNS] = {KORALIMBU_RANGE_BOUND};
     size_t k, end;
 
-    end = (size_t)sprintf(text, "%d -5 5 0 ", KORALIMBU_DECK_COLUMNS);
+    end = (size_t)sprintf(text, "%d -5 5 0 0 ", KORALIMBU_DECK_COLUMNS);
     for (k = 1; k < KORALIMBU_DECK_COLUMNS; k++)
-        end += (size_t)sprintf(text + end, "1 %d %d ", KORALIMBU_RANGE_BOUND, KORALIMBU_RANGE_GOAL);
+        end += (size_t)sprintf(text + end, "1 %d %d %d ", KORALIMBU_RANGE_BOUND, KORALIMBU_RANGE_GOAL, KORALIMBU_RANGE_GOAL);
     end += (size_t)sprintf(text + end, "1 0 0 %d", KORALIMBU_DECK_COLUMNS);
     for (k = 1; k <= KORALIMBU_DECK_COLUMNS; k++)
         end += (size_t)sprintf(text + end, " %zu -1000", k);
@@ -870,20 +1020,33 @@ static void try_most_neighbours(void)
     reads_ideals("the most neighbours with the largest goals", text, KORALIMBU_DECK_COLUMNS, most);
 }
 
-/* Counts of the reader's two lists that do not fit are told before the text is looked at. */
-static void try_deck_ideal_counts(void)
+/* The reader refuses so many numbers of low, high, given and ideals before it looks at a text. */
+static void read_counted(const size_t counts[LISTS])
 {
-    static const size_t counts[] = {KORALIMBU_DECK_COLUMNS, 0, 1, KORALIMBU_DECK_COLUMNS - 1, KORALIMBU_DECK_COLUMNS + 1};
-    static const char *const texts[] = {paving, swept, "", "no deck", "0 0 0", "1 5 3 0 0 0"};
+    static const char *const texts[] = {paving, swept, "", "no deck", "0 0 0", "1 5 3 0 0 0 0", "1 1 9 2 1 0 0"};
     static struct deck d;
-    size_t k, j, t;
+    size_t t;
 
-    for (k = 0; k < 5; k++)
-        for (j = k == 0; j < 5; j++)
-            for (t = 0; t < sizeof texts / sizeof *texts; t++) {
-                read_with((const uint8_t *)texts[t], strlen(texts[t]), &d, counts[k], counts[j]);
-                expect("a wrong count of the reader's ideals", d.number, KORALIMBU_REFUSED_LENGTH);
-                check("what such a count leaves", deck_kept(&d));
+    for (t = 0; t < sizeof texts / sizeof *texts; t++) {
+        read_with((const uint8_t *)texts[t], strlen(texts[t]), &d, counts);
+        expect("a wrong count of the reader's goals or ideals", d.number, KORALIMBU_REFUSED_LENGTH);
+        check("what such a count leaves", deck_kept(&d));
+    }
+}
+
+static void try_deck_list_counts(void)
+{
+    static const size_t wrong[] = {0, 1, KORALIMBU_DECK_COLUMNS - 1, KORALIMBU_DECK_COLUMNS + 1};
+    size_t one, other, k;
+
+    for (one = 0; one < LISTS; one++)
+        for (other = 0; other < LISTS; other++)
+            for (k = 0; k < 4; k++) {
+                size_t counts[LISTS] = {KORALIMBU_DECK_COLUMNS, KORALIMBU_DECK_COLUMNS, KORALIMBU_DECK_COLUMNS, KORALIMBU_DECK_COLUMNS};
+
+                counts[other] = wrong[(k + 1) % 4];
+                counts[one] = wrong[k];
+                read_counted(counts);
             }
 }
 
@@ -898,7 +1061,7 @@ static void read_made(const char *what, size_t curves, size_t rows, int kind, si
 
     end = (size_t)sprintf(text, "%zu\n", curves);
     for (k = 0; k < curves; k++)
-        end += (size_t)sprintf(text + end, "0 5 0\n");
+        end += (size_t)sprintf(text + end, "0 5 0 0\n");
     end += (size_t)sprintf(text + end, "%zu\n", rows);
     for (k = 0; k < rows; k++)
         end += (size_t)sprintf(text + end, "%d 0 0\n", kind);
@@ -920,11 +1083,11 @@ static void try_deck_limits(void)
     read_made("a row too many", 1, KORALIMBU_DECK_ROWS + 1, 0, 0, KORALIMBU_REFUSED_SIZE);
     read_made("the most columns added", 1, KORALIMBU_DECK_COLUMNS - 1, 3, 0, KORALIMBU_ACCEPTED);
     read_made("a column added too many", 1, KORALIMBU_DECK_COLUMNS, 3, 0, KORALIMBU_REFUSED_TERM);
-    reads("a deck's coefficient", "1\n3 5 0\n1\n0 0 1 1 1001\n0\n", KORALIMBU_REFUSED_COEFFICIENT);
-    reads("a deck's bound", "1\n5 3 0\n0\n0\n", KORALIMBU_REFUSED_BOUND);
-    reads("a deck's goal", "1\n0 5 1000\n0\n0\n", KORALIMBU_REFUSED_GOAL);
-    reads("a deck's word", "1\n3 5 O\n0\n0\n", KORALIMBU_REFUSED_LAYOUT);
-    reads("a deck's term", "1\n3 5 0\n1\n0 0 1 1 0\n0\n", KORALIMBU_REFUSED_TERM);
+    reads("a deck's coefficient", "1\n3 5 0 0\n1\n0 0 1 1 1001\n0\n", KORALIMBU_REFUSED_COEFFICIENT);
+    reads("a deck's bound", "1\n5 3 0 0\n0\n0\n", KORALIMBU_REFUSED_BOUND);
+    reads("a deck's goal", "1\n0 5 1000 1000\n0\n0\n", KORALIMBU_REFUSED_GOAL);
+    reads("a deck's word", "1\n3 5 0 O\n0\n0\n", KORALIMBU_REFUSED_LAYOUT);
+    reads("a deck's term", "1\n3 5 0 0\n1\n0 0 1 1 0\n0\n", KORALIMBU_REFUSED_TERM);
 }
 
 static int are(const size_t *sizes, size_t n, size_t m, size_t curves)
@@ -934,7 +1097,7 @@ static int are(const size_t *sizes, size_t n, size_t m, size_t curves)
 
 static void try_deck_sizes(void)
 {
-    static const char even[] = "3\n1 9 0\n1 9 0\n1 9 0\n3\n3 0 2 1 1 2 1\n0 0 2 1 1 3 -1\n3 0 1 3 1\n0\n";
+    static const char even[] = "3\n1 9 0 0\n1 9 0 0\n1 9 0 0\n3\n3 0 2 1 1 2 1\n0 0 2 1 1 3 -1\n3 0 1 3 1\n0\n";
     static struct deck d;
     size_t sizes[KORALIMBU_SIZES_COUNT + 1] = {MARK, MARK, MARK, MARK}, count;
 
@@ -949,8 +1112,8 @@ static void try_deck_sizes(void)
     for (count = KORALIMBU_SIZES_COUNT - 1; count <= KORALIMBU_SIZES_COUNT + 1; count += 2) {
         expect("sizes of another count", koralimbu_read((const uint8_t *)paving, sizeof paving - 1, d.coefficients,
                KORALIMBU_DECK_COEFFICIENTS, d.rights, KORALIMBU_DECK_ROWS, d.lower, KORALIMBU_DECK_COLUMNS, d.upper,
-               KORALIMBU_DECK_COLUMNS, d.goals, KORALIMBU_DECK_COLUMNS, d.given, KORALIMBU_DECK_COLUMNS, d.ideals, KORALIMBU_DECK_COLUMNS,
-               sizes, count), KORALIMBU_REFUSED_LENGTH);
+               KORALIMBU_DECK_COLUMNS, d.low, KORALIMBU_DECK_COLUMNS, d.high, KORALIMBU_DECK_COLUMNS, d.given, KORALIMBU_DECK_COLUMNS,
+               d.ideals, KORALIMBU_DECK_COLUMNS, sizes, count), KORALIMBU_REFUSED_LENGTH);
         check("what such sizes are left as", are(sizes, MARK, MARK, MARK));
     }
 }
@@ -978,12 +1141,13 @@ static void adds_rows(const char *what, const char *deck, const char *section, s
     check(what, memcmp(with.coefficients, plain.coefficients, sizeof with.coefficients) == 0);
     check(what, memcmp(with.rights, plain.rights, sizeof with.rights) == 0);
     check(what, memcmp(with.lower, plain.lower, sizeof with.lower) == 0 && memcmp(with.upper, plain.upper, sizeof with.upper) == 0
-                && memcmp(with.goals, plain.goals, sizeof with.goals) == 0);
+                && memcmp(with.low, plain.low, sizeof with.low) == 0 && memcmp(with.high, plain.high, sizeof with.high) == 0);
     check(what, with.given[KORALIMBU_DECK_COLUMNS] == MARK && with.ideals[KORALIMBU_DECK_COLUMNS] == MARK);
 }
 
 /* Four curves and a row that equals 7; two curves and two rows that add a column each. */
-static const char four[] = "4 1 9 0 1 9 2000 1 9 3000 1 9 4000 1 0 7 2 1 5 4 -1", halves[] = "2 1 9 0 1 9 2000 2 3 4 2 1 1 2 1 1 5 1 2 1";
+static const char four[] = "4 1 9 0 0 1 9 2000 2000 1 9 3000 3000 1 9 4000 4000 1 0 7 2 1 5 4 -1";
+static const char halves[] = "2 1 9 0 0 1 9 2000 2000 2 3 4 2 1 1 2 1 1 5 1 2 1";
 
 static void try_path_rows(void)
 {
@@ -1009,25 +1173,11 @@ static void try_path_ideals(void)
 {
     static const int64_t mean[] = {6, 0, 0}, none[3], fourth[] = {0, 0, 0, 9};
 
-    reads_ideals("neighbours along paths", "3 1 99 0 1 99 4000 1 99 9000 0 1 2 2 1 2 1 3", 3, mean);
-    reads_ideals("neighbours in two path rows", "3 1 99 0 1 99 4000 1 99 9000 0 1 3 1 1 1 2 1 3", 3, mean);
-    reads_ideals("a plain curve that cancels", "3 1 99 0 1 99 4000 1 99 9000 0 1 2 2 1 2 2 3 1", 3, none);
-    reads_ideals("a neighbour that cancels", "3 1 99 0 1 99 4000 1 99 9000 0 1 2 2 1 2 1 2", 3, none);
+    reads_ideals("neighbours along paths", "3 1 99 0 0 1 99 4000 4000 1 99 9000 9000 0 1 2 2 1 2 1 3", 3, mean);
+    reads_ideals("neighbours in two path rows", "3 1 99 0 0 1 99 4000 4000 1 99 9000 9000 0 1 3 1 1 1 2 1 3", 3, mean);
+    reads_ideals("a plain curve that cancels", "3 1 99 0 0 1 99 4000 4000 1 99 9000 9000 0 1 2 2 1 2 2 3 1", 3, none);
+    reads_ideals("a neighbour that cancels", "3 1 99 0 0 1 99 4000 4000 1 99 9000 9000 0 1 2 2 1 2 1 2", 3, none);
     reads_ideals("paths after the first share no row", swept, 4, fourth);
-}
-
-/* The number that is refused stands behind these words. What follows it is not looked at, and what stands in its place is. */
-static void refuses_at(const char *what, const char *before, const char *number, uint32_t wanted)
-{
-    static char text[TEXT + 1];
-
-    sprintf(text, "%s %s", before, number);
-    reads(what, text, wanted);
-    sprintf(text, "%s\n%s x", before, number);
-    reads(what, text, wanted);
-    sprintf(text, "%s x %s", before, number);
-    reads(what, text, KORALIMBU_REFUSED_LAYOUT);
-    reads(what, before, KORALIMBU_REFUSED_LAYOUT);
 }
 
 static void try_volume_refusals(void)
@@ -1035,34 +1185,34 @@ static void try_volume_refusals(void)
     static const char *const below_1[] = {"0", "-1", "-9999999999"}, *const outside[] = {"0", "-1", "5", "48", "9999999999"};
     size_t k;
 
-    refuses_at("a count of volumes", "1 1 9 0 0", "-1", KORALIMBU_REFUSED_VOLUME);
+    refuses_at("a count of volumes", "1 1 9 0 0 0", "-1", KORALIMBU_REFUSED_VOLUME);
     refuses_at("a count of volumes behind rows", four, "-9999999999", KORALIMBU_REFUSED_VOLUME);
     for (k = 0; k < 3; k++) {
-        refuses_at("a count of paths", "1 1 9 0 0 1", below_1[k], KORALIMBU_REFUSED_VOLUME);
-        refuses_at("a second volume's count of paths", "2 1 9 0 1 9 0 0 2 2 1 1 1 2", below_1[k], KORALIMBU_REFUSED_VOLUME);
-        refuses_at("a path's count of curves", "1 1 9 0 0 1 1", below_1[k], KORALIMBU_REFUSED_VOLUME);
-        refuses_at("a later path's count of curves", "1 1 9 0 0 1 3 1 1 1 1", below_1[k], KORALIMBU_REFUSED_VOLUME);
+        refuses_at("a count of paths", "1 1 9 0 0 0 1", below_1[k], KORALIMBU_REFUSED_VOLUME);
+        refuses_at("a second volume's count of paths", "2 1 9 0 0 1 9 0 0 0 2 2 1 1 1 2", below_1[k], KORALIMBU_REFUSED_VOLUME);
+        refuses_at("a path's count of curves", "1 1 9 0 0 0 1 1", below_1[k], KORALIMBU_REFUSED_VOLUME);
+        refuses_at("a later path's count of curves", "1 1 9 0 0 0 1 3 1 1 1 1", below_1[k], KORALIMBU_REFUSED_VOLUME);
     }
     for (k = 0; k < 5; k++) {
-        refuses_at("an index outside", "4 1 9 0 1 9 0 1 9 0 1 9 0 0 1 1 1", outside[k], KORALIMBU_REFUSED_VOLUME);
-        refuses_at("a later index outside", "4 1 9 0 1 9 0 1 9 0 1 9 0 0 1 2 1 1 4 4 2", outside[k], KORALIMBU_REFUSED_VOLUME);
+        refuses_at("an index outside", "4 1 9 0 0 1 9 0 0 1 9 0 0 1 9 0 0 0 1 1 1", outside[k], KORALIMBU_REFUSED_VOLUME);
+        refuses_at("a later index outside", "4 1 9 0 0 1 9 0 0 1 9 0 0 1 9 0 0 0 1 2 1 1 4 4 2", outside[k], KORALIMBU_REFUSED_VOLUME);
     }
-    refuses_at("an index of an added column", "2 1 9 0 1 9 2000 2 3 4 2 1 1 2 1 1 5 1 2 1 1 1 1", "3", KORALIMBU_REFUSED_VOLUME);
-    refuses_at("an index twice", "2 1 9 0 1 9 0 0 1 1 2 2", "2", KORALIMBU_REFUSED_VOLUME);
-    refuses_at("an index twice in a later path", "3 1 9 0 1 9 0 1 9 0 0 1 2 1 1 3 1 3", "1", KORALIMBU_REFUSED_VOLUME);
+    refuses_at("an index of an added column", "2 1 9 0 0 1 9 2000 2000 2 3 4 2 1 1 2 1 1 5 1 2 1 1 1 1", "3", KORALIMBU_REFUSED_VOLUME);
+    refuses_at("an index twice", "2 1 9 0 0 1 9 0 0 0 1 1 2 2", "2", KORALIMBU_REFUSED_VOLUME);
+    refuses_at("an index twice in a later path", "3 1 9 0 0 1 9 0 0 1 9 0 0 0 1 2 1 1 3 1 3", "1", KORALIMBU_REFUSED_VOLUME);
 }
 
 /* A text that ends too early or too late, and counts that are too large: they are not refused where they stand. */
 static void try_volume_layouts(void)
 {
-    reads("a text without its third section", "1 1 9 0 0", KORALIMBU_REFUSED_LAYOUT);
-    reads("a number behind no volumes", "1 1 9 0 0 0 0", KORALIMBU_REFUSED_LAYOUT);
-    reads("a number behind a volume", "1 1 9 0 0 1 1 1 1 0", KORALIMBU_REFUSED_LAYOUT);
-    reads("too many volumes", "1 1 9 0 0 9999999999 1 1 1", KORALIMBU_REFUSED_LAYOUT);
-    reads("too many curves of a path", "2 1 9 0 1 9 0 0 1 1 9999999999 1 2", KORALIMBU_REFUSED_LAYOUT);
-    reads("too many curves of a path, of which one repeats", "2 1 9 0 1 9 0 0 1 1 9999999999 1 2 1", KORALIMBU_REFUSED_VOLUME);
-    reads("a path too few", "2 1 9 0 1 9 0 0 1 2 1 1", KORALIMBU_REFUSED_LAYOUT);
-    reads("a curve of a path too few", "2 1 9 0 1 9 0 0 1 2 1 1 2 1", KORALIMBU_REFUSED_LAYOUT);
+    reads("a text without its third section", "1 1 9 0 0 0", KORALIMBU_REFUSED_LAYOUT);
+    reads("a number behind no volumes", "1 1 9 0 0 0 0 0", KORALIMBU_REFUSED_LAYOUT);
+    reads("a number behind a volume", "1 1 9 0 0 0 1 1 1 1 0", KORALIMBU_REFUSED_LAYOUT);
+    reads("too many volumes", "1 1 9 0 0 0 9999999999 1 1 1", KORALIMBU_REFUSED_LAYOUT);
+    reads("too many curves of a path", "2 1 9 0 0 1 9 0 0 0 1 1 9999999999 1 2", KORALIMBU_REFUSED_LAYOUT);
+    reads("too many curves of a path, of which one repeats", "2 1 9 0 0 1 9 0 0 0 1 1 9999999999 1 2 1", KORALIMBU_REFUSED_VOLUME);
+    reads("a path too few", "2 1 9 0 0 1 9 0 0 0 1 2 1 1", KORALIMBU_REFUSED_LAYOUT);
+    reads("a curve of a path too few", "2 1 9 0 0 1 9 0 0 0 1 2 1 1 2 1", KORALIMBU_REFUSED_LAYOUT);
 }
 
 /* Writes some words so many times; returns their end. */
@@ -1090,7 +1240,7 @@ static void fills_rows(const char *what, size_t rows, size_t first, size_t secon
     static char text[TEXT + 1];
     char beyond[32], *end = text;
 
-    end += sprintf(end, "1 1 9 0 %zu", rows);
+    end += sprintf(end, "1 1 9 0 0 %zu", rows);
     end = put(end, " 0 0 0", rows);
     end += sprintf(end, " 2 %zu", first);
     end = put(end, " 1 1", first);
@@ -1115,11 +1265,11 @@ static void try_path_limits(void)
     fills_rows("rows, and one of the first volume", KORALIMBU_DECK_ROWS - 1, 2, 1);
     fills_rows("rows, and those of the second volume", KORALIMBU_DECK_ROWS - 2, 1, 3);
     fills_rows("rows alone", KORALIMBU_DECK_ROWS, 1, 1);
-    end += sprintf(end, "1 1 9 0 0 4000");
+    end += sprintf(end, "1 1 9 0 0 0 4000");
     put(end, " 1 1 1", 4000);
     reads_zeros("many volumes of one path", text, 1, 0);
     end = text + sprintf(text, "%d", KORALIMBU_DECK_COLUMNS);
-    end = put(end, " 1 9 0", KORALIMBU_DECK_COLUMNS);
+    end = put(end, " 1 9 0 0", KORALIMBU_DECK_COLUMNS);
     end += sprintf(end, " 0 1 2 %d", KORALIMBU_DECK_COLUMNS);
     for (k = KORALIMBU_DECK_COLUMNS; k > 0; k--)
         end += sprintf(end, " %zu", k);
@@ -1248,14 +1398,19 @@ int main(void)
     try_a_run();
     try_a_pair();
     try_preview_counts();
+    try_goal_ideals();
+    try_goal_ratios();
+    try_goal_pairs();
     try_ideals();
     try_no_ideal();
     try_far_ideal();
     try_unused_ideals();
-    try_ideal_counts();
+    try_list_counts();
+    try_deck_goal_places();
+    try_deck_goals();
     try_deck_ideals();
     try_most_neighbours();
-    try_deck_ideal_counts();
+    try_deck_list_counts();
     try_deck_limits();
     try_deck_sizes();
     try_path_rows();

@@ -16,16 +16,17 @@
 #define ROOM (KORALIMBU_MOST_TEXT + 1)
 
 static const char paving[] = "3\n"
-                             "1 1000000 3000\n"
-                             "1 1000000 3000\n"
-                             "1 1000000 3000\n"
+                             "1 1000000 3000 3000\n"
+                             "1 1000000 3000 3000\n"
+                             "1 1000000 3000 3000\n"
                              "1\n"
                              "3 2 3 1 1 2 1 3 1\n"
                              "0\n";
 
 static uint8_t text[ROOM];
 static int64_t coefficients[KORALIMBU_DECK_COEFFICIENTS], rights[KORALIMBU_DECK_ROWS];
-static int64_t lower[KORALIMBU_DECK_COLUMNS], upper[KORALIMBU_DECK_COLUMNS], goals[KORALIMBU_DECK_COLUMNS];
+static int64_t lower[KORALIMBU_DECK_COLUMNS], upper[KORALIMBU_DECK_COLUMNS];
+static int64_t low[KORALIMBU_DECK_COLUMNS], high[KORALIMBU_DECK_COLUMNS];
 static int64_t given[KORALIMBU_DECK_COLUMNS], ideals[KORALIMBU_DECK_COLUMNS];
 static int64_t tableau[KORALIMBU_MOST_TABLEAU], values[KORALIMBU_MOST_COLUMNS];
 static uint64_t strides[KORALIMBU_MOST_COLUMNS];
@@ -50,7 +51,7 @@ static uint32_t solve(size_t text_count, size_t *n, uint32_t report[KORALIMBU_RE
     size_t sizes[KORALIMBU_SIZES_COUNT], m;
     uint32_t number = koralimbu_read(text, text_count, coefficients, KORALIMBU_DECK_COEFFICIENTS,
                                      rights, KORALIMBU_DECK_ROWS, lower, KORALIMBU_DECK_COLUMNS,
-                                     upper, KORALIMBU_DECK_COLUMNS, goals, KORALIMBU_DECK_COLUMNS,
+                                     upper, KORALIMBU_DECK_COLUMNS, low, KORALIMBU_DECK_COLUMNS, high, KORALIMBU_DECK_COLUMNS,
                                      given, KORALIMBU_DECK_COLUMNS, ideals, KORALIMBU_DECK_COLUMNS,
                                      sizes, KORALIMBU_SIZES_COUNT);
 
@@ -59,7 +60,7 @@ static uint32_t solve(size_t text_count, size_t *n, uint32_t report[KORALIMBU_RE
     *n = sizes[0];
     m = sizes[1];
     /* The counts are exactly what n and m need; what lies behind them is not lent. The ideals are the reader's. */
-    return koralimbu_assign(*n, m, LIMIT, coefficients, m * *n, rights, m, lower, *n, upper, *n, goals, *n, given, *n, ideals, *n,
+    return koralimbu_assign(*n, m, LIMIT, coefficients, m * *n, rights, m, lower, *n, upper, *n, low, *n, high, *n, given, *n, ideals, *n,
                             tableau, *n * (m + *n), values, *n, strides, *n, report, KORALIMBU_REPORT_COUNT);
 }
 

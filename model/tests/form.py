@@ -7,7 +7,7 @@ from fractions import Fraction
 
 import engine
 import generate
-from engine import FITTED, M, OUTSIDE, Problem, unset
+from engine import FITTED, M, OUTSIDE, Problem, twice, unset
 from tests.tools import ORDINARY, check, make, random_problems, resume, solve, test
 
 
@@ -196,5 +196,6 @@ def property_none_by_brute_force():
         rights = [rng.randint(-2, 2) for _ in range(m)]
         found = any(generate.products(n, m, coefficients, values) == rights
                     for values in itertools.product(range(-8, 9), repeat=n))
-        problem = Problem(n, m, coefficients, rights, [-99] * n, [99] * n, [0] * n, *unset(n), 0)
+        problem = Problem(n, m, coefficients, rights, [-99] * n, [99] * n, *twice([0] * n),
+                          *unset(n), 0)
         check("none by brute force", solve(problem)[0][0] == 8, not found)

@@ -2,6 +2,7 @@
 
 import engine
 import generate
+import pairs
 import text
 from engine import FITTED, OUTSIDE, PROBLEM_LISTS, SPENT, goal_ideal, into_bounds
 from tests.tools import all_numbers, check, test
@@ -25,12 +26,12 @@ def generator_is_the_same_for_the_same_seed():
 def has_its_lengths(problem):
     """Whether every list of a problem has its length."""
     n, m = problem.n, problem.m
-    return [len(getattr(problem, name)) for name in PROBLEM_LISTS] == [m * n, m] + [n] * 5
+    return [len(getattr(problem, name)) for name in PROBLEM_LISTS] == [m * n, m] + [n] * 6
 
 
 def kinds_of_ideals(problem):
     """What a problem whose lists have their lengths shows of ideals."""
-    columns = list(zip(problem.lower, problem.upper, problem.goals, problem.given,
+    columns = list(zip(problem.lower, problem.upper, problem.low, problem.given,
                        problem.ideals))
     handed = [column for column in columns if column[3] != 0]
     free = [column for column in handed if column[2] == 0]
@@ -92,24 +93,25 @@ def generator_damages_ideals():
 def kinds_of_intervals(deck):
     """What a read text shows of plain intervals and their neighbours."""
     n, shown = deck.n, set()
-    for j in (j for j in range(deck.intervals) if deck.goals[j] == 0):
+    for j in (j for j in range(deck.intervals) if deck.low[j] == 0):
         rows = [deck.coefficients[i * n:(i + 1) * n] for i in range(deck.m)
                 if deck.coefficients[i * n + j]]
         shared = [sum(row[h] != 0 for row in rows) for h in range(deck.intervals)]
-        beside = [h for h in range(deck.intervals) if shared[h] and deck.goals[h]]
+        beside = [h for h in range(deck.intervals) if shared[h] and deck.low[h]]
         if not beside:
             shown.add("without neighbours")
             if any(shared[:j] + shared[j + 1:]):
                 shown.add("beside plain ones only")
             continue
-        ideals = [into_bounds(goal_ideal(deck.goals[h]), deck.lower[h], deck.upper[h])
-                  for h in beside]
+        wanted = [goal_ideal(deck.low[h], deck.high[h]) for h in beside]
+        ideals = [into_bounds(number, deck.lower[h], deck.upper[h])
+                  for h, number in zip(beside, wanted)]
         shown.add("one neighbour" if len(beside) == 1 else "several neighbours")
         if any(shared[h] > 1 for h in beside):
             shown.add("a neighbour in two rows")
         if sum(ideals) % len(ideals):
             shown.add("a mean that is not whole")
-        if ideals != [goal_ideal(deck.goals[h]) for h in beside]:
+        if ideals != wanted:
             shown.add("a neighbour cut by its bounds")
         if not deck.lower[j] <= deck.ideals[j] <= deck.upper[j]:
             shown.add("a mean outside the bounds")
@@ -130,6 +132,58 @@ def generator_puts_plain_intervals_beside_goals():
     check_met("texts", ({kind: kind in some for kind in KINDS} for some in shown), 50)
 
 
+def kinds_of_pairs(case):
+    """What a problem's columns show of pairs, and which number is then named."""
+    problem = case.problem
+    shown = {pairs.pair_kind(*column) for column in zip(problem.lower, problem.low, problem.high)}
+    kinds = {kind: kind in shown for kind in pairs.READ_KINDS[:3] + pairs.BROKEN_KINDS}
+    broken = engine.goal_outside(problem)
+    number = case.run()[0] if broken else 0
+    return dict(kinds, **{"broken and refused by 5": number == 5,
+                          "broken and refused before": broken and number in (1, 2, 3, 4)})
+
+
+@test
+def generator_parts_goals():
+    check_met("pairs", (kinds_of_pairs(case) for case in generate.problems(3000, 12)), 25)
+    met = pairs.kinds_met(generate.texts(2500, 13))
+    check("kinds", list(met), pairs.TEXT_KINDS)
+    for kind, count in met.items():
+        check("texts: %s, %d times" % (kind, count), count >= 10, True)
+    for kind in ("goals apart", "an ideal of neither goal alone", "a neighbour with goals apart"):
+        check("texts: %s, %d times" % (kind, met[kind]), met[kind] >= 100, True)
+
+
+@test
+def generator_tells_pairs():
+    """What text_kinds tells of texts by hand."""
+    apart = ["goals apart", "an ideal of neither goal alone"]
+    for lines, kinds in (
+            (b"1 1 9 0 0", ["no goal"]), (b"2 1 9 0 0 1 9 4000 4000", ["no goal", "equal goals"]),
+            (b"1 1 9 4000 4100", ["goals apart"]),
+            (b"1 1 9 4000 6000", apart),
+            (b"1 1 9 4000 9000", apart + ["an ideal other than the mean's"]),
+            (b"1 1 9 4000 5000", ["goals apart", "an ideal other than the mean's",
+                                  "a product at the middle between two"]),
+            (b"1 1 9 4000 5001", ["goals apart", "a product just above it"]),
+            (b"1 1 9 -1", ["5 by a low goal outside"]),
+            (b"1 1 9 -1 x", ["5 by a low goal outside", "5 by a low goal, then no number"]),
+            (b"1 0 9 1 x", ["5 by a lower bound below 1", "5 by a low goal, then no number"]),
+            (b"1 0 9 1 1", ["5 by a lower bound below 1"]),
+            (b"1 1 9 1 -1", ["5 by a high goal outside"]),
+            (b"1 1 9 0 1", ["5 by a high goal alone"]), (b"1 1 9 1 0", ["5 by a low goal alone"]),
+            (b"1 1 9 2 1", ["5 by a low goal above the high one"]),
+            (b"2 1 9 0 0 1 9 2 1", ["5 by a low goal above the high one"]),
+            (b"1 1 9 x", ["11 at a low goal"]), (b"1 1 9 1 x", ["11 at a high goal"]),
+            (b"1 9 1 x", []), (b"1 1 x", []), (b"1 x", []), (b"x", [])):
+        check("kinds of %r" % lines, pairs.text_kinds(lines + b" 0 0"), kinds)
+    for short, kinds in ((b"1 1 9", ["11 at a low goal"]), (b"1 1 9 1", ["11 at a high goal"]),
+                         (b"1 1", []), (b"1 1 9 0 0 49 x", [])):
+        check("kinds of %r" % short, pairs.text_kinds(short), kinds)
+    check("by a neighbour", pairs.text_kinds(b"2 1 9 0 0 1 9 4000 6000 1 0 0 2 1 1 2 -1 0"),
+          ["no goal"] + apart + ["a neighbour with goals apart"])
+
+
 @test
 def generator_sweeps_volumes():
     """Volumes in texts that are read, and each refusal of a third section at its place."""
@@ -144,7 +198,7 @@ def generator_sweeps_volumes():
 @test
 def generator_tells_places():
     """What volume_kinds tells of texts by hand."""
-    head = b"2 1 9 0 1 9 3000 1 1 0 0 "
+    head = b"2 1 9 0 0 1 9 3000 3000 1 1 0 0 "
     for section, kinds in (
             (b"0", []), (b"1 1 1 1", ["volumes", "a volume of one path", "a slack beside volumes"]),
             (b"-1", ["13 at a count of volumes"]), (b"1 0", ["13 at a count of paths"]),
@@ -161,4 +215,4 @@ def generator_tells_places():
             (b"1 2 2 1 2 1 2", ["volumes", "a path row", "an interval on both paths",
                                 "a slack beside volumes"])):
         check("kinds of %r" % section, generate.volume_kinds(head + section), kinds)
-    check("nothing before the third section", generate.volume_kinds(b"2 1 9 0 9 1 0 0 -1"), [])
+    check("nothing before the third section", generate.volume_kinds(b"2 1 9 0 0 9 1 0 0 0 -1"), [])

@@ -21,11 +21,17 @@ BIGGEST, SMALLEST = 2 ** 63 - 1, -2 ** 63
 
 def plain(lower=1, upper=100):
     """An interval without a goal."""
-    return lower, upper, 0
+    return lower, upper, 0, 0
 
 
 def wanted(goal, lower=1, upper=100):
-    return lower, upper, goal
+    """An interval both of whose goals are this one."""
+    return lower, upper, goal, goal
+
+
+def shared(low, high, lower=1, upper=100):
+    """An interval with two wishes."""
+    return lower, upper, low, high
 
 
 def row(*indices, kind=0, coefficient=1):
@@ -59,6 +65,14 @@ READINGS = [
      [row(1, 2, 3)], [6, None, None]),
     ("the largest sum", [plain()] + [wanted(10 ** 9, 1, 1000000)] * 47,
      [row(*range(1, 49))], [1000000] + [None] * 47),
+    # document 02, (v): an ideal is that of both goals, the root of 4 × 9 and not 5 or 6.5
+    ("a neighbour with two wishes", [plain(), shared(4000, 9000)], [row(1, 2)], [6, None]),
+    ("two of them", [plain(), shared(4000, 9000), shared(1000, 9000)], [row(1, 2, 3)],
+     [4, None, None]),
+    ("at the middle between two", [plain(), shared(4000, 5000)], [row(1, 2)], [4, None]),
+    ("just above it", [plain(), shared(4000, 5001)], [row(1, 2)], [5, None]),
+    ("two wishes, brought down to a bound", [plain(), shared(4000, 9000, 1, 5), SEVEN],
+     [row(1, 2, 3)], [6, None, None]),
     # “of all intervals with a goal”
     ("plain ones do not count", [plain(), plain(50), FOUR], [row(1, 2, 3)], [4, 4, None]),
     ("nor does what was set for them", [plain(), plain(), FOUR], [row(1, 2), row(2, 3)],
@@ -123,24 +137,26 @@ def reader_ideals_by_hand():
 
 # --------------------------------------------------- the reader, word by word
 
-def plain_goal_ideal(goal):
+def plain_goal_ideal(low, high):
     """The number of intervals with the least ratio, of two equal ones the smaller."""
-    k = goal // 1000
-    return min((v for v in (k, k + 1) if v >= 1), key=lambda v: (plain_ratio(goal, v), v))
+    k = math.isqrt(low * high) // 1000
+    return min((v for v in (k, k + 1) if v >= 1),
+               key=lambda v: (plain_ratio(low, high, v), v))
 
 
-def plain_wish(deck, j, once=True, up=False, cut=True, slacks=False, zero=False):
+def plain_wish(deck, j, once=True, up=False, cut=True, slacks=False, zero=False,
+               of_pair=plain_goal_ideal):
     """The ideal of column j by the matrix that was read, None where it is unset. The wrong
     answers have other settings."""
     n = deck.n
-    if deck.goals[j] or (j >= deck.intervals and not slacks):
+    if deck.low[j] or (j >= deck.intervals and not slacks):
         return None
     counted = []
     for h in range(deck.intervals):
         rows = sum(deck.coefficients[i * n + j] != 0 and deck.coefficients[i * n + h] != 0
                    for i in range(deck.m))
-        if rows and deck.goals[h]:
-            ideal = plain_goal_ideal(deck.goals[h])
+        if rows and deck.low[h]:
+            ideal = of_pair(deck.low[h], deck.high[h])
             if cut:
                 ideal = sorted([deck.lower[h], ideal, deck.upper[h]])[1]
             counted += [ideal] * (1 if once else rows)
@@ -262,15 +278,16 @@ def seating_beyond_m_by_an_ideal():
 
 # ------------------------------------------------------- seating, word by word
 
-def plain_ideal(problem, j, present, over=False, zero=False, cut=True, one=False):
+def plain_ideal(problem, j, present, over=False, zero=False, cut=True, one=False,
+                of_pair=plain_goal_ideal):
     """The ideal of a column. The wrong answers have other settings."""
     handed = problem.given[j] == 1 if one else problem.given[j] != 0
-    if handed and (over or problem.goals[j] == 0):
+    if handed and (over or problem.low[j] == 0):
         number = problem.ideals[j]
         if not cut:
             return number
-    elif problem.goals[j] != 0:
-        number = plain_goal_ideal(problem.goals[j])
+    elif problem.low[j] != 0:
+        number = of_pair(problem.low[j], problem.high[j])
     else:
         number = 0 if zero else present
     return sorted([problem.lower[j], number, problem.upper[j]])[1]
@@ -334,7 +351,7 @@ def property_goals_come_first():
     """“it is used only without a goal”: beside goals, ideals play no part."""
     met = 0
     for rng, problem, _ in random_problems(33, 500, ORDINARY):
-        goals = [j for j in range(problem.n) if problem.goals[j]]
+        goals = [j for j in range(problem.n) if problem.low[j]]
         met += bool(goals)
         again = other_ideals(rng, problem, goals)
         (one, lent), (two, other) = solve(problem), solve(again)

@@ -12,7 +12,7 @@ from tests.tools import check, test
 MODEL = os.path.dirname(os.path.dirname(os.path.abspath(__file__)))
 DECKS = os.path.join(os.path.dirname(MODEL), "decks")
 
-PAVING = b"3\n1 1000000 3000\n1 1000000 3000\n1 1000000 3000\n1\n3 2 3 1 1 2 1 3 1\n0\n"
+PAVING = b"3\n" + b"1 1000000 3000 3000\n" * 3 + b"1\n3 2 3 1 1 2 1 3 1\n0\n"
 PAVING_LISTING = b"FITTED 0 0\n1 3 1\n2 3 1\n3 4 1\n4 5 1\n"
 
 
@@ -32,16 +32,16 @@ def decks_by_hand():
 
 @test
 def listing_forms():
-    check("NONE", listing.listing(b"1 1 9 0 1 0 1 1 1 2 0"), b"NONE\n")
-    check("REFUSED", listing.listing(b"1 1 9 0 1 0 1 1 1 0 0"), b"REFUSED 12\n")
+    check("NONE", listing.listing(b"1 1 9 0 0 1 0 1 1 1 2 0"), b"NONE\n")
+    check("REFUSED", listing.listing(b"1 1 9 0 0 1 0 1 1 1 0 0"), b"REFUSED 12\n")
     check("REFUSED 7", listing.listing(
-        b"5 " + b"0 10 0 " * 5 + b"4 0 0 2 1 1000 2 -1 0 0 2 2 1000 3 -1 "
+        b"5 " + b"0 10 0 0 " * 5 + b"4 0 0 2 1 1000 2 -1 0 0 2 2 1000 3 -1 "
         b"0 0 2 3 1000 4 -1 0 0 2 4 1000 5 -1 0"), b"REFUSED 7\n")
-    check("OUTSIDE", listing.listing(b"2 1 1 0 1 10 0 1 0 0 2 1 1 2 -2 0"),
+    check("OUTSIDE", listing.listing(b"2 1 1 0 0 1 10 0 0 1 0 0 2 1 1 2 -2 0"),
           b"OUTSIDE 0 0\n1 2 2\n2 1 1\n")
-    check("negative values", listing.listing(b"1 -7 -5 0 0 0"), b"FITTED 0 0\n1 -5 1\n")
+    check("negative values", listing.listing(b"1 -7 -5 0 0 0 0"), b"FITTED 0 0\n1 -5 1\n")
     # the limit is 10,000 steps
-    check("SPENT", listing.listing(b"2 1 1000000 0 20000 1000000 0 1 0 0 2 1 1 2 -1 0"),
+    check("SPENT", listing.listing(b"2 1 1000000 0 0 20000 1000000 0 0 1 0 0 2 1 1 2 -1 0"),
           b"SPENT 10000 0\n1 10001 1\n2 10001 1\n")
 
 

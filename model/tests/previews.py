@@ -191,8 +191,12 @@ def preview_refusals_3_to_5():
     for value in (0, 1000001, -1000001):
         check_cause("upper %d" % value, 4, spoilt("upper", 1, value))
     for value in (-1, 1000000001):
-        check_cause("goal %d" % value, 5, spoilt("goals", 1, value))
-    check_cause("goal with lower 0", 5, spoilt("lower", 1, 0))
+        check_cause("low goal %d" % value, 5, spoilt("low", 1, value))
+        check_cause("high goal %d" % value, 5, spoilt("high", 1, value))
+    for name in ("low", "high"):
+        check_cause("no %s goal beside the other" % name, 5, spoilt(name, 1, 0))
+    check_cause("a low goal above the high one", 5, spoilt("low", 1, 2001))
+    check_cause("goals with lower 0", 5, spoilt("lower", 1, 0))
 
 
 @test
@@ -231,7 +235,7 @@ def preview_order_of_refusals():
     check("7, and never 6", named(), 7)
     standing[4] = 1
     check("10 before 7", named(), 10)
-    problem.goals[4] = 1
+    problem.low[4] = problem.high[4] = 1
     check("5 before 10", named(), 5)
     problem.upper[4] = -1
     check("4 before 5", named(), 4)
@@ -340,8 +344,8 @@ def plain_step(problem, basis, values, ties=1, place=0):
     if any(distances):
         part, ranked = BOUNDS, [(-d, ties * j, j) for j, d in enumerate(distances) if d]
     else:
-        part, ranked = GOALS, [(-plain_ratio(problem.goals[j], values[j]), ties * j, j)
-                               for j in columns if problem.goals[j]]
+        part, ranked = GOALS, [(-plain_ratio(problem.low[j], problem.high[j], values[j]),
+                                ties * j, j) for j in columns if problem.low[j]]
     for _, _, i in sorted(ranked):
         found = [name for name in engine.move_names(len(basis)) if
                  plain_improves(problem, values, engine.move_named(basis, name), i)]

@@ -9,7 +9,7 @@ import text
 from engine import PROBLEM_LISTS
 from tests.tools import check, make, solve, test
 
-SOUND = b"2\n1 9 1000\n1 9 0\n2\n0 4 2 1 1 2 1\n3 2 1 2 1\n0\n"
+SOUND = b"2\n1 9 1000 1000\n1 9 0 0\n2\n0 4 2 1 1 2 1\n3 2 1 2 1\n0\n"
 
 
 def refusal_of(data):
@@ -28,7 +28,7 @@ def buffers_of(deck):
 
 @test
 def reader_fills_the_buffers():
-    data = (b"2\n1 9 1000\n-3 9 0\n5\n0 4 2 1 1 2 -1\n1 -5 1 2 7\n2 6 1 1 -1000\n"
+    data = (b"2\n1 9 1000 1000\n-3 9 0 0\n5\n0 4 2 1 1 2 -1\n1 -5 1 2 7\n2 6 1 1 -1000\n"
             b"3 12 2 1 1 2 1\n0 0 0\n0\n")
     deck = text.Deck()
     for name in PROBLEM_LISTS:
@@ -44,7 +44,8 @@ def reader_fills_the_buffers():
     check("right sides", deck.rights, [4, -5, 6, 0, 0] + [0] * 43)
     check("lower", deck.lower, [1, -3, 0, 0, 12] + [0] * 43)
     check("upper", deck.upper, [9, 9, 1000000, 1000000, 1000000] + [0] * 43)
-    check("goals", deck.goals, [1000, 0, 0, 0, 0] + [0] * 43)
+    check("low goals", deck.low, [1000, 0, 0, 0, 0] + [0] * 43)
+    check("high goals", deck.high, [1000, 0, 0, 0, 0] + [0] * 43)
     check("whether an ideal is set", deck.given, [0, 1, 0, 0, 0] + [0] * 43)
     check("ideals", deck.ideals, [0, 1, 0, 0, 0] + [0] * 43)
 
@@ -78,26 +79,29 @@ def refusals_1_to_5_in_a_text():
         check_text(count, 1)
         check_text(SOUND.replace(b"2\n1", count + b"\n1", 1), 1)
     for count in (b"49", b"-1", b"9999999999"):
-        check_text(b"1\n1 9 0\n" + count, 1)
+        check_text(b"1\n1 9 0 0\n" + count, 1)
     for row in (b"0 1000001 0", b"0 -1000001 0", b"1 1000001 0", b"2 -1000001 0",
                 b"3 -1 0", b"3 1000001 0", b"0 0 1 1 1001", b"0 0 1 1 -1001",
                 b"3 9999999999 0"):
-        check_text(b"1\n1 9 0\n1\n" + row + b"\n0\n", 3)
-    for interval in (b"1000001 1000001 0", b"-1000001 5 0", b"1 1000001 0", b"5 4 0",
-                     b"1 -1000001 0", b"9999999999 1 1"):
+        check_text(b"1\n1 9 0 0\n1\n" + row + b"\n0\n", 3)
+    for interval in (b"1000001 1000001 0 0", b"-1000001 5 0 0", b"1 1000001 0 0",
+                     b"5 4 0 0", b"1 -1000001 0 0", b"9999999999 1 1 1"):
         check_text(b"1\n" + interval + b"\n0\n0\n", 4)
-    for interval in (b"1 9 -1", b"1 9 1000000001", b"0 9 1", b"-4 9 1000", b"0 9 -1"):
-        check_text(b"1\n" + interval + b"\n0\n0\n", 5)
+    for goal in (b"1 9 -1", b"1 9 1000000001", b"0 9 1", b"-4 9 1000", b"0 9 -1"):
+        # older cases, with the goal twice
+        check_text(b"1\n" + goal + b" " + goal.split()[2] + b"\n0\n0\n", 5)
 
 
 @test
 def limits_in_a_text_are_allowed():
-    for data in (b"1\n-1000000 1000000 0\n0", b"1\n1 1 1000000000\n0", b"1\n5 5 0\n0",
-                 b"1\n0 9 0\n1\n0 -1000000 1 1 -1000", b"1\n0 9 0\n1\n2 1000000 1 1 1000",
-                 b"1\n0 9 0\n1\n3 0 0", b"1\n0 9 0\n1\n3 1000000 0",
-                 b"48\n" + b"1 9 0 " * 48 + b"48 " + b"0 0 0 " * 48,
-                 b"47\n" + b"1 9 0 " * 47 + b"2 3 2 1 47 1 0 5 1 1 1",
-                 b" \n1 \n 1 9 0\n\n0 \n"):
+    for data in (b"1\n-1000000 1000000 0 0\n0", b"1\n1 1 1000000000 1000000000\n0",
+                 b"1\n1 1 1 1000000000\n0", b"1\n5 5 0 0\n0",
+                 b"1\n0 9 0 0\n1\n0 -1000000 1 1 -1000",
+                 b"1\n0 9 0 0\n1\n2 1000000 1 1 1000",
+                 b"1\n0 9 0 0\n1\n3 0 0", b"1\n0 9 0 0\n1\n3 1000000 0",
+                 b"48\n" + b"1 9 0 0 " * 48 + b"48 " + b"0 0 0 " * 48,
+                 b"47\n" + b"1 9 0 0 " * 47 + b"2 3 2 1 47 1 0 5 1 1 1",
+                 b" \n1 \n 1 9 0 0\n\n0 \n"):
         check_text(data + b" 0", 0)
 
 
@@ -113,26 +117,26 @@ def refusal_11_in_a_text():
 
 @test
 def refusal_12_in_a_text():
-    head = b"2\n1 9 0\n1 9 0\n1\n"
+    head = b"2\n1 9 0 0\n1 9 0 0\n1\n"
     for row in (b"4 0 0", b"-1 0 0", b"9999999999 0 0", b"0 0 3 1 1", b"0 0 -1",
                 b"0 0 1 0 1", b"0 0 1 3 1", b"0 0 1 -1 1", b"0 0 2 2 1 1 1",
                 b"0 0 2 1 1 1 1", b"0 0 1 1 0", b"3 5 2 1 1 3 1"):
         check_text(head + row + b" 0", 12)
-    full = b"48 " + b"1 9 0 " * 48
+    full = b"48 " + b"1 9 0 0 " * 48
     for kind in (b"1", b"2", b"3"):
         check_text(full + b"1 " + kind + b" 0 0 0", 12)
     check_text(full + b"1 0 0 0 0", 0)
-    check_text(b"47 " + b"1 9 0 " * 47 + b"2 1 0 0 2 0 0 0", 12)
+    check_text(b"47 " + b"1 9 0 0 " * 47 + b"2 1 0 0 2 0 0 0", 12)
 
 
 @test
 def a_refused_text_leaves_the_deck():
-    for data in (b"", b"0", b"1 1 9 0 1 0 0 1 1 0 0", SOUND + b"1", b"x" * 40000,
-                 b"1 5 4 0 0 0", b"1 0 4 1 0 0", b"1 1 9 0 1 0 1000001 0 0",
-                 b"1 1 9 0 0 -1", b"1 1 9 0 0 1 1 1 2", b"1 1 9 0 0 1 50"):
+    for data in (b"", b"0", b"1 1 9 0 0 1 0 0 1 1 0 0", SOUND + b"1", b"x" * 40000,
+                 b"1 5 4 0 0 0 0", b"1 0 4 1 1 0 0", b"1 1 9 0 0 1 0 1000001 0 0",
+                 b"1 1 9 0 0 0 -1", b"1 1 9 0 0 0 1 1 1 2", b"1 1 9 0 0 0 1 50"):
         deck = text.Deck()
         deck.coefficients[7] = 5
-        deck.goals[47] = 6
+        deck.low[47] = deck.high[46] = 6
         deck.given[0] = deck.ideals[47] = 7
         before = (deck.n, deck.m) + tuple(list(b) for b in buffers_of(deck)[2:])
         check("refused", isinstance(text.read(data, deck), int), True)
@@ -145,12 +149,12 @@ def reading_first_place_decides():
     check_text(b"1\n1 9 -1\n49", 5)
     check_text(b"2\n1 9 -1\n9 1 0\n49", 5)
     check_text(b"2\n9 1 -1\nx", 4)
-    check_text(b"1\n1 9 0\n2\n0 0 1 1 0\n0 1000001 0", 12)
-    check_text(b"1\n1 9 0\n2\n0 1000001 0\n0 0 1 1 0", 3)
-    check_text(b"1\n1 9 0\n1\n0 0 1 1 1001 x", 3)
-    check_text(b"1\n1 x 0\n99", 11)
-    check_text(b"1\n1 9 0\n1\n0 0 1 1 0\n-1", 12)
-    check_text(b"1\n1 9 0\n1\n0 0 1 1 1\n-1 x", 13)
+    check_text(b"1\n1 9 0 0\n2\n0 0 1 1 0\n0 1000001 0", 12)
+    check_text(b"1\n1 9 0 0\n2\n0 1000001 0\n0 0 1 1 0", 3)
+    check_text(b"1\n1 9 0 0\n1\n0 0 1 1 1001 x", 3)
+    check_text(b"1\n1 x 0 0\n99", 11)
+    check_text(b"1\n1 9 0 0\n1\n0 0 1 1 0\n-1", 12)
+    check_text(b"1\n1 9 0 0\n1\n0 0 1 1 1\n-1 x", 13)
     # on buffers the cause's number decides, over the whole problem
     problem = make(2, [[1, 1001]], [0], [(5, 4), (1, 9)], [-1, 0])
     check("3 before 4 before 5 on buffers", solve(problem)[0][0], 3)
@@ -162,9 +166,9 @@ def reading_first_place_decides():
 def reading_counts_at_their_place():
     check_text(b"0", 1)
     check_text(b"49", 1)
-    check_text(b"1 1 9 0 49", 1)
-    check_text(b"1 1 9 0 -1", 1)
-    check_text(b"2 1 9 0 49", 11)
+    check_text(b"1 1 9 0 0 49", 1)
+    check_text(b"1 1 9 0 0 -1", 1)
+    check_text(b"2 1 9 0 0 49", 11)
 
 
 @test
@@ -183,9 +187,9 @@ def reading_runs_that_are_no_number():
     for run in (b"+5", b"007", b"00", b"-0", b"-", b"1-1", b"5\t", b"\t5", b"5\r",
                 b"\r", b"5\x00", b"\xb2", b"5\xff", b"\xd9\xa5", b"--5", b"-05", b"5.",
                 b"1_0", b"0x5", b"-00", b"5-", b"1e1", b"5\x0b", b"\x0c"):
-        check_text(b"1\n1 " + run + b" 0\n0\n0\n", 11)
-        check_text(run + b" 1 9 0 0 0", 11)
-        check_text(b"1 1 9 0 0 " + run, 11)
+        check_text(b"1\n1 " + run + b" 0 0\n0\n0\n", 11)
+        check_text(run + b" 1 9 0 0 0 0", 11)
+        check_text(b"1 1 9 0 0 0 " + run, 11)
     check_text(SOUND.replace(b"\n", b"\r\n"), 11)
     check_text(SOUND.replace(b" ", b"\t"), 11)
 
@@ -201,17 +205,17 @@ def reading_places_of_4_and_5():
 
 @test
 def reading_even_and_coefficients():
-    check_text(b"1 1 9 0 1 3 -1", 3)
-    check_text(b"1 1 9 0 1 3 1000001", 3)
-    check_text(b"1 1 9 0 1 0 -1 0 0", 0)
-    check_text(b"1 1 9 0 1 0 0 1 1 0", 12)
-    check_text(b"1 1 9 0 1 0 0 1 1 1001", 3)
-    check_text(b"1 1 9 0 1 0 0 1 1 -1001", 3)
+    check_text(b"1 1 9 0 0 1 3 -1", 3)
+    check_text(b"1 1 9 0 0 1 3 1000001", 3)
+    check_text(b"1 1 9 0 0 1 0 -1 0 0", 0)
+    check_text(b"1 1 9 0 0 1 0 0 1 1 0", 12)
+    check_text(b"1 1 9 0 0 1 0 0 1 1 1001", 3)
+    check_text(b"1 1 9 0 0 1 0 0 1 1 -1001", 3)
 
 
 @test
 def reading_49th_column_at_the_kind():
-    full = b"48 " + b"1 9 0 " * 48
+    full = b"48 " + b"1 9 0 0 " * 48
     check_text(full + b"1 3", 12)
     check_text(full + b"1 3 -1 0", 12)
     check_text(full + b"1 1 1000001 0", 12)
@@ -221,7 +225,7 @@ def reading_49th_column_at_the_kind():
 
 @test
 def reading_indices_name_intervals_only():
-    head = b"2 1 9 0 1 9 0 2 1 0 0 "
+    head = b"2 1 9 0 0 1 9 0 0 2 1 0 0 "
     check_text(head + b"0 0 1 3 1", 12)
     check_text(head + b"0 0 3 1 1 2 1 3 1", 12)
     check_text(head + b"0 0 2 1 1 2 1 0", 0)
@@ -229,12 +233,12 @@ def reading_indices_name_intervals_only():
 
 @test
 def reading_missing_and_too_many():
-    check_text(b"1 1 9 0 1 0 0 1 1", 11)
-    check_text(b"1 1 9 0 0", 11)
-    check_text(b"1 1 9 0 0 0 0", 11)
-    check_text(b"1 1 9 0 0 0 49", 11)
-    check_text(b"1 1 9 0 0 0 x", 11)
-    check_text(b"1 1 9 0 0 0  \n", 0)
+    check_text(b"1 1 9 0 0 1 0 0 1 1", 11)
+    check_text(b"1 1 9 0 0 0", 11)
+    check_text(b"1 1 9 0 0 0 0 0", 11)
+    check_text(b"1 1 9 0 0 0 0 49", 11)
+    check_text(b"1 1 9 0 0 0 0 x", 11)
+    check_text(b"1 1 9 0 0 0 0  \n", 0)
 
 
 @test
@@ -253,7 +257,7 @@ def random_texts():
               engine.first_cause(problem, listing.blank_lent(problem)), 0)
         check("the rest is 0",
               any(deck.coefficients[deck.n * deck.m:] + deck.rights[deck.m:]
-                  + deck.lower[deck.n:] + deck.upper[deck.n:] + deck.goals[deck.n:]
-                  + deck.given[deck.n:] + deck.ideals[deck.n:]), False)
+                  + deck.lower[deck.n:] + deck.upper[deck.n:] + deck.low[deck.n:]
+                  + deck.high[deck.n:] + deck.given[deck.n:] + deck.ideals[deck.n:]), False)
         check("other runs of bytes 32 and 10 are the same text",
               buffers_of(text.read(b"\n ".join(data.split())[:32768])), buffers_of(deck))

@@ -90,9 +90,10 @@ def refusal_4():
 @test
 def refusal_5():
     for value in (-1, 1000000001, 2 ** 63 - 1, -2 ** 63):
-        check_cause("goal %d" % value, spoilt("goals", 1, value), 5)
-    check_cause("goal with lower 0", spoilt("lower", 1, 0), 5)
-    check_cause("goal with lower -5", spoilt("lower", 0, -5), 5)
+        for name in ("low", "high"):
+            check_cause("%s goal %d" % (name, value), spoilt(name, 1, value), 5)
+    check_cause("goals with lower 0", spoilt("lower", 1, 0), 5)
+    check_cause("goals with lower -5", spoilt("lower", 0, -5), 5)
 
 
 @test
@@ -105,8 +106,8 @@ def refusal_6():
 def limits_themselves_are_allowed():
     for name, index, value in (("coefficients", 0, 1000), ("coefficients", 1, -1000),
                                ("rights", 0, 1000000), ("rights", 0, -1000000),
-                               ("upper", 0, 1000000), ("goals", 0, 10 ** 9),
-                               ("goals", 1, 0), ("lower", 0, 9), ("upper", 0, 1)):
+                               ("upper", 0, 1000000), ("high", 0, 10 ** 9),
+                               ("low", 1, 1), ("lower", 0, 9), ("upper", 0, 1)):
         problem = spoilt(name, index, value)
         check("%s %d" % (name, value),
               engine.first_cause(problem, Lent([0] * 6, [0, 0], [0, 0])), 0)
@@ -167,7 +168,7 @@ def order_of_refusals():
     check("10 before 7", engine.cont(problem, lent)[0], 10)
     problem.limit = 65536
     check("6 before 10", engine.cont(problem, lent)[0], 6)
-    problem.goals[4] = 1
+    problem.low[4] = problem.high[4] = 1
     check("5 before 6", engine.cont(problem, lent)[0], 5)
     problem.upper[4] = -1
     check("4 before 5", engine.cont(problem, lent)[0], 4)

@@ -9,6 +9,7 @@ import copy
 import engine
 import generate
 from engine import FITTED
+from pairs import part_goals
 from tests.tools import (ORDINARY, check, make, random_problems, solve, test, with_ideals,
                          with_limit)
 
@@ -94,8 +95,9 @@ def other_columns(rng, problem):
     """The same rows with other bounds, goals, ideals and step limit."""
     again = copy.copy(problem)
     spread = rng.choice([3, 10, 100])
-    again.lower, again.upper, again.goals = generate.random_columns(
+    again.lower, again.upper, again.low, again.high = generate.random_columns(
         rng, problem.n, spread, rng.choice([0, 0.5, 1]))
+    part_goals(rng, again)
     again.given, again.ideals = engine.unset(problem.n)
     generate.hand_in(rng, again)
     return with_limit(again, rng.choice([0, 1, 5, 50]))

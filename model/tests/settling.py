@@ -8,6 +8,7 @@ from fractions import Fraction
 import engine
 import generate
 from engine import FITTED, M, OUTSIDE, SPENT
+from pairs import two_wishes
 from tests.tools import check, check_case, make, random_problems, solve, test
 
 
@@ -114,7 +115,7 @@ def reading_strict_comparisons():
           True)
     # goal 6000: 4 and 9 have the ratio 3/2
     problem = make(1, [], [], (1, 99), [6000])
-    old = engine.ratio(6000, 4)
+    old = engine.ratio(6000, 6000, 4)
     check("equal ratio", engine.improves_goals(problem, [4], [(0, 5)], old), False)
     check("smaller ratio", engine.improves_goals(problem, [4], [(0, 4)], old), True)
 
@@ -161,12 +162,13 @@ def plain_distance(problem, j, v):
     return v - problem.upper[j] if v > problem.upper[j] else 0
 
 
-def plain_ratio(goal, v):
-    return max(Fraction(1000 * v, goal), Fraction(goal, 1000 * v))
+def plain_ratio(low, high, v):
+    return max(Fraction(1000 * v, low), Fraction(high, 1000 * v))
 
 
-def plain_improves(problem, values, move, i):
-    """The two sentences on improving moves, word by word, over all columns."""
+def plain_improves(problem, values, move, i, ratio=plain_ratio):
+    """The two sentences on improving moves, word by word, over all columns. Wrong answers
+    have another ratio."""
     new = [v + change for v, change in zip(values, move)]
     columns = range(problem.n)
     changed = [j for j in columns if move[j] != 0]
@@ -178,12 +180,12 @@ def plain_improves(problem, values, move, i):
                 and all(-M <= v <= M for v in new))
     if any(plain_distance(problem, j, new[j]) > 0 for j in columns):
         return False
-    old = plain_ratio(problem.goals[i], values[i])
-    return all(plain_ratio(problem.goals[j], new[j]) < old
-               for j in changed if problem.goals[j] > 0)
+    old = ratio(problem.low[i], problem.high[i], values[i])
+    return all(ratio(problem.low[j], problem.high[j], new[j]) < old
+               for j in changed if problem.low[j] != 0)
 
 
-def plain_settle(problem, basis, values):
+def plain_settle(problem, basis, values, ratio=plain_ratio):
     """Settling word by word, without any short cut."""
     moves = list(engine.moves_in_order(basis))
     counts = [0, 0]
@@ -193,10 +195,10 @@ def plain_settle(problem, basis, values):
         if part == 0:
             ranked = [(-d, j) for j, d in enumerate(distances) if d > 0]
         else:
-            ranked = [(-plain_ratio(goal, v), j) for j, (goal, v)
-                      in enumerate(zip(problem.goals, values)) if goal > 0]
+            ranked = [(-ratio(low, high, v), j) for j, (low, high, v)
+                      in enumerate(zip(problem.low, problem.high, values)) if low != 0]
         step = next((move for _, i in sorted(ranked) for move in moves
-                     if plain_improves(problem, values, move, i)), None)
+                     if plain_improves(problem, values, move, i, ratio)), None)
         if step is None:
             return OUTSIDE if part == 0 else FITTED, counts[0], counts[1], values
         if sum(counts) == problem.limit:
@@ -226,8 +228,9 @@ def property_settling_word_by_word():
 def property_ideal_is_nearest_by_ratio():
     rng = random.Random(19)
     for number in range(500):
-        goal = rng.randint(1, rng.choice([3000, 30000, 10 ** 9]))
-        k = engine.goal_ideal(goal)
+        low, high = two_wishes(rng, rng.randint(1, rng.choice([3000, 30000, 10 ** 9])))
+        k = engine.goal_ideal(low, high)
         near = [v for v in (k - 1, k, k + 1) if v >= 1]
         # the least ratio; of two equal ones the smaller number
-        check("ideal of %d" % goal, min(near, key=lambda v: (plain_ratio(goal, v), v)), k)
+        check("ideal of %d and %d" % (low, high),
+              min(near, key=lambda v: (plain_ratio(low, high, v), v)), k)

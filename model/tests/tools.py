@@ -4,7 +4,8 @@ import copy
 
 import engine
 import generate
-from engine import LENT_LISTS, PROBLEM_LISTS, Lent, Problem, unset
+from engine import LENT_LISTS, PROBLEM_LISTS, Lent, Problem, twice, unset
+from pairs import part_goals
 
 TESTS = []
 COUNTS = {"passed": 0, "failed": 0}
@@ -31,11 +32,19 @@ def check(what, got, wanted):
 
 
 def make(n, rows, rights, bounds, goals=None, limit=10000):
-    """A problem; bounds is one pair for all columns or a list of pairs."""
-    pairs = [bounds] * n if isinstance(bounds, tuple) else bounds
+    """A problem; bounds is one pair for all columns or a list of pairs. Both goals of a
+    column are the same one."""
+    every = [bounds] * n if isinstance(bounds, tuple) else bounds
     return Problem(n, len(rows), [a for row in rows for a in row], list(rights),
-                   [low for low, _ in pairs], [high for _, high in pairs],
-                   list(goals or [0] * n), *unset(n), limit)
+                   [lower for lower, _ in every], [upper for _, upper in every],
+                   *twice(goals or [0] * n), *unset(n), limit)
+
+
+def with_goals(problem, low, high):
+    """The same problem with these low and high goals."""
+    again = copy.copy(problem)
+    again.low, again.high = list(low), list(high)
+    return again
 
 
 def with_ideals(problem, given, ideals):
@@ -114,11 +123,12 @@ def sound_problem():
 
 
 def random_problems(seed, count, families):
-    """Problems of some families of the generator, with the list hidden in them, and with
-    ideals handed in for none, some or all columns."""
+    """Problems of some families of the generator, with the list hidden in them, with the
+    two goals apart for none, some or all columns, and with ideals handed in likewise."""
     for number in range(count):
         rng = generate.rng_for(seed, number)
         problem, hidden = rng.choice(families)(rng)
+        part_goals(rng, problem)
         generate.hand_in(rng, problem)
         problem.limit = min(problem.limit, 200)
         yield rng, problem, hidden

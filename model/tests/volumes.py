@@ -64,7 +64,7 @@ def check_enlarged(what, old, deck, added):
     check(what + ": n, m and intervals", (deck.n, deck.m, deck.intervals),
           (n, m + len(added), old.intervals))
     check(what + ": the rows", deck.coefficients, table + [0] * (2304 - len(table)))
-    for name in ("rights", "lower", "upper", "goals"):
+    for name in ("rights", "lower", "upper", "low", "high"):
         check("%s: %s" % (what, name), getattr(deck, name), getattr(old, name))
 
 
@@ -246,8 +246,8 @@ def property_volumes_satisfied():
 # --------------------------------------------------------- refusals at their places
 
 # Three intervals, and a y in column 4; then the third section.
-HEAD = b"3 1 9 0 1 9 0 1 9 0 1 1 0 0 "
-FULL_ROWS = b"3 1 9 0 1 9 0 1 9 0 48 " + b"0 0 0 " * 48
+HEAD = b"3 1 9 0 0 1 9 0 0 1 9 0 0 1 1 0 0 "
+FULL_ROWS = b"3 1 9 0 0 1 9 0 0 1 9 0 0 48 " + b"0 0 0 " * 48
 HUGE = b"9999999999"
 
 # The refusal, the words up to the number that decides, and the numbers tried there.
@@ -312,7 +312,7 @@ ACCEPTED = [
             b"2 24 " + b"1 3 " * 24 + b"25 " + b"1 2 " * 25,
             b"3 48 " + b"1 3 " * 48 + b"1 1 2 1 1 3", b"900 " + b"1 1 2 " * 900]),
     (FULL_ROWS, [b"0", b"1 1 1 1", b"2 1 1 1 1 3 1 2 3"]),
-    (b"48 " + b"1 9 0 " * 48 + b"0 ",
+    (b"48 " + b"1 9 0 0 " * 48 + b"0 ",
      [b"1 1 48 " + b" ".join(b"%d" % index for index in range(48, 0, -1))]),
 ]
 
@@ -381,7 +381,7 @@ def telling(sections, settings):
 
 @test
 def property_refusals_word_by_word():
-    texts = [data for data in generate.texts(4000, 54) if len(data) <= text.MAX_TEXT]
+    texts = [data for data in generate.texts(6000, 57) if len(data) <= text.MAX_TEXT]
     texts += [front + section for front, sections in ACCEPTED for section in sections]
     sections = list(third_sections(texts))
     for section, refusal in sections:
@@ -427,8 +427,8 @@ NEIGHBOURS = [
 
 def wishes(sketch, rows):
     """The ideals of the intervals by these rows, with the model's mean."""
-    return [None if goal else text.neighbour_ideal(j, sketch.intervals, rows)
-            for j, (_, _, goal) in enumerate(sketch.intervals)]
+    return [None if low else text.neighbour_ideal(j, sketch.intervals, rows)
+            for j, (_, _, low, _) in enumerate(sketch.intervals)]
 
 
 def stated_rows(sketch):

@@ -1,23 +1,30 @@
-"""What decks/README.md says of OUTSIDE and FITTED, and of a hold that is swept, held to the
-sample decks, and what README.md says of rows that are said otherwise; of texts with plain
-curves that is less.
+"""What decks/README.md says of OUTSIDE and FITTED, of a hold that is swept and of curves that
+belong to two parts, held to the sample decks, and what README.md says of rows that are said
+otherwise, of texts with plain curves that is less, and of older texts.
 
 Both words say that no single vector of the basis and no pair of them improves. That no
 list within the bounds exists, or no better one, they do not say; here all are tried.
 """
 
+import glob
 import itertools
 import os
 import re
+import shutil
+import subprocess
+import tempfile
 
 import engine
 import listing
+import needs
 import runs
 import text
 from engine import FITTED, OUTSIDE
 from tests.listings import DECKS
 from tests.restated import set_ideals, solved
-from tests.tools import check, solve, test, with_ideals
+from tests.tools import check, solve, test, with_goals, with_ideals
+
+README = os.path.join(needs.ROOT, "README.md")
 
 NEITHER = "no single vector of the basis and no pair of them improves"
 
@@ -35,10 +42,20 @@ def lists_named(said):
             for found in re.findall(r"`(\d+(?: \d+)+)`", said)]
 
 
+def deck_bytes(name):
+    with open(os.path.join(DECKS, name + ".txt"), "rb") as file:
+        return file.read()
+
+
+def listed(name):
+    """A sample deck's listing as it lies beside it."""
+    with open(os.path.join(DECKS, name + ".listing"), "rb") as file:
+        return file.read()
+
+
 def sample(name):
     """A sample deck's problem and its count of curves."""
-    with open(os.path.join(DECKS, name + ".txt"), "rb") as file:
-        data = file.read()
+    data = deck_bytes(name)
     return listing.problem_of(text.read(data)), int(data.split()[0])
 
 
@@ -74,7 +91,7 @@ def improved_columns(problem, values, move):
                                            engine.distance(problem, i, values[i]))]
     return [i for i in engine.rank_by_ratio(problem, values) if move[i] != 0
             and engine.improves_goals(problem, values, changes,
-                                      engine.ratio(problem.goals[i], values[i]))]
+                                      engine.ratio_of(problem, i, values[i]))]
 
 
 def check_no_move(name, verdict):
@@ -152,8 +169,7 @@ def swept_hold():
     """The page's table, the sums with the volumes and without, and where curve 1 starts."""
     with open(os.path.join(DECKS, "README.md"), encoding="utf-8") as file:
         page = file.read()
-    with open(os.path.join(DECKS, "swept-hold.txt"), "rb") as file:
-        data = file.read()
+    data = deck_bytes("swept-hold")
     lines = list(table_of_lines(page))
     _, _, volumes = text.read_sections(data)
     paths = [[index + 1 for index in path] for volume in volumes for path in volume]
@@ -179,6 +195,107 @@ def swept_hold():
           "the lines %d, %d, %d, %d, %d and %d: neither" % tuple(sums) in said, True)
 
 
+def with_pairs(name, rule):
+    """A sample deck's listing, its verdict left out, with the goals of each curve by a rule."""
+    problem, curves = sample(name)
+    made = [rule(low, high) for low, high in zip(problem.low, problem.high)]
+    (outcome, _, _), lent = solve(with_goals(problem, *zip(*made)))
+    check(name + ": fitted", outcome, FITTED)
+    return lent.values[:curves]
+
+
+@test
+def two_parts():
+    """What the page says of the intervals, of their ratios, and of other goals."""
+    name = "two-parts"
+    said = paragraph(name)
+    problem, curves = sample(name)
+    apart = [j for j in range(curves) if problem.low[j] < problem.high[j]]
+    check(name + ": the curves that belong to both parts", apart, [0, 1])
+    rules = [lambda low, high: (low, high), lambda low, high: (low, low),
+             lambda low, high: (high, high), lambda low, high: ((low + high) // 2,) * 2]
+    check(name + ": the lists", [with_pairs(name, rule) for rule in rules], lists_named(said))
+    check(name + ": none of them is another", len(set(map(tuple, lists_named(said)))), 4)
+    values = with_pairs(name, rules[0])
+    for j in apart:
+        low, high, v = problem.low[j] // 1000, problem.high[j] // 1000, values[j]
+        words = "on curve %d %d is %.3g times %d, and %d is %.3g times %d" % (
+            j + 1, v, v / low, low, high, high / v, v)
+        check(name + ": the page says " + words, words in said, True)
+    means = [(problem.low[j] + problem.high[j]) / 2000 for j in apart]
+    check(name + ": the means", "their means, %g and %g, " % tuple(means) in said, True)
+    others = [os.path.basename(path)[:-len(".txt")] for path in
+              sorted(glob.glob(os.path.join(DECKS, "*.txt")))]
+    read = {other: text.read(deck_bytes(other)) for other in others}
+    check("decks whose goals differ", [other for other, deck in read.items() if
+                                       not isinstance(deck, int) and deck.low != deck.high], [name])
+
+
+# ------------------------------------------------------------------------ older texts
+
+def older_deck(name):
+    """A sample deck as it was before version 0.6.0, with one goal a curve, read off its
+    lines: three numbers for four."""
+    lines = deck_bytes(name).splitlines()
+    count = int(lines[0])
+    curves = [line.split() for line in lines[1:1 + count]]
+    if any(low != high for _, _, low, high in curves):
+        return None
+    return b"\n".join(lines[:1] + [b" ".join(curve[:3]) for curve in curves]
+                      + lines[1 + count:]) + b"\n"
+
+
+def commands():
+    """The commands that README.md gives for older texts: the one that writes each goal twice,
+    and the one that closes a deck with a 0."""
+    with open(README, encoding="utf-8") as file:
+        page = file.read()
+    blocks = [block for block in re.findall(r"(?:^    .*\n)+", page, re.M) if "FOLDER" in block]
+    check("commands for older texts", len(blocks), 2)
+    return blocks
+
+
+def mended(command, folder, texts):
+    """The texts, by name, after a command on a folder that has them."""
+    for name, data in texts.items():
+        with open(os.path.join(folder, name + ".txt"), "wb") as file:
+            file.write(data)
+    # as it is typed, but for the folder's name
+    subprocess.run(["sh", "-c", command.replace("FOLDER", "'%s'" % folder)], check=True)
+    left = sorted(os.listdir(folder))
+    check("files after the command", left, sorted(name + ".txt" for name in texts))
+    return {name[:-len(".txt")]: open(os.path.join(folder, name), "rb").read() for name in left}
+
+
+@test
+def older_texts_by_commands():
+    """README.md's commands make today's decks of older ones, whatever their lay-out: of those
+    before 0.6.0 the first, of those before 0.5.0 both. Listings stay, byte for byte."""
+    if not all(map(shutil.which, ("sh", "awk", "sed"))):
+        needs.left_out("README.md's commands for older texts", "no sh, awk or sed")
+        return
+    twice, closing = commands()
+    names = [os.path.basename(path)[:-len(".txt")] for path in
+             glob.glob(os.path.join(DECKS, "*.txt"))]
+    older = {name: data for name, data in ((n, older_deck(n)) for n in names) if data}
+    check("older decks", len(older), len(names) - 1)
+    scattered = {"scattered " + name: b"\n  " + b" \n\n ".join(data.split()) for name, data in
+                 older.items()}
+    for what, texts in (("as laid out", older), ("scattered", scattered)):
+        with tempfile.TemporaryDirectory() as folder:
+            made = mended(twice, folder, texts)
+        for name, data in made.items():
+            deck = name.replace("scattered ", "")
+            check("%s, %s: its words" % (name, what), data.split(), deck_bytes(deck).split())
+            check("%s, %s: its listing" % (name, what), listing.listing(data), listed(deck))
+    oldest = {name: data[:-len(b"0\n")] for name, data in older.items() if data.endswith(b"\n0\n")}
+    check("decks without volumes", len(oldest), len(older) - 1)
+    with tempfile.TemporaryDirectory() as folder:
+        made = mended(closing, folder, mended(twice, folder, oldest))
+    for name, data in made.items():
+        check(name + ": by both commands", data, deck_bytes(name))
+
+
 @test
 def words_lists_within():
     """What the trying must see: lists with a y of each kind."""
@@ -186,12 +303,12 @@ def words_lists_within():
             (text.AT_LEAST, 3, [[1, 2, 0], [2, 1, 0], [2, 2, 1]]),
             (text.AT_MOST, 3, [[1, 1, 1], [1, 2, 0], [2, 1, 0]]),
             (text.EVEN, 2, [[2, 2, 2]])):
-        data = b"2 1 2 0 1 2 0 1 %d %d 2 1 1 2 1 0" % (kind, number)
+        data = b"2 1 2 0 0 1 2 0 0 1 %d %d 2 1 1 2 1 0" % (kind, number)
         problem = listing.problem_of(text.read(data))
         check("lists within, kind %d" % kind, lists_within(problem, 2), wanted)
 
 
-CURVES = b"3 1 1000000 6000 1 1000000 8000 1 1000000 2000 "
+CURVES = b"3 1 1000000 6000 6000 1 1000000 8000 8000 1 1000000 2000 2000 "
 EQUATION = b"0 3 1 1 2 1 3 -1 "
 
 
@@ -218,7 +335,7 @@ def texts_said_otherwise():
     """Document 02, (ii): “Two restated problems must now have the same ideals too”. The
     reader's ideals go by the rows of the text, so that other rows, which the same lists
     satisfy, may set others: a sum of both rows brings curve 3 beside curve 1."""
-    curves = b"4 1 100 0 1 100 0 1 100 7000 -50 50 0 2 0 0 2 2 1 3 -1 0 0 3 1 1 "
+    curves = b"4 1 100 0 0 1 100 0 0 1 100 7000 7000 -50 50 0 0 2 0 0 2 2 1 3 -1 0 0 3 1 1 "
     first = listing.problem_of(text.read(curves + b"2 -1 4 -1 0"))
     second = listing.problem_of(text.read(curves + b"3 -1 4 -1 0"))
     check("starting lists and bases", solved(second), solved(first))

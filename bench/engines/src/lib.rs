@@ -1,4 +1,4 @@
-//! Two unverified engines, to compare the proved one with: `plain` is written straight from document 01, `tuned` for speed.
+//! Two unverified engines, to compare the proved one with: `plain` is written straight from documents 01 and 02, `tuned` for speed.
 //! Both are called like `koralimbu_assign` and leave the same numbers; a `_form` call leaves the tableau alone.
 
 mod plain;
@@ -42,7 +42,8 @@ macro_rules! engine {
             rights: *const i64, rights_count: usize,
             lower: *const i64, lower_count: usize,
             upper: *const i64, upper_count: usize,
-            goals: *const i64, goals_count: usize,
+            low: *const i64, low_count: usize,
+            high: *const i64, high_count: usize,
             given: *const i64, given_count: usize,
             ideals: *const i64, ideals_count: usize,
             tableau: *mut i64, tableau_count: usize,
@@ -56,7 +57,8 @@ macro_rules! engine {
                 rights: from_raw_parts(rights, rights_count),
                 lower: from_raw_parts(lower, lower_count),
                 upper: from_raw_parts(upper, upper_count),
-                goals: from_raw_parts(goals, goals_count),
+                low: from_raw_parts(low, low_count),
+                high: from_raw_parts(high, high_count),
                 given: from_raw_parts(given, given_count),
                 ideals: from_raw_parts(ideals, ideals_count),
             };

@@ -1,4 +1,4 @@
-//! Document 01 as a careful programmer writes it down: the rules in their order, the moves in a list.
+//! Documents 01 and 02 as a careful programmer writes them down: the rules in their order, the moves in a list.
 
 use crate::problem::*;
 use std::cmp::Ordering;
@@ -183,17 +183,18 @@ fn distance(p: &Problem, j: usize, value: i64) -> i64 {
 /// Numerator and denominator of a ratio.
 type Ratio = (i64, i64);
 
-fn ratio(goal: i64, value: i64) -> Ratio {
-    let thousandths = 1000 * value;
-    if thousandths >= goal {
-        (thousandths, goal)
-    } else {
-        (goal, thousandths)
-    }
-}
-
 fn compare(a: Ratio, b: Ratio) -> Ordering {
     (a.0 * b.1).cmp(&(b.0 * a.1))
+}
+
+/// The larger of the ratios to both goals of column j.
+fn ratio(p: &Problem, j: usize, value: i64) -> Ratio {
+    let (over, short) = ((1000 * value, p.low[j]), (p.high[j], 1000 * value));
+    if compare(over, short).is_lt() {
+        short
+    } else {
+        over
+    }
 }
 
 fn rank_by_distance(p: &Problem, values: &[i64]) -> Vec<usize> {
@@ -203,8 +204,8 @@ fn rank_by_distance(p: &Problem, values: &[i64]) -> Vec<usize> {
 }
 
 fn rank_by_ratio(p: &Problem, values: &[i64]) -> Vec<usize> {
-    let mut wanted: Vec<usize> = (0..p.n).filter(|&j| p.goals[j] > 0).collect();
-    wanted.sort_by(|&i, &j| compare(ratio(p.goals[j], values[j]), ratio(p.goals[i], values[i])));
+    let mut wanted: Vec<usize> = (0..p.n).filter(|&j| p.low[j] > 0).collect();
+    wanted.sort_by(|&i, &j| compare(ratio(p, j, values[j]), ratio(p, i, values[i])));
     wanted
 }
 
@@ -219,7 +220,7 @@ fn improves_goals(p: &Problem, values: &[i64], changes: &Changes, old: Ratio) ->
     changes.iter().all(|&(j, change)| {
         let value = values[j] + change;
         let inside = p.lower[j] <= value && value <= p.upper[j];
-        inside && (p.goals[j] == 0 || compare(ratio(p.goals[j], value), old).is_lt())
+        inside && (p.low[j] == 0 || compare(ratio(p, j, value), old).is_lt())
     })
 }
 
@@ -232,7 +233,7 @@ fn bounds_step<'a>(p: &Problem, by_column: &[Vec<&'a Changes>], values: &[i64]) 
 
 fn goals_step<'a>(p: &Problem, by_column: &[Vec<&'a Changes>], values: &[i64]) -> Option<&'a Changes> {
     rank_by_ratio(p, values).into_iter().find_map(|i| {
-        let old = ratio(p.goals[i], values[i]);
+        let old = ratio(p, i, values[i]);
         by_column[i].iter().copied().find(|changes| improves_goals(p, values, changes, old))
     })
 }

@@ -28,7 +28,9 @@ pub struct Problem<'a> {
     pub rights: &'a [i64],
     pub lower: &'a [i64],
     pub upper: &'a [i64],
-    pub goals: &'a [i64],
+    /// 0 where there is no goal, as the high one then is.
+    pub low: &'a [i64],
+    pub high: &'a [i64],
     /// 0 where no ideal is handed in.
     pub given: &'a [i64],
     pub ideals: &'a [i64],
@@ -62,12 +64,20 @@ fn wrong_length(p: &Problem, lent: &Lent) -> bool {
         || p.rights.len() != p.m
         || p.lower.len() != p.n
         || p.upper.len() != p.n
-        || p.goals.len() != p.n
+        || p.low.len() != p.n
+        || p.high.len() != p.n
         || p.given.len() != p.n
         || p.ideals.len() != p.n
         || lent.tableau.len() != p.n * (p.m + p.n)
         || lent.values.len() != p.n
         || lent.strides.len() != p.n
+}
+
+/// Whether the goals of column j break their rule: both 0 or both set, low at most high, in range, and only with a lower bound of 1 or more.
+fn pair_outside(p: &Problem, j: usize) -> bool {
+    let (low, high) = (p.low[j], p.high[j]);
+    let set = low != 0;
+    !(0..=MAX_GOAL).contains(&low) || !(low..=MAX_GOAL).contains(&high) || set != (high != 0) || (set && p.lower[j] < 1)
 }
 
 /// The first of causes 1 to 6 that holds, 0 if none does.
@@ -82,11 +92,10 @@ pub fn first_cause(p: &Problem, lent: &Lent) -> u32 {
         return ROW_NUMBER_OUTSIDE;
     }
     let mut bounds = p.lower.iter().zip(p.upper);
-    if bounds.any(|(&low, &high)| outside(low, MAX_BOUND) || outside(high, MAX_BOUND) || low > high) {
+    if bounds.any(|(&lower, &upper)| outside(lower, MAX_BOUND) || outside(upper, MAX_BOUND) || lower > upper) {
         return BOUND_OUTSIDE;
     }
-    let mut goals = p.goals.iter().zip(p.lower);
-    if goals.any(|(&goal, &low)| !(0..=MAX_GOAL).contains(&goal) || (goal > 0 && low < 1)) {
+    if (0..p.n).any(|j| pair_outside(p, j)) {
         return GOAL_OUTSIDE;
     }
     if p.limit > MAX_LIMIT {
@@ -95,11 +104,11 @@ pub fn first_cause(p: &Problem, lent: &Lent) -> u32 {
     0
 }
 
-fn goal_ideal(goal: i64) -> i64 {
-    let k = goal / 1000;
+fn goal_ideal(low: i64, high: i64) -> i64 {
+    let k = (low * high).isqrt() / 1000;
     if k == 0 {
         1
-    } else if k * (k + 1) * 1_000_000 < goal * goal {
+    } else if k * (k + 1) * 1_000_000 < low * high {
         k + 1
     } else {
         k
@@ -108,8 +117,8 @@ fn goal_ideal(goal: i64) -> i64 {
 
 /// The ideal of column j; where it has no goal, the one handed in, and otherwise its present value.
 pub fn ideal(p: &Problem, j: usize, present: i64) -> i64 {
-    let wanted = if p.goals[j] > 0 {
-        goal_ideal(p.goals[j])
+    let wanted = if p.low[j] > 0 {
+        goal_ideal(p.low[j], p.high[j])
     } else if p.given[j] != 0 {
         p.ideals[j]
     } else {

@@ -3,7 +3,7 @@
 //! The answers are those of the proved engine in `libkoralimbu.a`; this package only lends it buffers. The usual call:
 //!
 //! ```
-//! let solved = koralimbu::solve_text("1\n3 5 0\n0\n0\n", 10_000)?;
+//! let solved = koralimbu::solve_text("1\n3 5 0 0\n0\n0\n", 10_000)?;
 //! assert_eq!(solved.values, [3]);
 //! # Ok::<(), koralimbu::Refusal>(())
 //! ```
@@ -11,9 +11,18 @@
 //! Rows that are no equations add columns of their own, behind the curves. A [`Deck`] knows how many columns are curves:
 //!
 //! ```
-//! let deck = koralimbu::Deck::read("2\n1 9 3000\n1 9 2000\n1\n3 1 2 1 1 2 1\n0\n")?;
+//! let deck = koralimbu::Deck::read("2\n1 9 3000 3000\n1 9 2000 2000\n1\n3 1 2 1 1 2 1\n0\n")?;
 //! let solved = deck.solve(10_000)?;
 //! assert_eq!(&solved.values[..deck.curves()], [4, 2]);
+//! # Ok::<(), koralimbu::Refusal>(())
+//! ```
+//!
+//! A curve has a low and a high goal. Where it belongs to one part both are the same; where two parts share it, a coarse one that wants 4 intervals
+//! and a fine one that wants 9, it is pulled to where both wishes are missed by the same factor:
+//!
+//! ```
+//! let solved = koralimbu::solve_text("2\n1 99 4000 9000\n1 99 4000 4000\n0\n0\n", 10_000)?;
+//! assert_eq!(solved.values, [6, 4]); // 6 is 1.5 times 4, and 9 is 1.5 times 6
 //! # Ok::<(), koralimbu::Refusal>(())
 //! ```
 //!
@@ -21,7 +30,7 @@
 //! and curve 3 on the other:
 //!
 //! ```
-//! let solved = koralimbu::solve_text("3\n1 99 4000\n1 99 3000\n1 99 9000\n0\n1\n2\n2 1 2\n1 3\n", 10_000)?;
+//! let solved = koralimbu::solve_text("3\n1 99 4000 4000\n1 99 3000 3000\n1 99 9000 9000\n0\n1\n2\n2 1 2\n1 3\n", 10_000)?;
 //! assert_eq!(solved.values, [5, 3, 8]);
 //! # Ok::<(), koralimbu::Refusal>(())
 //! ```
@@ -29,7 +38,7 @@
 //! The next step of a list can be seen before it is taken, with the columns that it changes:
 //!
 //! ```
-//! let deck = koralimbu::Deck::read("2\n1 9 0\n5 9 0\n1\n0 0 2 1 1 2 -1\n0\n")?;
+//! let deck = koralimbu::Deck::read("2\n1 9 0 0\n5 9 0 0\n1\n0 0 2 1 1 2 -1\n0\n")?;
 //! let next = koralimbu::next_step(&deck.problem(0), &[1, 1])?.expect("curve 2 lies below its bounds");
 //! assert_eq!(next.step.to_string(), "bounds part: +N1 for column 2");
 //! assert_eq!(next.after, [2, 2]);
@@ -42,7 +51,7 @@
 //! ```
 //! use koralimbu::{solve, Columns, Deck, Problem};
 //!
-//! let deck = Deck::read("3\n1 99 0\n1 99 6000\n1 99 9000\n1\n3 2 3 1 1 2 1 3 1\n0\n")?;
+//! let deck = Deck::read("3\n1 99 0 0\n1 99 6000 6000\n1 99 9000 9000\n1\n3 2 3 1 1 2 1 3 1\n0\n")?;
 //! let problem = deck.problem(10_000);
 //! assert_eq!(problem.columns.ideals, [Some(7), None, None, None]);
 //! assert_eq!(solve(&problem)?.values, [7, 6, 9, 11]);
@@ -50,8 +59,8 @@
 //! let columns = Columns { ideals: &[Some(11), None, None, None], ..problem.columns };
 //! assert_eq!(solve(&Problem { columns, ..problem })?.values, [11, 6, 9, 13]);
 //!
-//! let Columns { lower, upper, goals, .. } = problem.columns;
-//! let columns = Columns::new(lower, upper, goals);
+//! let Columns { lower, upper, low, high, .. } = problem.columns;
+//! let columns = Columns::new(lower, upper, low, high);
 //! assert_eq!(solve(&Problem { columns, ..problem })?.values, [1, 6, 9, 8]);
 //! # Ok::<(), koralimbu::Refusal>(())
 //! ```
@@ -78,22 +87,29 @@ pub use refusal::Refusal;
 pub use step::{basis, Change, Move, NextStep, Part, Sign, SignedVector, Step};
 pub use version::{version, VERSION};
 
-/// The bounds, the goal and the ideal of each column. There are as many columns as lower bounds.
+/// The bounds, the goals and the ideal of each column. There are as many columns as lower bounds.
 #[derive(Clone, Copy, Debug)]
 pub struct Columns<'a> {
     /// The lower bounds.
     pub lower: &'a [i64],
     /// The upper bounds.
     pub upper: &'a [i64],
-    /// In thousandths of an interval; 0 for none.
-    pub goals: &'a [i64],
+    /// The low goals, in thousandths of an interval; 0 for none.
+    ///
+    /// A column that belongs to one part has its goal as its low and its high one, so that the same slice may be lent as both. One that two parts
+    /// share has both their wishes, the smaller as its low and the larger as its high goal: its ratio at a value is the larger of the value by the
+    /// low goal and the high goal by the value.
+    pub low: &'a [i64],
+    /// The high goals: 0 where the low one is 0, and otherwise no less than that.
+    pub high: &'a [i64],
     /// What is handed in for each column, any number; `None` for nothing.
     ///
     /// Before its first step a whole assignment seats the columns: it adds each vector of the basis as often as brings its lead, the first column
     /// that it changes, nearest to that column's ideal. A column that leads no vector follows from the rows, and its ideal changes nothing. A column
-    /// with a goal has the ideal of its goal, and what is handed in for it is not used. Without a goal it has the number that is handed in, brought
-    /// into its bounds; where none is, the value that it has then, brought into its bounds. So `None` is not `Some(0)`. Continue and the preview
-    /// seat nothing: to them only the length of this list matters.
+    /// with a goal has the ideal of its two goals, the number of intervals with the least ratio, of two such the smaller, brought into its bounds;
+    /// what is handed in for it is not used. Without a goal it has the number that is handed in, brought into its bounds; where none is, the value
+    /// that it has then, brought into its bounds. So `None` is not `Some(0)`. Continue and the preview seat nothing: to them only the length of this
+    /// list matters.
     pub ideals: &'a [Option<i64>],
 }
 
@@ -102,10 +118,10 @@ static NO_IDEALS: [Option<i64>; MOST_COLUMNS] = [None; MOST_COLUMNS];
 
 impl<'a> Columns<'a> {
     /// Columns for which no ideal is handed in.
-    pub fn new(lower: &'a [i64], upper: &'a [i64], goals: &'a [i64]) -> Columns<'a> {
+    pub fn new(lower: &'a [i64], upper: &'a [i64], low: &'a [i64], high: &'a [i64]) -> Columns<'a> {
         // More columns are refused by their count, whatever is handed in.
         let count = lower.len().min(MOST_COLUMNS);
-        Columns { lower, upper, goals, ideals: &NO_IDEALS[..count] }
+        Columns { lower, upper, low, high, ideals: &NO_IDEALS[..count] }
     }
 }
 
@@ -198,7 +214,7 @@ pub struct PreviewBuffers<'a> {
 /// use koralimbu::*;
 ///
 /// // v1 + v2 = v3: no single vector lifts the first column to its lower bound and keeps the third at 5.
-/// let columns = Columns::new(&[1, 0, 5], &[9, 9, 5], &[0; 3]);
+/// let columns = Columns::new(&[1, 0, 5], &[9, 9, 5], &[0; 3], &[0; 3]);
 /// let problem = Problem { columns, rows: Rows { coefficients: &[1, 1, -1], rights: &[0] }, limit: 0 };
 /// let (mut tableau, mut after, mut strides) = ([0; 12], [0; 3], [0; 3]);
 /// let mut buffers = PreviewBuffers { tableau: &mut tableau, after: &mut after, strides: &mut strides };
@@ -224,8 +240,10 @@ pub struct DeckBuffers<'a> {
     pub lower: &'a mut [i64],
     /// [`DECK_COLUMNS`] numbers; afterwards the upper bounds.
     pub upper: &'a mut [i64],
-    /// [`DECK_COLUMNS`] numbers; afterwards the goals.
-    pub goals: &'a mut [i64],
+    /// [`DECK_COLUMNS`] numbers; afterwards the low goals.
+    pub low: &'a mut [i64],
+    /// [`DECK_COLUMNS`] numbers; afterwards the high goals.
+    pub high: &'a mut [i64],
     /// [`DECK_COLUMNS`] places; afterwards the ideals that the reader hands in.
     ///
     /// The neighbours of a curve are the curves with a goal that have a coefficient other than 0 in some row where it has one too. A curve without a
@@ -265,7 +283,8 @@ pub struct Deck {
     rights: Vec<i64>,
     lower: Vec<i64>,
     upper: Vec<i64>,
-    goals: Vec<i64>,
+    low: Vec<i64>,
+    high: Vec<i64>,
     ideals: Vec<Option<i64>>,
 }
 
@@ -278,7 +297,8 @@ impl Deck {
             rights: vec![0; DECK_ROWS],
             lower: vec![0; DECK_COLUMNS],
             upper: vec![0; DECK_COLUMNS],
-            goals: vec![0; DECK_COLUMNS],
+            low: vec![0; DECK_COLUMNS],
+            high: vec![0; DECK_COLUMNS],
             ideals: vec![None; DECK_COLUMNS],
         };
         let mut buffers = DeckBuffers {
@@ -286,16 +306,17 @@ impl Deck {
             rights: &mut deck.rights,
             lower: &mut deck.lower,
             upper: &mut deck.upper,
-            goals: &mut deck.goals,
+            low: &mut deck.low,
+            high: &mut deck.high,
             ideals: &mut deck.ideals,
         };
         let sizes = read_deck(text.as_ref(), &mut buffers)?;
         deck.curves = sizes.curves;
         deck.coefficients.truncate(sizes.rows * sizes.columns);
         deck.rights.truncate(sizes.rows);
-        deck.lower.truncate(sizes.columns);
-        deck.upper.truncate(sizes.columns);
-        deck.goals.truncate(sizes.columns);
+        for list in [&mut deck.lower, &mut deck.upper, &mut deck.low, &mut deck.high] {
+            list.truncate(sizes.columns);
+        }
         deck.ideals.truncate(sizes.columns);
         Ok(deck)
     }
@@ -313,7 +334,13 @@ impl Deck {
     /// The deck's problem with a step limit.
     pub fn problem(&self, limit: u32) -> Problem<'_> {
         Problem {
-            columns: Columns { lower: &self.lower, upper: &self.upper, goals: &self.goals, ideals: &self.ideals },
+            columns: Columns {
+                lower: &self.lower,
+                upper: &self.upper,
+                low: &self.low,
+                high: &self.high,
+                ideals: &self.ideals,
+            },
             rows: Rows { coefficients: &self.coefficients, rights: &self.rights },
             limit,
         }
@@ -322,7 +349,7 @@ impl Deck {
     /// A whole assignment of the deck. The curves' values are the first ones:
     ///
     /// ```
-    /// let deck = koralimbu::Deck::read("3\n1 99 3000\n1 99 3000\n1 99 3000\n1\n3 2 3 1 1 2 1 3 1\n0\n")?;
+    /// let deck = koralimbu::Deck::read("3\n1 99 3000 3000\n1 99 3000 3000\n1 99 3000 3000\n1\n3 2 3 1 1 2 1 3 1\n0\n")?;
     /// let solved = deck.solve(10_000)?;
     /// let (curves, added) = solved.values.split_at(deck.curves());
     /// assert_eq!(curves, [3, 3, 4]);

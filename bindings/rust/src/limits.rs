@@ -28,7 +28,7 @@ pub const RANGE_COEFFICIENT: i64 = 1_000;
 pub const RANGE_RIGHT: i64 = 1_000_000;
 /// How far a bound may lie from 0, to both sides.
 pub const RANGE_BOUND: i64 = 1_000_000;
-/// The highest goal, in thousandths of an interval.
+/// The highest goal, low or high, in thousandths of an interval.
 pub const RANGE_GOAL: i64 = 1_000_000_000;
 /// Document 01's M: how far a number of the elimination and a value may lie from 0, to both sides.
 pub const M: i64 = 2_147_483_647;

@@ -15,7 +15,8 @@ pub enum Refusal {
     Coefficient,
     /// 4: a bound is out of its range, or a lower bound is above its upper bound.
     Bound,
-    /// 5: a goal is out of its range, or stands with a lower bound below 1.
+    /// 5: a low or a high goal is out of its range, just one of the two is 0, the low one is above the high one, or they are set with a lower bound
+    /// below 1.
     Goal,
     /// 6: the step limit is above [`MOST_STEPS`](crate::MOST_STEPS).
     Limit,
@@ -96,7 +97,10 @@ impl Refusal {
                 "a coefficient is beyond ±1,000, a row's number beyond ±1,000,000, or a least half is not 0 to 1,000,000"
             }
             Bound => "a bound is beyond ±1,000,000, or a lower bound is above its upper bound",
-            Goal => "a goal is not 0 to 1,000,000,000, or stands on a curve whose lower bound is below 1",
+            Goal => {
+                "a low or a high goal is not 0 to 1,000,000,000, just one of the two is 0, the low one is above the high one, \
+                 or they stand on a curve whose lower bound is below 1"
+            }
             Limit => "the step limit is above 65,535",
             Elimination => {
                 "the rows' coefficients grow beyond 2,147,483,647 in the elimination: scale them down or split the deck"

@@ -13,7 +13,8 @@ struct Posed {
     rights: Vec<i64>,
     lower: Vec<i64>,
     upper: Vec<i64>,
-    goals: Vec<i64>,
+    low: Vec<i64>,
+    high: Vec<i64>,
     ideals: Vec<Option<i64>>,
     limit: u32,
 }
@@ -25,15 +26,32 @@ impl Posed {
             rights: rights.to_vec(),
             lower: vec![lower; n],
             upper: vec![upper; n],
-            goals: vec![0; n],
+            low: vec![0; n],
+            high: vec![0; n],
             ideals: vec![None; n],
             limit: LIMIT,
         }
     }
 
+    /// The same with these goals, each as a low and as a high one.
+    fn wanting(self, goals: &[i64]) -> Posed {
+        self.between(goals, goals)
+    }
+
+    /// The same with these low and high goals.
+    fn between(self, low: &[i64], high: &[i64]) -> Posed {
+        Posed { low: low.to_vec(), high: high.to_vec(), ..self }
+    }
+
     fn problem(&self) -> Problem<'_> {
         Problem {
-            columns: Columns { lower: &self.lower, upper: &self.upper, goals: &self.goals, ideals: &self.ideals },
+            columns: Columns {
+                lower: &self.lower,
+                upper: &self.upper,
+                low: &self.low,
+                high: &self.high,
+                ideals: &self.ideals,
+            },
             rows: Rows { coefficients: &self.coefficients, rights: &self.rights },
             limit: self.limit,
         }
@@ -128,8 +146,7 @@ fn fitted_with_every_buffer() {
 
 #[test]
 fn fitted_towards_the_goals() {
-    let mut posed = Posed::new(&[&[3, -2]], &[0], 2, 1, 100);
-    posed.goals = vec![2500, 4000];
+    let posed = Posed::new(&[&[3, -2]], &[0], 2, 1, 100).wanting(&[2500, 4000]);
     let solved = solve(&posed.problem()).unwrap();
     assert_eq!((solved.verdict, solved.steps), (Verdict::Fitted, Steps { bounds: 0, goals: 1 }));
     assert_eq!((solved.values, solved.strides), (vec![2, 3], vec![2, 3]));
@@ -158,9 +175,9 @@ fn no_rows() {
 }
 
 #[test]
-fn one_list_as_both_bounds() {
-    let fixed = [4, 4];
-    let columns = Columns::new(&fixed, &fixed, &[0, 0]);
+fn one_list_as_both_bounds_and_one_as_both_goals() {
+    let (fixed, goals) = ([4, 4], [9000, 0]);
+    let columns = Columns::new(&fixed, &fixed, &goals, &goals);
     let problem = Problem { columns, rows: Rows { coefficients: &[1, -1], rights: &[0] }, limit: LIMIT };
     assert_eq!(solve(&problem).unwrap().values, [4, 4]);
 }
@@ -178,11 +195,47 @@ fn the_largest_problem() {
     assert_eq!((lent.values, lent.strides), (vec![0; MOST_COLUMNS], vec![1; MOST_COLUMNS]));
 }
 
+// ---------------------------------------------------------------- goals
+
+/// The value of one column in wide bounds, by its ideal.
+fn wanted(low: i64, high: i64) -> i64 {
+    let solved = solve(&Posed::new(&[], &[], 1, 1, RANGE_BOUND).between(&[low], &[high]).problem()).unwrap();
+    assert_eq!((solved.verdict, solved.steps), (Verdict::Fitted, Steps { bounds: 0, goals: 0 }));
+    solved.values[0]
+}
+
+#[test]
+fn the_ideal_of_two_goals() {
+    // Not 4, not 9 and not 6.5, rounded up or down.
+    assert_eq!((wanted(4000, 9000), wanted(1000, 9000), wanted(9000, 24_000)), (6, 3, 15));
+    // From one number of intervals to the next at k(k + 1).
+    for (low, high, ideal) in [(1000, 2000, 1), (1000, 2001, 2), (2000, 3000, 2), (2000, 3001, 3), (1, 2_000_001, 2)] {
+        assert_eq!(wanted(low, high), ideal);
+    }
+    assert_eq!((wanted(1, 1), wanted(1, 999_999), wanted(1, RANGE_GOAL)), (1, 1, 32));
+    assert_eq!((wanted(RANGE_GOAL - 1, RANGE_GOAL), wanted(RANGE_GOAL, RANGE_GOAL)), (RANGE_BOUND, RANGE_BOUND));
+    // Document 01's, of one goal.
+    for (goal, ideal) in [(400, 1), (1414, 1), (1415, 2), (2449, 2), (2450, 3)] {
+        assert_eq!(wanted(goal, goal), ideal);
+    }
+}
+
+/// v1 = v2, where v1 wants 4 to 9 and is seated at 6.
+#[test]
+fn the_ratio_to_two_goals() {
+    for (other, value, steps) in [(6000, 6, 0), (8000, 6, 0), (12_000, 7, 1), (3000, 5, 1), (30_000, 11, 5)] {
+        let posed = Posed::new(&[&[1, -1]], &[0], 2, 1, 99).between(&[4000, other], &[9000, other]);
+        let solved = solve(&posed.problem()).unwrap();
+        assert_eq!((solved.values, solved.steps), (vec![value; 2], Steps { bounds: 0, goals: steps }));
+        assert_eq!(run(&posed, &[6, 6]).1, [value; 2]);
+    }
+}
+
 // ---------------------------------------------------------------- ideals
 
 /// One column with bounds 3 and 7, no rows, and this goal and ideal: its value in a whole assignment.
 fn seated(goal: i64, ideal: Option<i64>) -> i64 {
-    let posed = Posed { goals: vec![goal], ideals: vec![ideal], ..Posed::new(&[], &[], 1, 3, 7) };
+    let posed = Posed { ideals: vec![ideal], ..Posed::new(&[], &[], 1, 3, 7).wanting(&[goal]) };
     let solved = solve(&posed.problem()).unwrap();
     assert_eq!((solved.verdict, solved.steps), (Verdict::Fitted, Steps { bounds: 0, goals: 0 }));
     solved.values[0]
@@ -218,9 +271,8 @@ fn an_ideal_is_not_used_with_a_goal() {
 
 /// v1 + v2 = 2 v3, where v1 wants 5. That leaves 5 for v2, which can only change by 2.
 fn halved(ideal: Option<i64>) -> Vec<i64> {
-    let mut posed = Posed::new(&[&[1, 1, -2]], &[0], 3, -9, 9);
+    let mut posed = Posed::new(&[&[1, 1, -2]], &[0], 3, -9, 9).wanting(&[5000, 0, 0]);
     posed.lower[0] = 1;
-    posed.goals[0] = 5000;
     posed.ideals[1] = ideal;
     solve(&posed.problem()).unwrap().values
 }
@@ -256,14 +308,14 @@ fn the_largest_problem_with_ideals() {
 #[test]
 fn columns_without_ideals() {
     let posed = Posed::tied();
-    let columns = Columns::new(&posed.lower, &posed.upper, &posed.goals);
+    let columns = Columns::new(&posed.lower, &posed.upper, &posed.low, &posed.high);
     assert_eq!(columns.ideals, [None, None]);
     assert_eq!(solve(&Problem { columns, ..posed.problem() }), solve(&posed.problem()));
     let list = [1; 1000];
     let most = &list[..MOST_COLUMNS];
-    assert_eq!(Columns::new(most, most, most).ideals, [None; MOST_COLUMNS]);
+    assert_eq!(Columns::new(most, most, most, most).ideals, [None; MOST_COLUMNS]);
     for n in [0, MOST_COLUMNS + 1, 1000] {
-        let columns = Columns::new(&list[..n], &list[..n], &list[..n]);
+        let columns = Columns::new(&list[..n], &list[..n], &list[..n], &list[..n]);
         assert_eq!(solve(&Problem { columns, ..Posed::new(&[], &[], n, 1, 1).problem() }), Err(Refusal::Size));
     }
 }
@@ -271,7 +323,7 @@ fn columns_without_ideals() {
 /// Continue and the preview seat nothing: their answers and buffers are those of the same problem without ideals.
 #[test]
 fn ideals_leave_continue_and_the_preview_alone() {
-    let posed = Posed { goals: vec![0, 8000], ..Posed::tied() };
+    let posed = Posed::tied().wanting(&[0, 8000]);
     let wanted = run(&posed, &[1, 1]);
     assert_eq!((wanted.0.len(), &wanted.1), (7, &vec![8, 8]));
     let settled = solve_from(&posed.problem(), &[1, 1]);
@@ -387,8 +439,7 @@ fn a_step_by_two_vectors() {
 
 #[test]
 fn a_step_towards_the_goals() {
-    let mut posed = Posed::new(&[&[3, -2]], &[0], 2, 1, 100);
-    posed.goals = vec![2500, 4000];
+    let posed = Posed::new(&[&[3, -2]], &[0], 2, 1, 100).wanting(&[2500, 4000]);
     let step = Step { part: Part::Goals, column: 0, by: Move { first: minus(0), second: None } };
     assert_eq!(previewed(&posed, &[4, 6]), Ok((vec![2, 3], Some(step))));
 }
@@ -405,7 +456,7 @@ fn no_move_improves() {
 /// Previews taken one after the other are the run: the bounds part first, then the goals part.
 #[test]
 fn a_run_of_both_parts() {
-    let posed = Posed { goals: vec![8000, 8000], ..Posed::tied() };
+    let posed = Posed::tied().wanting(&[8000, 8000]);
     let (steps, values) = run(&posed, &[1, 1]);
     let parts: Vec<Part> = steps.iter().map(|step| step.part).collect();
     assert_eq!(parts, [vec![Part::Bounds; 4], vec![Part::Goals; 3]].concat());
@@ -462,7 +513,11 @@ fn refusal_2_a_wrong_length() {
     all_refuse(&posed, &Lent { strides: vec![], ..lent.clone() }, Refusal::Length);
     all_refuse(&Posed { coefficients: vec![1], ..posed.clone() }, &lent, Refusal::Length);
     all_refuse(&Posed { upper: vec![10; 3], ..posed.clone() }, &lent, Refusal::Length);
-    all_refuse(&Posed { goals: vec![], ..posed.clone() }, &lent, Refusal::Length);
+    all_refuse(&Posed { low: vec![], ..posed.clone() }, &lent, Refusal::Length);
+    all_refuse(&Posed { high: vec![], ..posed.clone() }, &lent, Refusal::Length);
+    // As many numbers together as there must be.
+    all_refuse(&posed.clone().between(&[0], &[0; 3]), &lent, Refusal::Length);
+    all_refuse(&posed.clone().between(&[0; 3], &[0]), &lent, Refusal::Length);
     for length in [0, 1, 3, MOST_COLUMNS, MOST_COLUMNS + 1, 1000] {
         all_refuse(&Posed { ideals: vec![None; length], ..posed.clone() }, &lent, Refusal::Length);
         all_refuse(&Posed { ideals: vec![Some(i64::MAX); length], ..posed.clone() }, &lent, Refusal::Length);
@@ -482,7 +537,7 @@ fn refusal_2_comes_after_1_and_before_the_others() {
     for worse in [
         Posed { coefficients: vec![1, RANGE_COEFFICIENT + 1], ..posed.clone() },
         Posed { lower: vec![1, 11], ..posed.clone() },
-        Posed { goals: vec![0, -1], ..posed.clone() },
+        posed.clone().wanting(&[0, -1]),
         Posed { limit: MOST_STEPS + 1, ..posed.clone() },
         Posed { rights: vec![1], ..posed.clone() },
     ] {
@@ -516,8 +571,22 @@ fn refusal_4_a_bound() {
 #[test]
 fn refusal_5_a_goal() {
     let lent = Lent::marked(&Posed::tied());
-    all_refuse(&Posed { goals: vec![0, -1], ..Posed::tied() }, &lent, Refusal::Goal);
-    all_refuse(&Posed { lower: vec![0, 5], goals: vec![1, 0], ..Posed::tied() }, &lent, Refusal::Goal);
+    let beyond = RANGE_GOAL + 1;
+    let outside = [(-1, -1), (-1, 0), (0, -1), (-1, 1), (1, -1), (1, beyond), (beyond, beyond), (i64::MIN, i64::MAX)];
+    let alone = [(0, 1), (1, 0), (0, RANGE_GOAL), (RANGE_GOAL, 0)];
+    let above = [(2, 1), (RANGE_GOAL, RANGE_GOAL - 1), (i64::MAX, 1)];
+    for (low, high) in outside.into_iter().chain(alone).chain(above) {
+        all_refuse(&Posed::tied().between(&[0, low], &[0, high]), &lent, Refusal::Goal);
+        all_refuse(&Posed::tied().between(&[low, 4000], &[high, 9000]), &lent, Refusal::Goal);
+    }
+    // They are set with a lower bound below 1.
+    for (lower, high) in [(0, 1), (0, 9000), (-3, 1), (-3, 9000)] {
+        let posed = Posed::tied().between(&[1, 0], &[high, 0]);
+        all_refuse(&Posed { lower: vec![lower, 5], ..posed }, &lent, Refusal::Goal);
+    }
+    for (low, high) in [(0, 0), (1, 1), (1, RANGE_GOAL), (RANGE_GOAL, RANGE_GOAL)] {
+        assert!(solve(&Posed::tied().between(&[0, low], &[0, high]).problem()).is_ok());
+    }
 }
 
 #[test]
@@ -545,12 +614,11 @@ fn refusal_8_no_whole_numbers() {
 
 #[test]
 fn refusal_9_seating() {
-    let mut posed = Posed::chain(3, 1, 1_000_000);
-    posed.goals[0] = 1_000_000_000;
+    let mut posed = Posed::chain(3, 1, 1_000_000).wanting(&[RANGE_GOAL, 0, 0]);
     let form = [1, 0, 0, -1, -1000, 0, 1, 0, 0, -1, 0, 0, 1, 1000, 1_000_000];
     assign_refuses(&posed, Refusal::Seating, &form);
     // An ideal can do the same, though the bounds hold it back.
-    posed.goals[0] = 0;
+    posed = posed.wanting(&[0; 3]);
     posed.ideals[0] = Some(i64::MAX);
     assign_refuses(&posed, Refusal::Seating, &form);
     posed.ideals[0] = Some(2);

@@ -1,4 +1,4 @@
-//! Document 01 for speed: the form in place, no list of moves, and each move tried once in a step.
+//! Documents 01 and 02 for speed: the form in place, no list of moves, and each move tried once in a step.
 
 mod basis;
 mod columns;

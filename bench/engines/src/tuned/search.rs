@@ -63,7 +63,7 @@ impl<const GOALS: bool> Search<'_, GOALS> {
     fn passes(&self, j: usize, value: i64) -> bool {
         let column = &self.columns.all[j];
         if GOALS {
-            column.lower <= value && value <= column.upper && (column.goal == 0 || column.ratio(value).below(self.old))
+            column.lower <= value && value <= column.upper && (column.low == 0 || column.ratio(value).below(self.old))
         } else {
             column.distance(value) < self.old.top && value.abs() <= M
         }
