@@ -235,14 +235,14 @@ def property_assignments_by_pairs():
     right = [assigned(problem) for problem in problems]
     for problem, wanted in zip(problems, right):
         check("an assignment by pairs", answered(problem), wanted)
-    for part, wrong in (("of_pair", WRONG_IDEALS), ("ratio", WRONG_RATIOS)):
+    # an ideal of 0 would be brought up to the lower bound, so that it does not show
+    ideals = [wrong for wrong in WRONG_IDEALS if wrong[0] != "0 for k = 0"]
+    for part, wrong in (("of_pair", ideals), ("ratio", WRONG_RATIOS)):
         for what, rule in wrong:
             found = sum(assigned(problem, **{part: rule}) != wanted
                         for problem, wanted in zip(problems, right))
-            # an ideal of 0 is brought up to the lower bound, which is 1 or more
-            least = 0 if what == "0 for k = 0" else 8
-            check("wrong and told apart: %s %s, %d times" % (part, what, found),
-                  found >= least, True)
+            check("wrong and told apart: %s %s, %d times" % (part, what, found), found >= 8,
+                  True)
 
 
 @test
@@ -543,11 +543,24 @@ def older_sketches(seed, count):
             yield sketch
 
 
+def older_listing(problem):
+    """The lines of a listing by document 01's rules; None past the elimination limit."""
+    done = assigned(problem, of_one_goal(older_ideal), of_one_goal(older_ratio))
+    if done is None:
+        return None
+    (outcome, bounds_count, goals_count), values = done
+    if isinstance(outcome, int):
+        return listing.refusal_lines(outcome)
+    _, basis = solved(problem)
+    return listing.verdict_lines(outcome, bounds_count, goals_count,
+                                 Lent([], values, engine.strides_of(basis, problem.n)))
+
+
 @test
 def older_texts_keep_their_listings():
     """Each goal written twice: the reader's buffers have the goal in both lists, its ideals
     are the means of document 01's, and the listing is that by document 01's rules."""
-    made = with_ideals = 0
+    made = {"listings": 0, "ideals of the reader's": 0, "steps towards the goals": 0}
     for sketch in older_sketches(68, 500):
         older = older_text(sketch)
         deck = text.read(renewed(older))
@@ -556,16 +569,17 @@ def older_texts_keep_their_listings():
                                               deck.high[:deck.intervals]), (goals, goals))
         check("the reader's ideals of an older text", ideals_of(deck),
               plain_wishes(deck, of_pair=of_one_goal(older_ideal)))
-        problem = listing.problem_of(deck)
-        problem.limit = 25
-        wanted = assigned(problem, of_one_goal(older_ideal), of_one_goal(older_ratio))
-        if wanted is None:
+        lines = listing.listing_lines(renewed(older))
+        # the word in front, and where there is a verdict the counts of steps
+        steps = [int(word) for word in lines[0].split()[1:]]
+        if lines == ["REFUSED 7"] or sum(steps) > 40:
             continue
-        check("an older text's answer", answered(problem), wanted)
-        made += 1
-        with_ideals += any(deck.given)
-    check("older texts, %d" % made, made >= 150, True)
-    check("older texts with ideals of the reader's, %d" % with_ideals, with_ideals >= 40, True)
+        check("an older text's listing", lines, older_listing(listing.problem_of(deck)))
+        made["listings"] += 1
+        made["ideals of the reader's"] += any(deck.given)
+        made["steps towards the goals"] += steps[-1:] > [0] and len(steps) == 2
+    for what, count in made.items():
+        check("older texts with %s, %d" % (what, count), count >= 40, True)
 
 
 @test

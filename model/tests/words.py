@@ -1,6 +1,7 @@
 """What decks/README.md says of OUTSIDE and FITTED, of a hold that is swept and of curves that
 belong to two parts, held to the sample decks, and what README.md says of rows that are said
-otherwise, of texts with plain curves that is less, and of older texts.
+otherwise; of texts with plain curves that is less. README.md's commands for older texts are
+run on the sample decks as they were.
 
 Both words say that no single vector of the basis and no pair of them improves. That no
 list within the bounds exists, or no better one, they do not say; here all are tried.
@@ -42,15 +43,19 @@ def lists_named(said):
             for found in re.findall(r"`(\d+(?: \d+)+)`", said)]
 
 
+def contents(*path):
+    with open(os.path.join(*path), "rb") as file:
+        return file.read()
+
+
+def deck_names():
+    """The names of the sample decks."""
+    return sorted(os.path.basename(path)[:-len(".txt")]
+                  for path in glob.glob(os.path.join(DECKS, "*.txt")))
+
+
 def deck_bytes(name):
-    with open(os.path.join(DECKS, name + ".txt"), "rb") as file:
-        return file.read()
-
-
-def listed(name):
-    """A sample deck's listing as it lies beside it."""
-    with open(os.path.join(DECKS, name + ".listing"), "rb") as file:
-        return file.read()
+    return contents(DECKS, name + ".txt")
 
 
 def sample(name):
@@ -224,9 +229,7 @@ def two_parts():
         check(name + ": the page says " + words, words in said, True)
     means = [(problem.low[j] + problem.high[j]) / 2000 for j in apart]
     check(name + ": the means", "their means, %g and %g, " % tuple(means) in said, True)
-    others = [os.path.basename(path)[:-len(".txt")] for path in
-              sorted(glob.glob(os.path.join(DECKS, "*.txt")))]
-    read = {other: text.read(deck_bytes(other)) for other in others}
+    read = {other: text.read(deck_bytes(other)) for other in deck_names()}
     check("decks whose goals differ", [other for other, deck in read.items() if
                                        not isinstance(deck, int) and deck.low != deck.high], [name])
 
@@ -264,7 +267,7 @@ def mended(command, folder, texts):
     subprocess.run(["sh", "-c", command.replace("FOLDER", "'%s'" % folder)], check=True)
     left = sorted(os.listdir(folder))
     check("files after the command", left, sorted(name + ".txt" for name in texts))
-    return {name[:-len(".txt")]: open(os.path.join(folder, name), "rb").read() for name in left}
+    return {name: contents(folder, name + ".txt") for name in texts}
 
 
 @test
@@ -275,10 +278,8 @@ def older_texts_by_commands():
         needs.left_out("README.md's commands for older texts", "no sh, awk or sed")
         return
     twice, closing = commands()
-    names = [os.path.basename(path)[:-len(".txt")] for path in
-             glob.glob(os.path.join(DECKS, "*.txt"))]
-    older = {name: data for name, data in ((n, older_deck(n)) for n in names) if data}
-    check("older decks", len(older), len(names) - 1)
+    older = {name: older_deck(name) for name in deck_names() if older_deck(name)}
+    check("older decks", len(older), len(deck_names()) - 1)
     scattered = {"scattered " + name: b"\n  " + b" \n\n ".join(data.split()) for name, data in
                  older.items()}
     for what, texts in (("as laid out", older), ("scattered", scattered)):
@@ -287,7 +288,8 @@ def older_texts_by_commands():
         for name, data in made.items():
             deck = name.replace("scattered ", "")
             check("%s, %s: its words" % (name, what), data.split(), deck_bytes(deck).split())
-            check("%s, %s: its listing" % (name, what), listing.listing(data), listed(deck))
+            check("%s, %s: its listing" % (name, what), listing.listing(data),
+                  contents(DECKS, deck + ".listing"))
     oldest = {name: data[:-len(b"0\n")] for name, data in older.items() if data.endswith(b"\n0\n")}
     check("decks without volumes", len(oldest), len(older) - 1)
     with tempfile.TemporaryDirectory() as folder:
