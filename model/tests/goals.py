@@ -177,6 +177,19 @@ def ratios_of_pairs():
               differing(cases, rule, plain_ratio) >= 100, True)
 
 
+@test
+def ideals_have_the_least_ratio():
+    """What the header says of the ideal: no count of intervals has a smaller ratio, and no
+    smaller count one as small."""
+    for low, high in random_pairs(63, 1000):
+        ideal = engine.goal_ideal(low, high)
+        least = plain_ratio(low, high, ideal)
+        for v in range(max(1, ideal - 3), ideal + 4):
+            here = plain_ratio(low, high, v)
+            check("%d beside the ideal of %d and %d" % (v, low, high),
+                  here > least if v < ideal else here >= least, True)
+
+
 # ------------------------------------------------------------- whole assignments
 
 def assigned(problem, of_pair=plain_goal_ideal, ratio=plain_ratio):
