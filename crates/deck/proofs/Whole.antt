@@ -3,7 +3,7 @@
 --   RowsFound, rows-found, -refused             what the section of rows answered; few-lines, which are not too many
 --   VolumesFound, volumes-found, -refused       what the section of volumes answered
 --   left-some, left-none                        what is left of the text
---   afterVolumes, deck-read                     a deck by its section of volumes, where the others are read
+--   made                                        a deck of its sections; deck-read, by its section of volumes, where the others are read
 --   deck-intervals, -rows, -volumes, left-over  a deck whose sections are refused, or that something is left behind
 --   Parts, deck-parts                           the sections of a deck that is read; deck-within: its intervals lie within the limits
 --   stored                                      a deck that is read, in the tables
@@ -171,11 +171,11 @@ closed-not a at End h = absurd (subst T h tt)
 closed-not a at (Found t e) h = refl
 
 -- ---- a deck is its sections, one after the other
-abbrev made : List Interval → List Line → List Volume → Deck
+abbrev pub made : List Interval → List Line → List Volume → Deck
 made is ls vs = record { intervals = is; lines = ls; volumes = vs }
 
 module _ (s : List ℕ) where
-  abbrev pub afterVolumes : List Interval → List Line → Outcome (List Volume) → Outcome Deck
+  abbrev afterVolumes : List Interval → List Line → Outcome (List Volume) → Outcome Deck
   afterVolumes is ls o = then o (λ vs at. closed s (made is ls vs) at)
 
   abbrev afterRows : List Interval → Outcome (List Line) → Outcome Deck
@@ -214,7 +214,7 @@ module _ (s : List ℕ) where
   deck-within : (d : Deck) (e : ℕ) → deck s ≡ ok d e → Within (d .intervals)
   deck-within d e h = let p = deck-parts d e h in section-within s 0 (p .first) (d .intervals) (p .intervals)
 
-  pub deck-read : (is : List Interval) (ls : List Line) (p q : ℕ) → intervalSection s 0 ≡ ok is p → rowSection s (length is) p ≡ ok ls q
+  deck-read : (is : List Interval) (ls : List Line) (p q : ℕ) → intervalSection s 0 ≡ ok is p → rowSection s (length is) p ≡ ok ls q
       → deck s ≡ afterVolumes is ls (volumeSection s (length is) (length ls) q)
   deck-read is ls p q e f = ap afterIntervals e ∙ ap (afterRows is) f
 

@@ -1,20 +1,26 @@
--- A text that has from a place on what another has, and more behind it, is read as that other is.
---   Goes s at z w p                    from the place p on the text w has the tokens of s from the place at on, and then z
---   Kept o a s e z w                   the outcome o is a, and from its place on w goes so from the place e of s on
---   Extends f                          what the rule f reads of a text it reads of every one that goes so
---   ok-extends, no-extends             a rule that reads nothing; is-extends, not-extends, by a test that holds or that fails
---   then-extends                       one rule after the other
---   number-extends, within-extends     a number
---   interval-extends, intervals-extend, kind-, row-, coefficient-, term-, terms-, line-, lines-   the parts of the sections
---   interval-section-extends, row-section-extends   the sections
+-- A text that has what is made of another's tokens is read as that other is.
+--   Rule A             reads an A of a text, from a place on
+--   Change             what is made of tokens
+--   Kept o a ts w      the outcome o is a, and from its place on the text w has the tokens ts
+--   Carries F f g G    what the rule f reads of a text, g reads of every text that has F of its tokens from there on; where that is a, the second
+--                      has G a of the first one's tokens behind it
+--   Extends z f        what f reads of a text it reads of every text that has its tokens from there on, and then z
+--   Was f a            f read a somewhere
+--   ok-carries, no-carries             a rule that reads nothing; is-carries, not-carries, by a test that holds or that fails
+--   then-carries                       one rule after the other
+--   number-carries, within-carries     a number
+--   within-extends, no-less-extends    the same, with more behind it
+--   kind-extends, row-, coefficient-, term-, terms-, line-, lines-   the parts of the section of rows
+--   row-section-extends                the section
 -- Assumes nothing.
-use mathlib.Core.Path.{_≡_, refl, _∙_, ap, subst}
+use mathlib.Core.Path.{_≡_, refl, _∙_, ap}
 use mathlib.Core.Bool.{Bool, true, false, cond}
 use mathlib.Core.List.{List, [], _∷_, _++_}
 use Prim.Native.Nat.{ℕ, zero, suc, _+_}
 use lib.Dec.{ltb}
 use lib.IntN.{ℤ, pos, natAbs, negℤ}
 use lib.ListN.{drop}
+use lib.Signed.{leZ}
 use Rattle.whole.specs.Tests.{isZero, inRange}
 use Rattle.text.specs.Tokens.{tokens}
 use Rattle.text.specs.Positions.{nextAt}
@@ -22,147 +28,149 @@ use Rattle.text.specs.declared.Token.{Token}
 use Rattle.text.specs.declared.Token.the-variants.{Number, Bad}
 use Rattle.text.specs.declared.Next.{Next}
 use Rattle.text.specs.declared.Next.the-variants.{Found, End}
-use Rattle.text.proofs.Scanning.{Met, tokens-found, found-token}
-use Rattle.problem.specs.Limits.{maxCoefficient, maxRight, maxBound}
+use Rattle.text.proofs.Scanning.{tokens-found, found-token}
+use Rattle.problem.specs.Limits.{maxCoefficient, maxRight}
 use Rattle.problem.specs.Kinds.{slackCount}
 use Rattle.problem.specs.declared.Refusal.{Refusal}
-use Rattle.problem.specs.declared.Refusal.the-variants.{Size, Coefficient, Bound, Goal, Term as WrongTerm}
-use Rattle.sections.specs.Rules.{Outcome, ok, no, then, onNumber, number, within}
-use Rattle.sections.specs.Sections.{deckColumns, deckRows, spanning, upperFrom, topGoal, topHigh, highFrom, interval, intervals}
-use Rattle.sections.specs.Sections.{intervalSection, rowOf, kindOf, kindNumber, leastNumber, row, coefficient, term, terms, Line}
+use Rattle.problem.specs.declared.Refusal.the-variants.{Size, Coefficient, Term as WrongTerm}
+use Rattle.sections.specs.Rules.{Outcome, ok, no, then, onNumber, number, within, noLess}
+use Rattle.sections.specs.Sections.{deckColumns, deckRows, rowOf, kindOf, kindNumber, leastNumber, row, coefficient, term, terms, Line}
 use Rattle.sections.specs.Sections.{line, lines, rowSection}
-use Rattle.sections.specs.declared.Interval.{Interval}
 use Rattle.sections.specs.declared.Term.{Term}
 use Rattle.sections.proofs.Numbers.{same-ok, ok-not-no, Then, then-ok}
 
-abbrev pub Goes : List ℕ → ℕ → List Token → List ℕ → ℕ → Type 0
-Goes s at z w p = tokens (drop p w) ≡ tokens (drop at s) ++ z
+abbrev pub Rule : Type 0 → Type 0
+Rule A = List ℕ → ℕ → Outcome A
 
-pub record Kept {A : Type 0} (o : Outcome A) (a : A) (s : List ℕ) (e : ℕ) (z : List Token) (w : List ℕ) : Type 0 where
+abbrev pub Change : Type 0
+Change = List Token → List Token
+
+pub record Kept {A : Type 0} (o : Outcome A) (a : A) (ts : List Token) (w : List ℕ) : Type 0 where
   pub end : ℕ
   pub read : o ≡ ok a end
-  pub goes : Goes s e z w end
+  pub rest : tokens (drop end w) ≡ ts
 
-pub record Extends {A : Type 0} (f : List ℕ → ℕ → Outcome A) : Type 0 where
-  pub kept : (s w : List ℕ) (z : List Token) (a : A) (at p e : ℕ) → Goes s at z w p → f s at ≡ ok a e → Kept (f w p) a s e z w
+pub record Carries {A : Type 0} (F : Change) (f g : Rule A) (G : A → Change) : Type 0 where
+  pub kept : (s w : List ℕ) (a : A) (at p e : ℕ) → tokens (drop p w) ≡ F (tokens (drop at s)) → f s at ≡ ok a e
+      → Kept (g w p) a (G a (tokens (drop e s))) w
+
+abbrev pub Extends : {A : Type 0} → List Token → Rule A → Type 0
+Extends z f = Carries (λ ts. ts ++ z) f f (λ a ts. ts ++ z)
+
+pub record Was {A : Type 0} (f : Rule A) (a : A) : Type 0 where
+  pub text : List ℕ
+  pub at : ℕ
+  pub end : ℕ
+  pub read : f text at ≡ ok a end
 
 -- ---- what reads nothing
-ok-extends : {A : Type 0} (a : A) → Extends (λ s at. ok a at)
-ok-extends a = record {
-  kept = λ s w z b at p e g h.
+pub ok-carries : {A : Type 0} {G : A → Change} (a : A) → Carries (G a) (λ s at. ok a at) (λ s at. ok a at) G
+ok-carries {G = G} a = record {
+  kept = λ s w b at p e g h.
       let q : at ≡ e = cc in
-      record { end = p; read = ap (λ x. ok x p) (same-ok h); goes = subst (λ (i : ℕ). Goes s i z w p) q g };
+      let r : a ≡ b = same-ok h in
+      record { end = p; read = ap (λ x. ok x p) r; rest = g ∙ (λ i. G (r i) (tokens (drop (q i) s))) };
 }
 
-no-extends : {A : Type 0} (why : Refusal) → Extends {A = A} (λ s at. no why)
-no-extends why = record { kept = λ s w z b at p e g h. absurd (ok-not-no h) }
+no-carries : {A : Type 0} {F : Change} {G : A → Change} (why : Refusal) → Carries F (λ s at. no why) (λ s at. no why) G
+no-carries why = record { kept = λ s w b at p e g h. absurd (ok-not-no h) }
 
-is-extends : {A : Type 0} (t : Bool) (a : A) (why : Refusal) → Extends (λ s at. cond t (ok a at) (no why))
-is-extends true a why = ok-extends a
-is-extends false a why = no-extends why
+is-carries : {A : Type 0} {G : A → Change} (t : Bool) (a : A) (why : Refusal)
+    → Carries (G a) (λ s at. cond t (ok a at) (no why)) (λ s at. cond t (ok a at) (no why)) G
+is-carries true a why = ok-carries a
+is-carries false a why = no-carries why
 
-not-extends : {A : Type 0} (t : Bool) (a : A) (why : Refusal) → Extends (λ s at. cond t (no why) (ok a at))
-not-extends true a why = no-extends why
-not-extends false a why = ok-extends a
+pub not-carries : {A : Type 0} {G : A → Change} (t : Bool) (a : A) (why : Refusal)
+    → Carries (G a) (λ s at. cond t (no why) (ok a at)) (λ s at. cond t (no why) (ok a at)) G
+not-carries true a why = no-carries why
+not-carries false a why = ok-carries a
 
 -- ---- one after the other
-then-extends : {A B : Type 0} (f : List ℕ → ℕ → Outcome A) (g : A → List ℕ → ℕ → Outcome B)
-    → Extends f → ((a : A) → Extends (g a)) → Extends (λ s at. then (f s at) (λ a p. g a s p))
-then-extends f g x y = record {
-  kept = λ s w z b at p e k h.
-      let t : Then (f s at) (λ a q. g a s q) b e = then-ok (f s at) (λ a q. g a s q) b e h in
-      let u = x .kept s w z (t .what) at p (t .at) k (t .first) in
-      let v = y (t .what) .kept s w z b (t .at) (u .end) e (u .goes) (t .second) in
-      record { end = v .end; read = ap (λ o. then o (λ a q. g a w q)) (u .read) ∙ v .read; goes = v .goes };
+pub then-carries : {A B : Type 0} {F : Change} {f g : Rule A} {G : A → Change} {H : B → Change} {f' g' : A → Rule B}
+    → Carries F f g G → ((a : A) → Was f a → Carries (G a) (f' a) (g' a) H)
+    → Carries F (λ s at. then (f s at) (λ a p. f' a s p)) (λ s at. then (g s at) (λ a p. g' a s p)) H
+then-carries {f = f} {g = g} {f' = f'} {g' = g'} x y = record {
+  kept = λ s w b at p e k h.
+      let t : Then (f s at) (λ a q. f' a s q) b e = then-ok (f s at) (λ a q. f' a s q) b e h in
+      let was : Was f (t .what) = record { text = s; at = at; end = t .at; read = t .first } in
+      let u = x .kept s w (t .what) at p (t .at) k (t .first) in
+      let v = y (t .what) was .kept s w b (t .at) (u .end) e (u .rest) (t .second) in
+      record { end = v .end; read = ap (λ o. then o (λ a q. g' a w q)) (u .read) ∙ v .read; rest = v .rest };
 }
 
 -- ---- a number
-number-extends : Extends number
-number-extends = record { kept = λ s w z a at p e g h. kept s w z a at p e g (nextAt s at) refl h }
-  where
-    kept : (s w : List ℕ) (z : List Token) (a : ℤ) (at p e : ℕ) → Goes s at z w p → (n : Next) → nextAt s at ≡ n → onNumber n ≡ ok a e
-        → Kept (number w p) a s e z w
-    kept s w z a at p e g (Found (Number v) q) k h =
-        let r : q ≡ e = cc in
-        let m : Met w p (Number v) (tokens (drop q s) ++ z) =
-        found-token w p (Number v) (tokens (drop q s) ++ z) (g ∙ ap (λ (ts : List Token). ts ++ z) (tokens-found s at (Number v) q k)) in
-        record {
-          end = m .end;
-          read = ap onNumber (m .found) ∙ ap (λ (x : ℤ). ok x (m .end)) (same-ok h);
-          goes = subst (λ (i : ℕ). Goes s i z w (m .end)) r (m .rest);
-        }
-    kept s w z a at p e g (Found Bad q) k h = absurd (ok-not-no h)
-    kept s w z a at p e g End k h = absurd (ok-not-no h)
+module _ (F : Change) (G : ℤ → Change) (is : (v : ℤ) (ts : List Token) → F (Number v ∷ ts) ≡ Number v ∷ G v ts) where
+  number-carries : Carries F number number G
+  number-carries = record { kept = λ s w a at p e g h. kept s w a at p e g (nextAt s at) refl h }
+    where
+      kept : (s w : List ℕ) (a : ℤ) (at p e : ℕ) → tokens (drop p w) ≡ F (tokens (drop at s)) → (n : Next) → nextAt s at ≡ n → onNumber n ≡ ok a e
+          → Kept (number w p) a (G a (tokens (drop e s))) w
+      kept s w a at p e g (Found (Number v) q) k h =
+          let r : q ≡ e = cc in
+          let x : v ≡ a = same-ok h in
+          let m = found-token w p (Number v) (G v (tokens (drop q s))) (g ∙ ap F (tokens-found s at (Number v) q k) ∙ is v (tokens (drop q s))) in
+          record {
+            end = m .end;
+            read = ap onNumber (m .found) ∙ ap (λ (y : ℤ). ok y (m .end)) x;
+            rest = m .rest ∙ (λ i. G (x i) (tokens (drop (r i) s)));
+          }
+      kept s w a at p e g (Found Bad q) k h = absurd (ok-not-no h)
+      kept s w a at p e g End k h = absurd (ok-not-no h)
 
-within-extends : (lo hi : ℤ) (why : Refusal) → Extends (λ s. within s lo hi why)
-within-extends lo hi why = then-extends number _ number-extends (λ v. is-extends (inRange lo hi v) v why)
+  pub within-carries : (lo hi : ℤ) (why : Refusal) → Carries F (λ s. within s lo hi why) (λ s. within s lo hi why) G
+  within-carries lo hi why = then-carries number-carries (λ v _. is-carries (inRange lo hi v) v why)
 
--- ---- the section of intervals
-interval-extends : Extends interval
-interval-extends =
-    then-extends (λ s. spanning s maxBound Bound) _ (within-extends (negℤ (pos maxBound)) (pos maxBound) Bound) (λ lower.
-    then-extends (λ s. upperFrom s lower) _ (within-extends lower (pos maxBound) Bound) (λ upper.
-    then-extends (λ s. within s (pos 0) (topGoal lower) Goal) _ (within-extends (pos 0) (topGoal lower) Goal) (λ low.
-    then-extends (λ s. highFrom s low) _ (within-extends low (topHigh low) Goal) (λ high.
-    ok-extends (record { lower = lower; upper = upper; low = low; high = high })))))
+-- ---- with more behind it
+module _ (z : List Token) where
+  pub within-extends : (lo hi : ℤ) (why : Refusal) → Extends z (λ s. within s lo hi why)
+  within-extends = within-carries (λ ts. ts ++ z) (λ v ts. ts ++ z) (λ v ts. refl)
 
-intervals-extend : (k : ℕ) (done : List Interval) → Extends (λ s. intervals s k done)
-unfolding intervals
-intervals-extend zero done = ok-extends done
-intervals-extend (suc k) done =
-    then-extends interval (λ i s. intervals s k (done ++ (i ∷ []))) interval-extends (λ i. intervals-extend k (done ++ (i ∷ [])))
+  pub no-less-extends : (lo : ℤ) (why : Refusal) → Extends z (λ s. noLess s lo why)
+  no-less-extends lo why =
+      then-carries (number-carries (λ ts. ts ++ z) (λ v ts. ts ++ z) (λ v ts. refl)) (λ v _. is-carries (leZ lo v) v why)
 
-pub interval-section-extends : Extends intervalSection
-interval-section-extends =
-    then-extends (λ s. within s (pos 1) (pos deckColumns) Size) (λ n s. intervals s (natAbs n) []) (within-extends (pos 1) (pos deckColumns) Size)
-    (λ n. intervals-extend (natAbs n) [])
+  -- ---- the section of rows
+  kind-extends : (columns : ℕ) → Extends z (λ s. kindNumber s columns)
+  kind-extends columns =
+      then-carries (within-extends (pos 0) (pos 3) WrongTerm) (λ k _.
+      not-carries (ltb deckColumns (columns + slackCount (kindOf (natAbs k)))) (natAbs k) WrongTerm)
 
--- ---- the section of rows
-kind-extends : (columns : ℕ) → Extends (λ s. kindNumber s columns)
-kind-extends columns =
-    then-extends (λ s. within s (pos 0) (pos 3) WrongTerm) _ (within-extends (pos 0) (pos 3) WrongTerm) (λ k.
-    not-extends (ltb deckColumns (columns + slackCount (kindOf (natAbs k)))) (natAbs k) WrongTerm)
+  row-extends : (columns : ℕ) → Extends z (λ s. row s columns)
+  row-extends columns =
+      then-carries (kind-extends columns) (λ k _.
+      then-carries (within-extends (leastNumber (kindOf k)) (pos maxRight) Coefficient) (λ b _.
+      ok-carries (rowOf k b)))
 
-row-extends : (columns : ℕ) → Extends (λ s. row s columns)
-row-extends columns =
-    then-extends (λ s. kindNumber s columns) _ (kind-extends columns) (λ k.
-    then-extends (λ s. within s (leastNumber (kindOf k)) (pos maxRight) Coefficient) _
-    (within-extends (leastNumber (kindOf k)) (pos maxRight) Coefficient) (λ b.
-    ok-extends (rowOf k b)))
+  coefficient-extends : Extends z coefficient
+  coefficient-extends =
+      then-carries (within-extends (negℤ (pos maxCoefficient)) (pos maxCoefficient) Coefficient) (λ v _.
+      not-carries (isZero v) v WrongTerm)
 
-coefficient-extends : Extends coefficient
-coefficient-extends =
-    then-extends (λ s. spanning s maxCoefficient Coefficient) _ (within-extends (negℤ (pos maxCoefficient)) (pos maxCoefficient) Coefficient) (λ v.
-    not-extends (isZero v) v WrongTerm)
+  term-extends : (last count : ℕ) → Extends z (λ s. term s last count)
+  term-extends last count =
+      then-carries (within-extends (pos (last + 1)) (pos count) WrongTerm) (λ j _.
+      then-carries coefficient-extends (λ c _.
+      ok-carries (record { index = natAbs j; coefficient = c })))
 
-term-extends : (last count : ℕ) → Extends (λ s. term s last count)
-term-extends last count =
-    then-extends (λ s. within s (pos (last + 1)) (pos count) WrongTerm) _ (within-extends (pos (last + 1)) (pos count) WrongTerm) (λ j.
-    then-extends coefficient _ coefficient-extends (λ c.
-    ok-extends (record { index = natAbs j; coefficient = c })))
+  terms-extend : (k last count : ℕ) (done : List Term) → Extends z (λ s. terms s k last count done)
+  unfolding terms
+  terms-extend zero last count done = ok-carries done
+  terms-extend (suc k) last count done =
+      then-carries (term-extends last count) (λ t _. terms-extend k (t .index) count (done ++ (t ∷ [])))
 
-terms-extend : (k last count : ℕ) (done : List Term) → Extends (λ s. terms s k last count done)
-unfolding terms
-terms-extend zero last count done = ok-extends done
-terms-extend (suc k) last count done =
-    then-extends (λ s. term s last count) (λ t s. terms s k (t .index) count (done ++ (t ∷ []))) (term-extends last count)
-    (λ t. terms-extend k (t .index) count (done ++ (t ∷ [])))
+  line-extends : (count columns : ℕ) → Extends z (λ s. line s count columns)
+  line-extends count columns =
+      then-carries (row-extends columns) (λ r _.
+      then-carries (within-extends (pos 0) (pos count) WrongTerm) (λ k _.
+      then-carries (terms-extend (natAbs k) 0 count []) (λ us _.
+      ok-carries (record { row = r; terms = us }))))
 
-line-extends : (count columns : ℕ) → Extends (λ s. line s count columns)
-line-extends count columns =
-    then-extends (λ s. row s columns) _ (row-extends columns) (λ r.
-    then-extends (λ s. within s (pos 0) (pos count) WrongTerm) _ (within-extends (pos 0) (pos count) WrongTerm) (λ k.
-    then-extends (λ s. terms s (natAbs k) 0 count []) _ (terms-extend (natAbs k) 0 count []) (λ us.
-    ok-extends (record { row = r; terms = us }))))
+  lines-extend : (k count columns : ℕ) (done : List Line) → Extends z (λ s. lines s k count columns done)
+  unfolding lines
+  lines-extend zero count columns done = ok-carries done
+  lines-extend (suc k) count columns done =
+      then-carries (line-extends count columns) (λ l _. lines-extend k count (columns + slackCount (l .row .kind)) (done ++ (l ∷ [])))
 
-lines-extend : (k count columns : ℕ) (done : List Line) → Extends (λ s. lines s k count columns done)
-unfolding lines
-lines-extend zero count columns done = ok-extends done
-lines-extend (suc k) count columns done =
-    then-extends (λ s. line s count columns) (λ l s. lines s k count (columns + slackCount (l .row .kind)) (done ++ (l ∷ [])))
-    (line-extends count columns) (λ l. lines-extend k count (columns + slackCount (l .row .kind)) (done ++ (l ∷ [])))
-
-pub row-section-extends : (count : ℕ) → Extends (λ s. rowSection s count)
-row-section-extends count =
-    then-extends (λ s. within s (pos 0) (pos deckRows) Size) (λ m s. lines s (natAbs m) count count []) (within-extends (pos 0) (pos deckRows) Size)
-    (λ m. lines-extend (natAbs m) count count [])
+  pub row-section-extends : (count : ℕ) → Extends z (λ s. rowSection s count)
+  row-section-extends count =
+      then-carries (within-extends (pos 0) (pos deckRows) Size) (λ m _. lines-extend (natAbs m) count count [])

@@ -2,21 +2,21 @@
 --   Limited ..           what the limits say of the four numbers of an interval
 --   At j is, Within is   they say it at the place j, and at each place, also past the last one, where all numbers are 0
 --   section-within       so it is for a section that was read
+--   pair-rule            the ranges that a text's two goals are read in are cause 5's test of them
 -- Assumes nothing.
-use mathlib.Core.Path.{_≡_, refl, subst}
-use mathlib.Core.Bool.{Bool, true, false, cond, false≢true}
+use mathlib.Core.Path.{_≡_, refl, sym, _∙_, subst}
+use mathlib.Core.Bool.{Bool, true, false, cond, _&&_, _||_, and-true, and-false, and-comm}
 use mathlib.Core.List.{List, [], _∷_, _++_, map}
 use Prim.Native.Nat.{ℕ, zero, suc, _≤_}
 use native.Mathlib.Omega.{arith}
-use borrow.Author.Tests.{leb-true, ne-eqb}
-use lib.Dec.{leb·zero}
+use lib.Dec.{leb·zero, leb·suc-zero, eqb·suc-zero}
 use lib.IntN.{ℤ, pos, negsuc, natAbs, negℤ}
 use lib.Signed.{leZ}
 use Rattle.whole.specs.Lists.{entry}
-use Rattle.whole.specs.Tests.{isZero}
+use Rattle.whole.specs.Tests.{isZero, inRange}
 use Rattle.whole.proofs.Tests.{all-true, range-small}
 use Rattle.problem.specs.Limits.{maxBound, maxGoal}
-use Rattle.problem.specs.Checks.{goalInside, goalFits}
+use Rattle.problem.specs.Checks.{goalInside, bothOrNone, goalFits}
 use Rattle.problem.specs.declared.Refusal.the-variants.{Size, Bound, Goal}
 use Rattle.sections.specs.Rules.{Outcome, ok, no, then, within}
 use Rattle.sections.specs.Sections.{deckColumns, spanning, upperFrom, topGoal, topHigh, highFrom, interval, intervals, intervalSection}
@@ -37,23 +37,20 @@ At j is = Limited (entry j (map lowerOf is)) (entry j (map upperOf is)) (entry j
 pub record Within (is : List Interval) : Type 0 where
   pub each : (j : ℕ) → At j is
 
--- ---- the two goals, by the ranges that they were read in
-pair-fits : (lower low high : ℤ) → leZ (pos 0) low ≡ true → leZ low (topGoal lower) ≡ true → leZ low high ≡ true → leZ high (topHigh low) ≡ true
-    → goalFits lower low high ≡ true
-pair-fits lower (negsuc k) high a b c d = absurd (false≢true a)
-pair-fits lower (pos k) (negsuc n) a b c d = absurd (false≢true c)
-pair-fits lower (pos zero) (pos zero) a b c d = refl
-pair-fits lower (pos zero) (pos (suc n)) a b c d = absurd (omega (arith, leb-true (suc n) 0 d))
-pair-fits lower (pos (suc k)) (pos zero) a b c d = absurd (omega (arith, leb-true (suc k) 0 c))
-pair-fits lower (pos (suc k)) (pos (suc n)) a b c d = go (leZ (pos 1) lower) refl b
+-- ---- the two goals: "A pair that breaks the rule is refused as 5 is now"
+pub pair-rule : (lower low high : ℤ) → inRange (pos 0) (topGoal lower) low && inRange low (topHigh low) high ≡ goalFits lower low high
+pair-rule lower = by (leZ (pos 1) lower)
   where
-    set : (m : ℕ) → isZero (pos (suc m)) ≡ false
-    set m = ne-eqb (suc m) 0 (λ z. omega arith)
-
-    go : (t : Bool) → leZ (pos 1) lower ≡ t → leZ (pos (suc k)) (cond t (pos maxGoal) (pos 0)) ≡ true
-        → goalFits lower (pos (suc k)) (pos (suc n)) ≡ true
-    go true e f = rw (set k, set n, leb·zero (suc k), leb·zero (suc n), e, f, c, rw (set k) at d)
-    go false e f = absurd (omega (arith, leb-true (suc k) 0 f))
+    by : (t : Bool) (low high : ℤ) → inRange (pos 0) (cond t (pos maxGoal) (pos 0)) low && inRange low (topHigh low) high
+        ≡ goalInside low && (goalInside high && (bothOrNone low high && (leZ low high && (isZero low || t))))
+    by t (negsuc k) high = refl
+    by t (pos k) (negsuc n) = simp and-false
+    by true (pos zero) (pos zero) = refl
+    by false (pos zero) (pos zero) = refl
+    by t (pos zero) (pos (suc n)) = simp (leb·suc-zero, eqb·suc-zero, and-false)
+    by t (pos (suc k)) (pos zero) = simp (leb·suc-zero, eqb·suc-zero, and-false)
+    by true (pos (suc k)) (pos (suc n)) = simp (leb·zero, eqb·suc-zero, and-true, and-comm)
+    by false (pos (suc k)) (pos (suc n)) = simp (leb·suc-zero, eqb·suc-zero, and-false)
 
 goals-small : (lower low high : ℤ) → goalFits lower low high ≡ true → (natAbs low ≤ maxGoal) × (natAbs high ≤ maxGoal)
 goals-small lower low high e =
@@ -70,7 +67,7 @@ numbers-limited s t₀ t₁ t₂ t₃ t₄ lower upper low high a b c d =
     let r = within-in (pos 0) (topGoal lower) Goal low t₃ s t₂ c in
     let w = within-in low (topHigh low) Goal high t₄ s t₃ d in
     let small : natAbs lower ≤ maxBound = abs-within (negℤ (pos maxBound)) maxBound lower (omega arith) (p .0) (p .1) in
-    let fit = pair-fits lower low high (r .0) (r .1) (w .0) (w .1) in
+    let fit : goalFits lower low high ≡ true = sym (pair-rule lower low high) ∙ (rw (r .0, r .1, w .0, w .1)) in
     record {
       lower-small = small;
       upper-small = abs-within lower maxBound upper small (q .0) (q .1);

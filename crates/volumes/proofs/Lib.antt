@@ -5,4 +5,5 @@ pub mod Lines
 pub mod Rows
 pub mod Reading
 pub mod Sums
+pub mod Extending
 pub mod Cases
