@@ -30,7 +30,7 @@ STATEMENTS = {
     "whole/specs/Divisor.antt": ["DivisorGreatest"],
     "settling/specs/Strides.antt": ["StrideGreatest"],
     "neighbours/specs/Rule.antt": ["ReadersRule"],
-    "deck/specs/Older.antt": ["OlderTexts"],
+    "deck/specs/Older.antt": ["OneGoalTexts", "OlderTexts"],
     "solve/specs/Cases.antt": ["DeckCases"],
     "solve/specs/GoalCases.antt": ["GoalCases"],
     "solve/specs/Program.antt": ["ListedWhole"],
