@@ -80,7 +80,9 @@ module _ (P : Posed) (L : Lent) (f : Fits P L) where
     high-small = f .high-small;
   }
 
-  pub packed-in : (l : List ℤ) → l ≡ packed (listed (length (P .lower)) (P .lower) (P .upper) (P .low) (P .high) (P .given) (P .ideals)) → PackedIn P l
+  pub packed-in :
+      (l : List ℤ) → l ≡ packed (listed (length (P .lower)) (P .lower) (P .upper) (P .low) (P .high) (P .given) (P .ideals))
+      → PackedIn P l
   packed-in l e =
       let is : l ≡ table P =
       e ∙ ap (λ (k : ℕ). packed (listed k (P .lower) (P .upper) (P .low) (P .high) (P .given) (P .ideals))) (f .lower-long) in

@@ -14,10 +14,10 @@ use Rattle.sections.specs.Rules.{Outcome, ok, no}
 use Rattle.sections.specs.Sections.{interval}
 use Rattle.sections.specs.declared.Interval.{Interval}
 
-abbrev digit : ℕ → List ℕ → List ℕ
+abbrev pub digit : ℕ → List ℕ → List ℕ
 digit k s = (48 + k) ∷ 32 ∷ s
 
-abbrev minusOne : List ℕ → List ℕ
+abbrev pub minusOne : List ℕ → List ℕ
 minusOne s = 45 ∷ digit 1 s
 
 abbrev letter : List ℕ → List ℕ

@@ -36,8 +36,8 @@ pub deck-cases : DeckCases
 unfolding numbersFrom neighbourWish
     every divisorBy divisor plus neg allZero lead dot sums stretch allDigits value decimal anyBeyond firstCause tableauFrom tableau lowered
     reduced each choose exchange clear round gather passColumn passColumns eliminate sweep leading remaining rightSide form solve rootBits
-    wholeRoot goalIdeal ideal seatOne seat singles pairsWith pairs moves moved measure isRanked passes improves insert rankFrom firstMove firstColumn stepAt stepOf nextStep
-    settleFrom settle stride stridesFrom settleOn assign intervals terms lines isOn indices paths volumes without termsOf sweptLines readDeck
+    wholeRoot goalIdeal ideal seatOne seat singles pairsWith pairs moves moved measure isRanked passes improves insert rankFrom firstMove
+    firstColumn stepAt stepOf nextStep settleFrom settle stride stridesFrom settleOn assign intervals terms lines isOn indices paths volumes without termsOf sweptLines readDeck
     slackColumns placed coefficientRows posed linesFrom listing printed
 deck-cases = record {
   half = refl;

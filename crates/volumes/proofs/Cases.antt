@@ -1,26 +1,21 @@
 -- Cases of the section of volumes that the checker computes, of a text with four intervals and one row.
---   digit, minusOne, fortyEight, many   a number in front of a text: of one digit, −1, 48, the largest
+--   fortyEight, many    48 or the largest number in front of a text, as `digit` and `minusOne` put one digit or −1 there
 --   reads s             what the section s gives
 --   rowsOf vs           the coefficients of the rows that the volumes vs add
 --   VolumeCases         the cases, one to a field; volume-cases, they hold
 -- Assumes nothing.
 use mathlib.Core.Path.{_≡_, refl}
 use mathlib.Core.List.{List, [], _∷_}
-use Prim.Native.Nat.{ℕ, _+_}
+use Prim.Native.Nat.{ℕ}
 use lib.IntN.{ℤ, pos, negsuc}
 use Rattle.text.specs.Tokens.{allDigits, value}
 use Rattle.text.specs.Positions.{stretch}
 use Rattle.problem.specs.declared.Refusal.the-variants.{Size, Layout, Volume as WrongVolume}
 use Rattle.sections.specs.Rules.{Outcome, ok, no}
 use Rattle.sections.specs.StatedColumns.{placed, coefficientRows}
+use Rattle.sections.proofs.Cases.{digit, minusOne}
 use Rattle.volumes.specs.Volumes.{Volume, isOn, indices, paths, volumes, volumeSection}
 use Rattle.volumes.specs.PathLines.{without, termsOf, sweptLines}
-
-abbrev digit : ℕ → List ℕ → List ℕ
-digit k s = (48 + k) ∷ 32 ∷ s
-
-abbrev minusOne : List ℕ → List ℕ
-minusOne s = 45 ∷ digit 1 s
 
 abbrev fortyEight : List ℕ → List ℕ
 fortyEight s = 52 ∷ digit 8 s

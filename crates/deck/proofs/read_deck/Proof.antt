@@ -223,7 +223,8 @@ returns-3 c =
     let o = h .before .before .before .before .before .before .before .before .before in
     let d = read (copied o) in
     let s = scanned d in
-    accepting (text s) (cursor d) (k d) (b d) (t d) (stored d) (coefficients o) (rights o) (lower o) (upper o) (low o) (high o) (out o) (lent (start s))
+    accepting (text s) (cursor d) (k d) (b d) (t d) (stored d) (coefficients o) (rights o) (lower o) (upper o) (low o) (high o) (out o)
+    (lent (start s))
     (h .hand-in .last .1 .1 .1 .1 .1 .1 .0) (h .hand-in .last .1 .1 .1 .1 .1 .1 .1 .0) (fitting s) (looked s .if2 .left) (h .hand-in .ensures .0)
     (h .hand-in .ensures .1)
 

@@ -101,7 +101,9 @@ abbrev filled : tie.After-high3 → tie.After-known-told2
 filled c = c .before .before .before .before .before .before .before
 
 -- and its problem
-problem-is : (c : tie.After-program-problem) → c .program-problem .result ≡ record { columns = n (c .before); rows = m (c .before); limit = programLimit }
+problem-is :
+    (c : tie.After-program-problem)
+    → c .program-problem .result ≡ record { columns = n (c .before); rows = m (c .before); limit = programLimit }
 problem-is c = c .program-problem .ensures
 
 slice-aggregate-read-deck : tie.Need-slice-aggregate-read-deck
