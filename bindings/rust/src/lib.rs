@@ -97,8 +97,8 @@ pub struct Columns<'a> {
     /// The low goals, in thousandths of an interval; 0 for none.
     ///
     /// A column that belongs to one part has its goal as its low and its high one, so that the same slice may be lent as both. One that two parts
-    /// share has both their wishes, the smaller as its low and the larger as its high goal: its ratio at a value is the larger of the value by the
-    /// low goal and the high goal by the value.
+    /// share has both their wishes, the smaller as its low and the larger as its high goal: its ratio at a value v is the larger of 1000 v by the
+    /// low goal and the high goal by 1000 v.
     pub low: &'a [i64],
     /// The high goals: 0 where the low one is 0, and otherwise no less than that.
     pub high: &'a [i64],

@@ -2,4 +2,5 @@
 pub mod Lists
 pub mod Handing
 pub mod Whole
+pub mod Pairs
 pub mod Older

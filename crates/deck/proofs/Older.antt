@@ -6,6 +6,7 @@
 --   deck-carries                   the sections of intervals and rows, and what follows
 --   end-kept, end-carries          nothing is left of either text
 --   zero-carries                   nothing is left of the first; the second has its 0, a section of no volumes
+--   twice, one-goal-twice, older-twice   the low and the high goals are one list; closed-intervals, of which intervals
 --   one-goal-texts, older-texts    the theorems; is-read, older-lines, parts of them
 -- Assumes nothing.
 use mathlib.Core.Path.{_≡_, refl, sym, ap, _∙_, subst}
@@ -26,18 +27,19 @@ use Rattle.text.specs.declared.Token.the-variants.{Number}
 use Rattle.text.proofs.Scanning.{tokens-end, found-token, end-token}
 use Rattle.problem.specs.Limits.{maxBound, maxGoal}
 use Rattle.problem.specs.declared.Refusal.the-variants.{Size, Bound, Goal}
-use Rattle.sections.specs.Rules.{ok, then, onEnd, closed}
+use Rattle.sections.specs.Rules.{Outcome, ok, then, onEnd, closed}
 use Rattle.sections.specs.Sections.{deckColumns, maxText, topGoal, topHigh, highFrom, Line, interval, intervals, intervalSection, rowSection}
 use Rattle.sections.specs.declared.Interval.{Interval}
 use Rattle.sections.proofs.Numbers.{same-ok, then-ok, closed-ok, within-in}
 use Rattle.sections.proofs.Extending.{Rule, Change, Kept, Carries, ok-carries, then-carries, within-carries, row-section-extends}
-use Rattle.volumes.specs.Volumes.{volumes, volumeSection}
+use Rattle.volumes.specs.Volumes.{Volume, volumes, volumeSection}
 use Rattle.volumes.specs.PathLines.{sweptLines}
 use Rattle.volumes.proofs.Extending.{volume-section-extends}
-use Rattle.deck.specs.Posing.{Deck, deck, readDeck, allLines}
-use Rattle.deck.specs.Older.{oneGoalInterval, oneGoalIntervals, oneGoalSection, olderDeck, twiceFrom, goalsTwice, IsRead, OneGoalTexts}
+use Rattle.deck.specs.Posing.{Deck, deck, readDeck, allLines, lows, highs}
+use Rattle.deck.specs.Older.{oneGoalInterval, oneGoalIntervals, oneGoalSection, oneGoalDeck, olderDeck, twiceFrom, goalsTwice, IsRead, OneGoalTexts}
 use Rattle.deck.specs.Older.{OlderTexts}
 use Rattle.deck.proofs.Whole.{made}
+use Rattle.deck.proofs.Pairs.{deck-twice}
 
 pub lines-alone : (is : List Interval) (ls : List Line) → allLines (made is ls []) ≡ ls
 unfolding sweptLines
@@ -133,11 +135,35 @@ is-read : (w : List ℕ) (d : Deck) → length w ≤ maxText → Kept (deck w) d
 unfolding readDeck
 is-read w d l k = (k .end, rw (le-ltb maxText (length w) l) (k .read))
 
+-- the columns of a text with one goal a line
+module _ (s : List ℕ) (d : Deck) (at : ℕ) where
+  closed-intervals : (is : List Interval) (ls : List Line) (vs : List Volume) (q : ℕ) → closed s (made is ls vs) q ≡ ok d at → is ≡ d .intervals
+  closed-intervals is ls vs q h = ap (λ (x : Deck). x .intervals) (closed-ok (made is ls vs) d q at (nextAt s q) h .0)
+
+  twice : (f : List Interval → List Line → ℕ → Outcome Deck)
+      → ((is : List Interval) (ls : List Line) (q : ℕ) → f is ls q ≡ ok d at → is ≡ d .intervals)
+      → then (oneGoalSection s 0) (λ is p. then (rowSection s (length is) p) (λ ls q. f is ls q)) ≡ ok d at → lows d ≡ highs d
+  twice f x h =
+      let a = then-ok (oneGoalSection s 0) (λ is p. then (rowSection s (length is) p) (λ ls q. f is ls q)) d at h in
+      let b = then-ok (rowSection s (length (a .what)) (a .at)) (λ ls q. f (a .what) ls q) d at (a .second) in
+      deck-twice s (a .at) d (a .first ∙ ap (λ (is : List Interval). ok is (a .at)) (x (a .what) (b .what) (b .at) (b .second)))
+
+  one-goal-twice : oneGoalDeck s ≡ ok d at → lows d ≡ highs d
+  one-goal-twice =
+      twice (λ is ls q. then (volumeSection s (length is) (length ls) q) (λ vs p. closed s (made is ls vs) p)) (λ is ls q h.
+      let c = then-ok (volumeSection s (length is) (length ls) q) (λ vs p. closed s (made is ls vs) p) d at h in
+      closed-intervals is ls (c .what) (c .at) (c .second))
+
+  older-twice : olderDeck s ≡ ok d at → lows d ≡ highs d
+  older-twice = twice (λ is ls q. closed s (made is ls []) q) (λ is ls q h. closed-intervals is ls [] q h)
+
 pub one-goal-texts : OneGoalTexts
-one-goal-texts s w d at h t l =
-    is-read w d l
-    (deck-carries [] _ _ (λ is ls. then-carries (volume-section-extends [] (length is) (length ls)) (λ vs _. end-carries (made is ls vs)))
-    .kept s w d 0 0 at (t ∙ ap goalsTwice (sym (append-nil (tokens s)))) h)
+one-goal-texts s w d at h t l = (
+  is-read w d l
+      (deck-carries [] _ _ (λ is ls. then-carries (volume-section-extends [] (length is) (length ls)) (λ vs _. end-carries (made is ls vs)))
+      .kept s w d 0 0 at (t ∙ ap goalsTwice (sym (append-nil (tokens s)))) h),
+  one-goal-twice s d at h,
+)
 
 older-lines : (s : List ℕ) (d : Deck) (at : ℕ) → olderDeck s ≡ ok d at → allLines d ≡ d .lines
 older-lines s d at h =
@@ -147,5 +173,8 @@ older-lines s d at h =
     subst (λ (x : Deck). allLines x ≡ x .lines) {x = made (a .what) (b .what) []} (c .0) (lines-alone (a .what) (b .what))
 
 pub older-texts : OlderTexts
-older-texts s v w d at h g t l =
-    (is-read w d l (deck-carries (Number (pos 0) ∷ []) _ _ zero-carries .kept s w d 0 0 at (t ∙ ap goalsTwice g) h), older-lines s d at h)
+older-texts s v w d at h g t l = (
+  is-read w d l (deck-carries (Number (pos 0) ∷ []) _ _ zero-carries .kept s w d 0 0 at (t ∙ ap goalsTwice g) h),
+  older-twice s d at h,
+  older-lines s d at h,
+)

@@ -5,7 +5,8 @@
 --   left-some, left-none                        what is left of the text
 --   made                                        a deck of its sections; deck-read, by its section of volumes, where the others are read
 --   deck-intervals, -rows, -volumes, left-over  a deck whose sections are refused, or that something is left behind
---   Parts, deck-parts                           the sections of a deck that is read; deck-within: its intervals lie within the limits
+--   Parts, deck-parts                           the sections of a deck that is read; in-limits: its text is not too long; deck-within: its intervals
+--                                               lie within the limits
 --   stored                                      a deck that is read, in the tables
 --   read-short, -long, -is, -not                the call by what it meets
 --   Largest, sizes                              the lengths that fit
@@ -14,12 +15,12 @@
 --   accepting                                   an accepted text, with its ideals
 -- Assumes nothing.
 use mathlib.Core.Path.{_≡_, refl, sym, ap, _∙_, subst}
-use mathlib.Core.Bool.{true, false}
+use mathlib.Core.Bool.{Bool, true, false, cond}
 use mathlib.Core.List.{List, _++_, map, append-assoc}
 use Prim.Native.Nat.{ℕ, _+_, _-_, _*_, _≤_, _<_}
 use native.Mathlib.Omega.{arith}
 use borrow.Author.Tests.{eqb-true, lt-ltb, le-ltb}
-use lib.Dec.{T, eqb}
+use lib.Dec.{T, eqb, ltb}
 use lib.IntN.{ℤ, pos}
 use lib.ListN.{length, take, drop, length-append, length-map, length-replicate, replicate-append-replicate}
 use lib.Seq.{length-take-le}
@@ -48,7 +49,7 @@ use Rattle.deck.specs.Posing.{Deck, deck, readDeck, columnsOf, allLines,
 use Rattle.deck.specs.Reader.{DeckBuffers, deckBuffers, readDone, lengthsFit, turnedBack, accepted, read}
 use Rattle.deck.specs.ReaderTables.{noneLeft, DeckStored, compacted, picked}
 use Rattle.deck.specs.declared.Reading.the-variants.{Read}
-use Rattle.sections.proofs.Numbers.{then-ok, closed-ok}
+use Rattle.sections.proofs.Numbers.{ok-not-no, then-ok, closed-ok}
 use Rattle.sections.proofs.Limits.{Within, section-within}
 use Rattle.sections.proofs.Storage.{map-two, rows-two, padded-written, from-blank, wiped, cells-two, length-cells, length-rows, few-cells}
 use Rattle.volumes.specs.Volumes.{Volume, volumeSection}
@@ -210,8 +211,17 @@ module _ (s : List ℕ) where
       subst Parts {x = made is ls (c .what)} (closed-ok (made is ls (c .what)) d (c .at) e (nextAt s (c .at)) (c .second) .0)
       (record { first = a .at; second = b .at; third = c .at; intervals = a .first; rows = b .first; volumes = c .first })
 
+  -- a text that is read is not too long
+  pub in-limits : (d : Deck) (e : ℕ) → readDeck s ≡ ok d e → deck s ≡ ok d e
+  unfolding readDeck
+  in-limits d e h = go (ltb maxText (length s)) h
+    where
+      go : (t : Bool) → cond t (no Layout) (deck s) ≡ ok d e → deck s ≡ ok d e
+      go true f = absurd (ok-not-no f)
+      go false f = f
+
   -- the intervals of a deck that was read lie within the limits
-  deck-within : (d : Deck) (e : ℕ) → deck s ≡ ok d e → Within (d .intervals)
+  pub deck-within : (d : Deck) (e : ℕ) → deck s ≡ ok d e → Within (d .intervals)
   deck-within d e h = let p = deck-parts d e h in section-within s 0 (p .first) (d .intervals) (p .intervals)
 
   deck-read : (is : List Interval) (ls : List Line) (p q : ℕ) → intervalSection s 0 ≡ ok is p → rowSection s (length is) p ≡ ok ls q

@@ -8,7 +8,8 @@
 --   goalsTwice ts     the tokens ts of a text, with each goal written twice
 --   GoalsTwice s w    the text w has the numbers of the text s, each goal written twice, however they are parted
 --   IsRead w d        the text w is read as the deck d
---   OneGoalTexts      so it is for every text that was read before (v) and has each goal written twice, as long as it is not too long
+--   OneGoalTexts      so it is for every text that was read before (v) and has each goal written twice, as long as it is not too long; in its problem
+--                     the low and the high goals are one list
 --   OlderTexts        and for every text that was read before (iii), has gained a 0 and has each goal written twice; its rows are its lines alone
 -- The theorems are `one-goal-texts` and `older-texts`, in proofs/Older.
 -- Assumes nothing.
@@ -26,7 +27,7 @@ use Rattle.sections.specs.Rules.{Outcome, ok, then, within, closed}
 use Rattle.sections.specs.Sections.{deckColumns, maxText, spanning, upperFrom, topGoal, rowSection}
 use Rattle.sections.specs.declared.Interval.{Interval}
 use Rattle.volumes.specs.Volumes.{volumeSection}
-use Rattle.deck.specs.Posing.{Deck, readDeck, allLines}
+use Rattle.deck.specs.Posing.{Deck, readDeck, allLines, lows, highs}
 
 -- ---- texts as they were
 
@@ -89,9 +90,11 @@ abbrev pub IsRead : List ℕ → Deck → Type 0
 IsRead w d = (end : ℕ) × (readDeck w ≡ ok d end)
 
 abbrev pub OneGoalTexts : Type 0
-OneGoalTexts = (s w : List ℕ) (d : Deck) (at : ℕ) → oneGoalDeck s ≡ ok d at → GoalsTwice s w → length w ≤ maxText → IsRead w d
+OneGoalTexts =
+    (s w : List ℕ) (d : Deck) (at : ℕ) → oneGoalDeck s ≡ ok d at → GoalsTwice s w → length w ≤ maxText
+    → IsRead w d × (lows d ≡ highs d)
 
 abbrev pub OlderTexts : Type 0
 OlderTexts =
     (s v w : List ℕ) (d : Deck) (at : ℕ) → olderDeck s ≡ ok d at → GainsZero s v → GoalsTwice v w → length w ≤ maxText
-    → IsRead w d × (allLines d ≡ d .lines)
+    → IsRead w d × (lows d ≡ highs d) × (allLines d ≡ d .lines)

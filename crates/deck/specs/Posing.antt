@@ -7,17 +7,19 @@
 --   coefficientsOf, lowers, uppers, lows, highs d   the lists that the deck states, of just the lengths that n and m need
 --   stated d        what it states of its rows and columns
 --   posed limit d   the problem: these lists, and "the reader gives such an interval an ideal"
+--   TextGoalsFit    in the problem of a text that is read no pair of goals breaks its rule; the theorem is `text-goals-fit`, in proofs/Pairs
 -- Assumes nothing.
-use mathlib.Core.Bool.{cond}
+use mathlib.Core.Path.{_≡_}
+use mathlib.Core.Bool.{true, cond}
 use mathlib.Core.List.{List, _++_, map}
 use Prim.Native.Nat.{ℕ}
 use lib.Dec.{ltb}
 use lib.IntN.{ℤ}
 use lib.ListN.{length}
-use Rattle.problem.specs.Checks.{Posed}
+use Rattle.problem.specs.Checks.{Posed, goalsFit}
 use Rattle.problem.specs.declared.Refusal.the-variants.{Layout}
 use Rattle.neighbours.specs.Neighbours.{Stated, statedBy, givenOf, idealsOf}
-use Rattle.sections.specs.Rules.{Outcome, no, then, closed}
+use Rattle.sections.specs.Rules.{Outcome, ok, no, then, closed}
 use Rattle.sections.specs.Sections.{maxText, Line, intervalSection, rowSection}
 use Rattle.volumes.specs.Volumes.{Volume, volumeSection}
 use Rattle.volumes.specs.PathLines.{sweptLines}
@@ -80,3 +82,7 @@ posed limit d = record {
   given = givenOf (stated d) (countOf d);
   ideals = idealsOf (stated d) (countOf d);
 }
+
+-- ---- document 02, (v): "A pair that breaks the rule is refused as 5 is now."
+abbrev pub TextGoalsFit : Type 0
+TextGoalsFit = (s : List ℕ) (d : Deck) (at : ℕ) → readDeck s ≡ ok d at → goalsFit (lowers d) (lows d) (highs d) ≡ true

@@ -1,5 +1,6 @@
 -- Document 02, (v): "Older cases have both equal." A problem whose low and high goals are the same list is what document 01 makes of that one list of
--- goals. The calls look at goals through the test of cause 5, the columns and the ratio alone, so that every older result is kept.
+-- goals. The engine's calls look at goals through the test of cause 5, the columns and the ratio alone, so that every older result of theirs is kept;
+-- what the reader made of goals is said in neighbours/specs/OneGoal and deck/specs/Older.
 --   oneGoalsFit lo gs   document 01's cause 5 holds of no column
 --   oneGoalColumn ..    a column with one goal, whose wish is document 01's ideal; oneGoalColumns P, those of the problem P by its low goals
 --   oneGoalRatio g v    document 01: "Its ratio, for goal g and value v of 1 or more, is the larger of 1000v/g and g/1000v"

@@ -10,7 +10,7 @@ unfolding wholeRoot rootBits
 most = refl
 
 -- 1 for k = 0, however far apart the goals are
-least : (goalIdeal 1 1 ≡ 1) × (goalIdeal 999 1000 ≡ 1)
+least : (goalIdeal 1 1 ≡ 1) × (goalIdeal 1 999999 ≡ 1)
 unfolding goalIdeal wholeRoot rootBits
 least = (refl, refl)
 

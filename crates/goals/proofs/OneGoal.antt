@@ -5,14 +5,13 @@ use Prim.Native.Nat.{ℕ, zero, suc, _+_, _*_, _/_, _≤_}
 use native.Mathlib.Nat.{mul-le-mul}
 use native.Mathlib.Omega.{arith}
 use borrow.Author.Tests.{le-leb}
-use lib.Dec.{leb}
 use lib.IntN.{ℤ, pos, negsuc}
 use lib.Signed.{leZ}
-use Rattle.whole.specs.Tests.{isZero, inRange}
+use Rattle.whole.specs.Tests.{isZero}
 use Rattle.problem.specs.Limits.{maxGoal}
-use Rattle.problem.specs.Checks.{goalInside, bothOrNone, goalFits}
+use Rattle.problem.specs.Checks.{goalInside}
 use Rattle.goals.specs.Ideals.{wholeRoot, idealFrom, goalIdeal, IsRoot}
-use Rattle.goals.specs.OneGoal.{oneFrom, oneGoalFits, IdealKept, FitKept}
+use Rattle.goals.specs.OneGoal.{oneFrom, IdealKept, FitKept}
 use Rattle.goals.proofs.Roots.{root-alone, root-is, product-small}
 
 thousands : (g : ℕ) → IsRoot (g * g) (g / 1000)

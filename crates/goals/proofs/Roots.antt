@@ -13,7 +13,7 @@ use native.Mathlib.Omega.{arith}
 use borrow.Author.Tests.{leb-true, leb-false}
 use lib.Dec.{leb, ltb}
 use Rattle.problem.specs.Limits.{maxGoal}
-use Rattle.goals.specs.Ideals.{raised, rootBits, wholeRoot, idealFrom, goalIdeal, maxProduct, IsRoot, RootIs, RootAlone}
+use Rattle.goals.specs.Ideals.{raised, rootBits, wholeRoot, idealFrom, maxProduct, IsRoot, RootIs, RootAlone}
 
 -- ---- one root
 square-mono : (k j : ℕ) → k ≤ j → k * k * 1000000 ≤ j * j * 1000000

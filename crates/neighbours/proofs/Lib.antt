@@ -2,3 +2,4 @@
 pub mod Laws
 pub mod Rule
 pub mod Cases
+pub mod OneGoal

@@ -2,3 +2,4 @@
 pub mod Neighbours
 pub mod Beside
 pub mod Rule
+pub mod OneGoal

@@ -1,7 +1,7 @@
 -- What a problem that passes the checks has.
 --   tested-at     what a test of a column's numbers in two lists answers, where the machine reads them back
 --   Room p, room  a problem of the allowed sizes has lengths that a usize holds
---   same-lengths  the columns' lists are equally long, once their lengths have passed
+--   column-lengths   the columns' lists have a number for each column, once their lengths have passed
 --   Passes P L    each of the tests of causes 1 to 6 holds
 --   passes        so it is where no cause is named
 --   all-small     how large a list's numbers are, by the test over the list
@@ -61,16 +61,15 @@ room p e =
       tableau = product (p .columns) (p .rows + p .columns) (omega arith) (omega arith);
     }
 
-pub same-lengths :
+pub column-lengths :
     (p : Problem) (lower upper low high : List ℤ) → columnLengthsFit p lower upper low high ≡ true
-    → (length upper ≡ length lower) × (length low ≡ length lower) × (length high ≡ length lower)
-same-lengths p lower upper low high e =
+    → (length lower ≡ p .columns) × (length upper ≡ p .columns) × (length low ≡ p .columns) × (length high ≡ p .columns)
+column-lengths p lower upper low high e =
     let tests =
     all-true (eqb (length lower) (p .columns)) (eqb (length upper) (p .columns))
     (eqb (length low) (p .columns) && eqb (length high) (p .columns)) e in
     let goals = both-true (eqb (length low) (p .columns)) (eqb (length high) (p .columns)) (tests .2) in
-    let l : length lower ≡ p .columns = eqb-true _ _ (tests .0) in
-    (eqb-true _ _ (tests .1) ∙ sym l, eqb-true _ _ (goals .0) ∙ sym l, eqb-true _ _ (goals .1) ∙ sym l)
+    (eqb-true _ _ (tests .0), eqb-true _ _ (tests .1), eqb-true _ _ (goals .0), eqb-true _ _ (goals .1))
 
 -- ---- what no cause leaves
 pub record Passes (P : Posed) (L : Lent) : Type 0 where
@@ -164,16 +163,6 @@ module _ (P : Posed) (L : Lent) (f : Passes P L) where
   unfolding n m
   rows-long = both-true (eqb (length (P .coefficients)) (m * n)) (eqb (length (P .rights)) m) (f .row-lengths)
 
-  columns-long :
-      (eqb (length (P .lower)) n ≡ true) × (eqb (length (P .upper)) n ≡ true)
-      × (eqb (length (P .low)) n && eqb (length (P .high)) n ≡ true)
-  unfolding n
-  columns-long =
-      all-true (eqb (length (P .lower)) n) (eqb (length (P .upper)) n) (eqb (length (P .low)) n && eqb (length (P .high)) n) (f .column-lengths)
-
-  goals-long : (eqb (length (P .low)) n ≡ true) × (eqb (length (P .high)) n ≡ true)
-  goals-long = both-true (eqb (length (P .low)) n) (eqb (length (P .high)) n) (columns-long .2)
-
   ideals-long : (eqb (length (P .given)) n ≡ true) × (eqb (length (P .ideals)) n ≡ true)
   unfolding n
   ideals-long = both-true (eqb (length (P .given)) n) (eqb (length (P .ideals)) n) (f .ideal-lengths)
@@ -224,10 +213,11 @@ module _ (P : Posed) (L : Lent) (f : Passes P L) where
   pub fits : Fits P L
   unfolding n m
   fits =
-      let lower : length (P .lower) ≡ P .problem .columns = eqb-true _ _ (columns-long .0) in
-      let upper : length (P .upper) ≡ P .problem .columns = eqb-true _ _ (columns-long .1) in
-      let low : length (P .low) ≡ P .problem .columns = eqb-true _ _ (goals-long .0) in
-      let high : length (P .high) ≡ P .problem .columns = eqb-true _ _ (goals-long .1) in
+      let long = column-lengths (P .problem) (P .lower) (P .upper) (P .low) (P .high) (f .column-lengths) in
+      let lower : length (P .lower) ≡ P .problem .columns = long .0 in
+      let upper : length (P .upper) ≡ P .problem .columns = long .1 in
+      let low : length (P .low) ≡ P .problem .columns = long .2 in
+      let high : length (P .high) ≡ P .problem .columns = long .3 in
       let rows : (allSpan maxCoefficient (P .coefficients) ≡ true) × (allSpan maxRight (P .rights) ≡ true) =
       both-true (allSpan maxCoefficient (P .coefficients)) (allSpan maxRight (P .rights)) (f .rows) in
       record {

@@ -19,7 +19,8 @@ use Rattle.problem.specs.Limits.{maxBound, maxGoal}
 use Rattle.problem.specs.Checks.{goalInside, bothOrNone, goalFits}
 use Rattle.problem.specs.declared.Refusal.the-variants.{Size, Bound, Goal}
 use Rattle.sections.specs.Rules.{Outcome, ok, no, then, within}
-use Rattle.sections.specs.Sections.{deckColumns, spanning, upperFrom, topGoal, topHigh, highFrom, interval, intervals, intervalSection}
+use Rattle.sections.specs.Sections.{deckColumns, spanning, upperFrom, topGoal, topHigh, highFrom, interval, intervals, PairRule}
+use Rattle.sections.specs.Sections.{intervalSection}
 use Rattle.sections.specs.StatedColumns.{lowerOf, upperOf, lowOf, highOf}
 use Rattle.sections.specs.declared.Interval.{Interval}
 use Rattle.sections.proofs.Numbers.{same-ok, ok-not-no, then-ok, within-in, abs-within}
@@ -38,7 +39,7 @@ pub record Within (is : List Interval) : Type 0 where
   pub each : (j : ℕ) → At j is
 
 -- ---- the two goals: "A pair that breaks the rule is refused as 5 is now"
-pub pair-rule : (lower low high : ℤ) → inRange (pos 0) (topGoal lower) low && inRange low (topHigh low) high ≡ goalFits lower low high
+pub pair-rule : PairRule
 pair-rule lower = by (leZ (pos 1) lower)
   where
     by : (t : Bool) (low high : ℤ) → inRange (pos 0) (cond t (pos maxGoal) (pos 0)) low && inRange low (topHigh low) high

@@ -9,6 +9,7 @@
 --   Line                    a row with its terms
 --   spanning s k why at     a number in −k to k
 --   interval, intervals     an interval, by upperFrom, topGoal and highFrom with its topHigh, and so many of them
+--   PairRule                a pair of goals is 5 in a text exactly where it is 5 in buffers; the theorem is `pair-rule`, in proofs/Limits
 --   row                     a row's kind and number, by rowOf, kindOf, withRoom, kindNumber and leastNumber
 --   term, terms             a term, with its coefficient, and so many of them
 --   line, lines             a row with its terms, and so many of them
@@ -16,15 +17,17 @@
 --   rowSection s n at       the section of rows of a text with n intervals
 -- Each section starts at the place where the one before ended, so that another can be put between or behind them.
 -- Assumes nothing.
-use mathlib.Core.Bool.{cond}
+use mathlib.Core.Path.{_≡_}
+use mathlib.Core.Bool.{cond, _&&_}
 use mathlib.Core.List.{List, [], _∷_, _++_}
 use Prim.Native.Nat.{ℕ, zero, suc, _+_, _*_}
 use lib.Dec.{ltb}
 use lib.IntN.{ℤ, pos, natAbs, negℤ}
 use lib.Signed.{leZ}
-use Rattle.whole.specs.Tests.{isZero}
+use Rattle.whole.specs.Tests.{isZero, inRange}
 use Rattle.problem.specs.Limits.{maxColumns, maxRows, maxCoefficient, maxRight, maxBound, maxGoal}
 use Rattle.problem.specs.Kinds.{slackCount}
+use Rattle.problem.specs.Checks.{goalFits}
 use Rattle.problem.specs.declared.Kind.{Kind}
 use Rattle.problem.specs.declared.Kind.the-variants.{Equal, AtLeast, AtMost, Even}
 use Rattle.problem.specs.declared.Row.{Row}
@@ -87,6 +90,10 @@ intervals s (suc k) done at = then (interval s at) (λ i at. intervals s k (done
 
 abbrev pub intervalSection : List ℕ → ℕ → Outcome (List Interval)
 intervalSection s at = then (within s (pos 1) (pos deckColumns) Size at) (λ n at. intervals s (natAbs n) [] at)
+
+-- "A pair that breaks the rule is refused as 5 is now": the ranges of both goals are cause 5's test of a column
+abbrev pub PairRule : Type 0
+PairRule = (lower low high : ℤ) → inRange (pos 0) (topGoal lower) low && inRange low (topHigh low) high ≡ goalFits lower low high
 
 -- ---- a row's kind and number
 

@@ -1,6 +1,6 @@
 -- Document 01, "Continue, text, listing": the columns and the rows that the lines of a text state, and how the reader holds them.
 --   slackInterval lo   "Each y goes up to 1,000,000, has no goal, and takes the next column after the intervals, in row order."
---   slackColumns ls    the y of each row that has one
+--   slackColumn y      the y of a row, or none; slackColumns ls, those of the rows
 --   coefficientRow ..  a row's n coefficients: its terms `placed`, and `withSlack` its y at column c; coefficientRows, those of the rows
 --   lowerOf, upperOf, lowOf, highOf, rightOf   the numbers of an interval and of a row
 --   cell i             a column as it lies in the reader's table of columns: lower, upper, low, high; columnWidth numbers. `cells`, of all columns

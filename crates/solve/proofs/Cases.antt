@@ -33,12 +33,12 @@ use Rattle.solve.specs.Cases.{DeckCases}
 use Rattle.solve.specs.GoalCases.{GoalCases}
 
 pub deck-cases : DeckCases
-unfolding numbersFrom neighbourWish
-    every divisorBy divisor plus neg allZero lead dot sums stretch allDigits value decimal anyBeyond firstCause tableauFrom tableau lowered
-    reduced each choose exchange clear round gather passColumn passColumns eliminate sweep leading remaining rightSide form solve rootBits
-    wholeRoot goalIdeal ideal seatOne seat singles pairsWith pairs moves moved measure isRanked passes improves insert rankFrom firstMove
-    firstColumn stepAt stepOf nextStep settleFrom settle stride stridesFrom settleOn assign intervals terms lines isOn indices paths volumes without termsOf sweptLines readDeck
-    slackColumns placed coefficientRows posed linesFrom listing printed
+unfolding numbersFrom neighbourWish every divisorBy divisor plus neg allZero lead dot sums stretch allDigits value decimal anyBeyond
+    firstCause tableauFrom tableau lowered reduced each choose exchange clear round gather passColumn passColumns eliminate sweep leading
+    remaining rightSide form solve rootBits wholeRoot goalIdeal ideal seatOne seat singles pairsWith pairs moves moved measure isRanked
+    passes improves insert rankFrom firstMove firstColumn stepAt stepOf nextStep settleFrom settle stride stridesFrom settleOn assign
+    intervals terms lines isOn indices paths volumes without termsOf sweptLines readDeck slackColumns placed coefficientRows posed
+    linesFrom listing printed
 deck-cases = record {
   half = refl;
   whole = refl;
@@ -56,10 +56,12 @@ deck-cases = record {
 }
 
 pub goal-cases : GoalCases
-unfolding every divisorBy divisor plus neg allZero lead anyBeyond firstCause tableauFrom tableau lowered reduced each choose exchange clear round
-    gather passColumn passColumns eliminate sweep leading remaining rightSide form solve rootBits wholeRoot goalIdeal ideal seatOne seat singles
-    pairsWith pairs moves moved measure isRanked passes improves insert rankFrom firstMove firstColumn stepAt stepOf nextStep settleFrom settle
-    stride stridesFrom settleOn assign
+unfolding numbersFrom neighbourWish every divisorBy divisor plus neg allZero lead dot sums stretch allDigits value decimal anyBeyond
+    firstCause tableauFrom tableau lowered reduced each choose exchange clear round gather passColumn passColumns eliminate sweep leading
+    remaining rightSide form solve rootBits wholeRoot goalIdeal ideal seatOne seat singles pairsWith pairs moves moved measure isRanked
+    passes improves insert rankFrom firstMove firstColumn stepAt stepOf nextStep settleFrom settle stride stridesFrom settleOn assign
+    intervals terms lines isOn indices paths volumes without termsOf sweptLines readDeck slackColumns placed coefficientRows posed
+    linesFrom listing printed
 goal-cases = record {
   between = refl;
   edge = refl;
@@ -72,5 +74,6 @@ goal-cases = record {
   negative = refl;
   lower-zero = refl;
   none = refl;
+  text = refl;
   bound-first = refl;
 }

@@ -5,11 +5,9 @@
 -- Assumes nothing.
 use mathlib.Core.Path.{_≡_, sym, _∙_, ap, ap₂, subst}
 use mathlib.Core.Logic.{_↔_}
-use mathlib.Core.Bool.{Bool, true, false, cond}
 use mathlib.Core.List.{List, [], _++_, map}
 use Prim.Native.Nat.{ℕ, _+_, _≤_}
 use native.Mathlib.Omega.{arith}
-use lib.Dec.{ltb}
 use lib.IntN.{ℤ}
 use lib.ListN.{length, length-append, length-map}
 use Rattle.whole.specs.Lists.{zeros}
@@ -17,13 +15,11 @@ use Rattle.lattice.specs.Rows.{chop}
 use Rattle.lattice.specs.Sums.{Satisfies}
 use Rattle.lattice.proofs.FlatLaws.{length-chop}
 use Rattle.lattice.proofs.SumLaws.{satisfies-append, satisfies-zeros}
-use Rattle.problem.specs.declared.Refusal.the-variants.{Layout}
 use Rattle.engine.specs.Demand.{SatisfiesRows}
 use Rattle.sections.specs.Rules.{ok, no}
-use Rattle.sections.specs.Sections.{maxText, Line}
+use Rattle.sections.specs.Sections.{Line}
 use Rattle.sections.specs.StatedColumns.{slackColumns, coefficientRows, rightOf}
 use Rattle.sections.specs.declared.Interval.{Interval}
-use Rattle.sections.proofs.Numbers.{ok-not-no}
 use Rattle.sections.proofs.Storage.{map-two}
 use Rattle.volumes.specs.Volumes.{Volume}
 use Rattle.volumes.specs.PathLines.{sweptLines}
@@ -32,20 +28,15 @@ use Rattle.volumes.proofs.Lines.{tables-two, swept-rights, no-column, termRow, 
 use Rattle.volumes.proofs.Reading.{AllProper, section-proper}
 use Rattle.volumes.proofs.Sums.{swept-zero}
 use Rattle.deck.specs.Posing.{Deck, deck, readDeck, allLines, columnsOf, countOf, posed}
-use Rattle.deck.proofs.Whole.{deck-parts}
+use Rattle.deck.proofs.Whole.{deck-parts, in-limits}
 use Rattle.deck.proofs.Older.{lines-alone}
 use Rattle.solve.specs.Swept.{unswept, VolumesSatisfied}
 
 -- ---- what was read
 deck-proper : (s : List ℕ) (d : Deck) (at : ℕ) → readDeck s ≡ ok d at → AllProper (length (d .intervals)) (d .volumes)
-unfolding readDeck
-deck-proper s d at h = go (ltb maxText (length s)) h
-  where
-    go : (t : Bool) → cond t (no Layout) (deck s) ≡ ok d at → AllProper (length (d .intervals)) (d .volumes)
-    go true h = absurd (ok-not-no h)
-    go false h =
-        let p = deck-parts s d at h in
-        section-proper s (length (d .intervals)) (length (d .lines)) (p .second) (p .third) (d .volumes) (p .volumes)
+deck-proper s d at h =
+    let p = deck-parts s d at (in-limits s d at h) in
+    section-proper s (length (d .intervals)) (length (d .lines)) (p .second) (p .third) (d .volumes) (p .volumes)
 
 -- ---- lines, in n columns of which the next y is column c
 abbrev Lines : (n c : ℕ) → List Line → List ℤ → Type 0

@@ -1,11 +1,12 @@
 -- Document 02, (v): cases of a low and a high goal, as one table of the definitions.
 --   curve lo low high   one column without rows, with bounds lo to 100 and these goals
 --   tiedCurves      v1 = v2, bounds 1..10, the first with the goals 1000 and 4000, the second with 5000 twice
+--   twoGoalsText, twoGoalsListing   a text with two goals that differ, and its listing
 --   refusedGoal     refusal 5, with both lists as before
 --   GoalCases       the cases, one to a field
 -- Assumes nothing.
 use mathlib.Core.Path.{_≡_}
-use mathlib.Core.List.{[], _∷_}
+use mathlib.Core.List.{List, [], _∷_}
 use Prim.Native.Nat.{ℕ}
 use lib.IntN.{ℤ, pos, negsuc}
 use Rattle.whole.specs.Lists.{zeros}
@@ -16,6 +17,7 @@ use Rattle.settling.specs.Seating.{seated}
 use Rattle.engine.specs.Assign.{posedBy}
 use Rattle.report.specs.Listing.{countsOf}
 use Rattle.solve.specs.Cases.{Shown, assigned, gives, seatedOf}
+use Rattle.solve.specs.Program.{printed}
 
 abbrev pub curve : ℤ → ℤ → ℤ → Posed
 curve lo low high =
@@ -25,6 +27,14 @@ abbrev pub tiedCurves : Posed
 tiedCurves =
     posedBy (record { columns = 2; rows = 1; limit = 10000 }) (pos 1 ∷ negsuc 0 ∷ []) (pos 0 ∷ []) (pos 1 ∷ pos 1 ∷ []) (pos 10 ∷ pos 10 ∷ [])
     (pos 1000 ∷ pos 5000 ∷ []) (pos 4000 ∷ pos 5000 ∷ []) (zeros 2) (zeros 2)
+
+-- one curve with the goals 1000 and 4000, no row and no volume
+abbrev pub twoGoalsText : List ℕ
+twoGoalsText =
+    49 ∷ 10 ∷ 49 ∷ 32 ∷ 57 ∷ 57 ∷ 32 ∷ 49 ∷ 48 ∷ 48 ∷ 48 ∷ 32 ∷ 52 ∷ 48 ∷ 48 ∷ 48 ∷ 10 ∷ 48 ∷ 10 ∷ 48 ∷ 10 ∷ []
+
+abbrev pub twoGoalsListing : List ℕ
+twoGoalsListing = 70 ∷ 73 ∷ 84 ∷ 84 ∷ 69 ∷ 68 ∷ 32 ∷ 48 ∷ 32 ∷ 48 ∷ 10 ∷ 49 ∷ 32 ∷ 50 ∷ 32 ∷ 49 ∷ 10 ∷ []
 
 abbrev pub refusedGoal : Shown
 refusedGoal = gives (Refused Goal) (pos 7 ∷ []) (7 ∷ [])
@@ -46,5 +56,7 @@ pub record GoalCases : Type 0 where
   pub lower-zero : assigned (curve (pos 0) (pos 1000) (pos 4000)) ≡ refusedGoal
   -- no goal asks nothing of the lower bound
   pub none : assigned (curve (pos 0) (pos 0) (pos 0)) ≡ gives (Fitted (countsOf 0 0)) (pos 0 ∷ []) (1 ∷ [])
+  -- a text: "1", "1 99 1000 4000", "0", "0"; listing: "FITTED 0 0", "1 2 1"
+  pub text : printed twoGoalsText ≡ twoGoalsListing
   -- 4 comes first
   pub bound-first : assigned (curve (pos 101) (pos 4000) (pos 1000)) ≡ gives (Refused Bound) (pos 7 ∷ []) (7 ∷ [])

@@ -1,6 +1,6 @@
 -- `goals::goal_ideal` meets its contract: the product of two goals within the limit has room, and its ideal is far below 2^63. Assumes nothing.
 use mathlib.Core.Path.{_≡_, _∙_, ap}
-use Prim.Native.Nat.{ℕ, _*_, _≤_}
+use Prim.Native.Nat.{_*_, _≤_}
 use native.Mathlib.Omega.{arith}
 use borrow.Author.Needs.{needs}
 use lib.IntN.{pos, natAbs}

@@ -1,6 +1,6 @@
 -- `goals::ideal_of` meets its contract: its branches are the definition's cases, and a product of two goals keeps the others small.
 -- Assumes nothing.
-use mathlib.Core.Path.{sym, _∙_, ap}
+use mathlib.Core.Path.{_∙_, ap}
 use Prim.Native.Nat.{_+_, _*_, _≤_}
 use native.Mathlib.Omega.{arith}
 use borrow.Author.Needs.{needs}

@@ -11,7 +11,7 @@ use Rattle.problem.specs.declared.Refusal.the-variants.{Length, Coeffici
 use Rattle.problem.specs.declared.Check.{Check}
 use Rattle.problem.specs.declared.Check.the-variants.{Passed}
 use Rattle.whole.proofs.Tests.{passed, failed}
-use Rattle.problem.proofs.CheckLaws.{same-lengths}
+use Rattle.problem.proofs.CheckLaws.{column-lengths}
 use Rattle.problem.proofs.checks.first_cause.Statement.{statement}
 use Rattle.problem.proofs.checks.first_cause.Tie as tie
 
@@ -94,12 +94,14 @@ lengths-hold :
     columnLengthsFit (a .p) (a .lower .now) (a .upper .now) (a .low .now) (a .high .now) ≡ true
 lengths-hold c = passed (c .before .column-lengths-fit .ensures) (c .if3 .left)
 
-alike :
+long :
     (c : tie.Else3) →
     let a = from-columns c .args in
-    (length (a .upper .now) ≡ length (a .lower .now))
-    × (length (a .low .now) ≡ length (a .lower .now)) × (length (a .high .now) ≡ length (a .lower .now))
-alike c = let a = from-columns c .args in same-lengths (a .p) (a .lower .now) (a .upper .now) (a .low .now) (a .high .now) (lengths-hold c)
+    (length (a .lower .now) ≡ a .p .columns) × (length (a .upper .now) ≡ a .p .columns) × (length (a .low .now) ≡ a .p .columns)
+    × (length (a .high .now) ≡ a .p .columns)
+long c =
+    let a = from-columns c .args in
+    column-lengths (a .p) (a .lower .now) (a .upper .now) (a .low .now) (a .high .now) (lengths-hold c)
 
 sizes : (c : tie.Else1) → Leaves (from-sizes c) after-sizes
 unfolding firstCause
@@ -164,7 +166,10 @@ returns-6 : tie.Need-returns-6
 returns-6 c = sym (lent (c .before .before) ∙ rw (failed (c .before .rows-fit .ensures) (c .if6 .taken)))
 
 bounds-fit-requires : tie.Need-bounds-fit-requires
-bounds-fit-requires c κs = let lent-fit = c .before .before in alike (lent-fit .before .before .before .before) .0
+bounds-fit-requires c κs =
+    let lent-fit = c .before .before in
+    let l = long (lent-fit .before .before .before .before) in
+    l .1 ∙ sym (l .0)
 
 returns-7 : tie.Need-returns-7
 returns-7 c = sym (numbers (c .before .before) ∙ rw (failed (c .before .bounds-fit .ensures) (c .if7 .taken)))
@@ -172,8 +177,8 @@ returns-7 c = sym (numbers (c .before .before) ∙ rw (failed (c .before .bounds
 goals-fit-requires : tie.Need-goals-fit-requires
 goals-fit-requires c κs =
     let lent-fit = c .before .before .before .before in
-    let long = alike (lent-fit .before .before .before .before) in
-    (long .1, long .2)
+    let l = long (lent-fit .before .before .before .before) in
+    (l .2 ∙ sym (l .0), l .3 ∙ sym (l .0))
 
 returns-8 : tie.Need-returns-8
 returns-8 c = sym (bounds (c .before .before) ∙ rw (failed (c .before .goals-fit .ensures) (c .if8 .taken)))
