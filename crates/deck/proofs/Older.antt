@@ -36,8 +36,8 @@ use Rattle.volumes.specs.Volumes.{Volume, volumes, volumeSection}
 use Rattle.volumes.specs.PathLines.{sweptLines}
 use Rattle.volumes.proofs.Extending.{volume-section-extends}
 use Rattle.deck.specs.Posing.{Deck, deck, readDeck, allLines, lows, highs}
-use Rattle.deck.specs.Older.{oneGoalInterval, oneGoalIntervals, oneGoalSection, oneGoalDeck, olderDeck, twiceFrom, goalsTwice, IsRead, OneGoalTexts}
-use Rattle.deck.specs.Older.{OlderTexts}
+use Rattle.deck.specs.Older.{oneGoalInterval, oneGoalIntervals, oneGoalSection, oneGoalDeck, olderDeck, twiceFrom}
+use Rattle.deck.specs.Older.{goalsTwice, IsRead, OneGoalTexts, OlderTexts}
 use Rattle.deck.proofs.Whole.{made}
 use Rattle.deck.proofs.Pairs.{deck-twice}
 
