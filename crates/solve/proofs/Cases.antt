@@ -32,48 +32,48 @@ use Rattle.solve.specs.Program.{printed}
 use Rattle.solve.specs.Cases.{DeckCases}
 use Rattle.solve.specs.GoalCases.{GoalCases}
 
-pub deck-cases : DeckCases
+computed : DeckCases × GoalCases
 unfolding numbersFrom neighbourWish every divisorBy divisor plus neg allZero lead dot sums stretch allDigits value decimal anyBeyond
     firstCause tableauFrom tableau lowered reduced each choose exchange clear round gather passColumn passColumns eliminate sweep leading
     remaining rightSide form solve rootBits wholeRoot goalIdeal ideal seatOne seat singles pairsWith pairs moves moved measure isRanked
     passes improves insert rankFrom firstMove firstColumn stepAt stepOf nextStep settleFrom settle stride stridesFrom settleOn assign
     intervals terms lines isOn indices paths volumes without termsOf sweptLines readDeck slackColumns placed coefficientRows posed
     linesFrom listing printed
-deck-cases = record {
-  half = refl;
-  whole = refl;
-  crossed = refl;
-  twice = refl;
-  free = refl;
-  ideals = λ v. refl;
-  basis = refl;
-  seats = refl;
-  three-two = refl;
-  outside = refl;
-  fitted = refl;
-  spent = refl;
-  paving = refl;
-}
+computed = (
+  record {
+    half = refl;
+    whole = refl;
+    crossed = refl;
+    twice = refl;
+    free = refl;
+    ideals = λ v. refl;
+    basis = refl;
+    seats = refl;
+    three-two = refl;
+    outside = refl;
+    fitted = refl;
+    spent = refl;
+    paving = refl;
+  },
+  record {
+    between = refl;
+    edge = refl;
+    seats = refl;
+    tied = refl;
+    crossed = refl;
+    high-alone = refl;
+    low-alone = refl;
+    beyond = refl;
+    negative = refl;
+    lower-zero = refl;
+    none = refl;
+    text = refl;
+    bound-first = refl;
+  },
+)
+
+pub deck-cases : DeckCases
+deck-cases = computed .0
 
 pub goal-cases : GoalCases
-unfolding numbersFrom neighbourWish every divisorBy divisor plus neg allZero lead dot sums stretch allDigits value decimal anyBeyond
-    firstCause tableauFrom tableau lowered reduced each choose exchange clear round gather passColumn passColumns eliminate sweep leading
-    remaining rightSide form solve rootBits wholeRoot goalIdeal ideal seatOne seat singles pairsWith pairs moves moved measure isRanked
-    passes improves insert rankFrom firstMove firstColumn stepAt stepOf nextStep settleFrom settle stride stridesFrom settleOn assign
-    intervals terms lines isOn indices paths volumes without termsOf sweptLines readDeck slackColumns placed coefficientRows posed
-    linesFrom listing printed
-goal-cases = record {
-  between = refl;
-  edge = refl;
-  seats = refl;
-  tied = refl;
-  crossed = refl;
-  high-alone = refl;
-  low-alone = refl;
-  beyond = refl;
-  negative = refl;
-  lower-zero = refl;
-  none = refl;
-  text = refl;
-  bound-first = refl;
-}
+goal-cases = computed .1
