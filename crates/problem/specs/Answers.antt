@@ -9,13 +9,13 @@ use mathlib.Core.Bool.{Bool, true, false}
 use Prim.Native.Nat.{ℕ}
 use Rattle.problem.specs.declared.Refusal.{Refusal}
 use Rattle.problem.specs.declared.Refusal.the-variants.{Size, Length, Coefficient, Bound, Goal, Limit}
-use Rattle.problem.specs.declared.Refusal.the-variants.{Elimination, NoWholeNumbers, Seating, Standing, Layout, Term, Volume}
+use Rattle.problem.specs.declared.Refusal.the-variants.{Elimination, NoWholeNumbers, Seating, Standing, Layout, Term, Volume, Pair, PairBounds}
 use Rattle.problem.specs.declared.Counts.{Counts}
 use Rattle.problem.specs.declared.Answer.{Answer}
 use Rattle.problem.specs.declared.Answer.the-variants.{Fitted, Outside, Spent, Refused}
 
 abbrev pub refusalNumber : Refusal → ℕ
--- "n or m outside"; document 02, (iii): "a count of paths that makes a 49th row"
+-- "n or m outside"; document 02, (iii): "a count of paths that makes a 49th row"; (vi): "a joined size beyond 48"
 refusalNumber Size = 1
 -- "a lent length not exactly what n and m need"
 refusalNumber Length = 2
@@ -41,6 +41,10 @@ refusalNumber Layout = 11
 refusalNumber Term = 12
 -- document 02, (iii): "a negative count of volumes, a count of paths or of a path's intervals below 1, or an index outside or twice in one path"
 refusalNumber Volume = 13
+-- document 02, (vi): "a pair with a column outside or used before"
+refusalNumber Pair = 14
+-- "bounds of a pair that leave nothing"
+refusalNumber PairBounds = 15
 
 abbrev pub noSteps : Counts
 noSteps = record { bounds = 0; goals = 0 }

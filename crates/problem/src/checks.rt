@@ -13,7 +13,7 @@ use whole::less;
 use whole::magnitude;
 
 // Cause 1, against the most columns and rows that the caller allows.
-pub(crate) fn sizes_fit(p: Problem, columns: usize, rows: usize) -> bool
+pub fn sizes_fit(p: Problem, columns: usize, rows: usize) -> bool
     ensures { λ r. ⌜ r ≡ sizesFit columns rows p ⌝ }
 {
     if p.columns < 1 {
@@ -26,7 +26,7 @@ pub(crate) fn sizes_fit(p: Problem, columns: usize, rows: usize) -> bool
 }
 
 // Cause 2 of the rows' lists. The sizes come first, so that the product fits.
-pub(crate) fn row_lengths_fit(p: Problem, coefficients: &[i64], rights: &[i64]) -> bool
+pub fn row_lengths_fit(p: Problem, coefficients: &[i64], rights: &[i64]) -> bool
     requires { ⌜ sizesFit maxColumns maxRows p ≡ true ⌝ }
     ensures { λ r. ⌜ r ≡ rowLengthsFit p (now (coefficients .entry)) (now (rights .entry)) ⌝ }
 {
@@ -37,7 +37,7 @@ pub(crate) fn row_lengths_fit(p: Problem, coefficients: &[i64], rights: &[i64]) 
 }
 
 // Cause 2 of the columns' lists.
-pub(crate) fn column_lengths_fit(
+pub fn column_lengths_fit(
     p: Problem,
     lower: &[i64],
     upper: &[i64],
@@ -59,7 +59,7 @@ pub(crate) fn column_lengths_fit(
 }
 
 // Cause 2 of the ideals' lists: whether there is one, and the number.
-pub(crate) fn ideal_lengths_fit(p: Problem, given: &[i64], ideals: &[i64]) -> bool
+pub fn ideal_lengths_fit(p: Problem, given: &[i64], ideals: &[i64]) -> bool
     ensures { λ r. ⌜ r ≡ idealLengthsFit p (now (given .entry)) (now (ideals .entry)) ⌝ }
 {
     if given.len() != p.columns {
@@ -104,7 +104,7 @@ pub fn all_span(s: &[i64], most: u64) -> bool
 }
 
 // Cause 3.
-pub(crate) fn rows_fit(coefficients: &[i64], rights: &[i64]) -> bool
+pub fn rows_fit(coefficients: &[i64], rights: &[i64]) -> bool
     ensures { λ r. ⌜ r ≡ rowsFit (now (coefficients .entry)) (now (rights .entry)) ⌝ }
 {
     if !all_span(coefficients, Problem::MAX_COEFFICIENT) {
@@ -127,7 +127,7 @@ pub(crate) fn bound_fits(lower: i64, upper: i64) -> bool
 }
 
 // Cause 4. The lengths come first, so that each column has both bounds.
-pub(crate) fn bounds_fit(lower: &[i64], upper: &[i64]) -> bool
+pub fn bounds_fit(lower: &[i64], upper: &[i64]) -> bool
     requires { ⌜ length (now upper) ≡ length (now lower) ⌝ }
     ensures { λ r. ⌜ r ≡ boundsFit (now (lower .entry)) (now (upper .entry)) ⌝ }
 {
@@ -185,7 +185,7 @@ pub(crate) fn goal_fits(lower: i64, low: i64, high: i64) -> bool
 }
 
 // Cause 5. The lengths come first here too.
-pub(crate) fn goals_fit(lower: &[i64], low: &[i64], high: &[i64]) -> bool
+pub fn goals_fit(lower: &[i64], low: &[i64], high: &[i64]) -> bool
     requires { ⌜ (length (now low) ≡ length (now lower)) × (length (now high) ≡ length (now lower)) ⌝ }
     ensures { λ r. ⌜ r ≡ goalsFit (now (lower .entry)) (now (low .entry)) (now (high .entry)) ⌝ }
 {

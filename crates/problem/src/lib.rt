@@ -102,6 +102,8 @@ pub enum Refusal {
     Layout,
     Term,
     Volume,
+    Pair,
+    PairBounds,
 }
 
 // The steps of the bounds part and of the goals part.
@@ -164,6 +166,8 @@ impl Refusal {
             Refusal::Layout => 11,
             Refusal::Term => 12,
             Refusal::Volume => 13,
+            Refusal::Pair => 14,
+            Refusal::PairBounds => 15,
         }
     }
 }

@@ -15,7 +15,7 @@ use Rattle.problem.specs.Answers.{refusalNumber, answerCounts}
 use Rattle.problem.specs.declared.Counts.{Counts}
 use Rattle.problem.specs.declared.Refusal.{Refusal}
 use Rattle.problem.specs.declared.Refusal.the-variants.{Size, Length, Coefficient, Bound, Goal, Limit}
-use Rattle.problem.specs.declared.Refusal.the-variants.{Elimination, NoWholeNumbers, Seating, Standing, Layout, Term, Volume}
+use Rattle.problem.specs.declared.Refusal.the-variants.{Elimination, NoWholeNumbers, Seating, Standing, Layout, Term, Volume, Pair, PairBounds}
 use Rattle.problem.specs.declared.Answer.{Answer}
 use Rattle.problem.specs.declared.Answer.the-variants.{Fitted, Outside, Spent, Refused}
 use Rattle.report.specs.Listing.{FITTED, OUTSIDE, SPENT, NONE, lineEnd, verdict, line, linesFrom, numbered, refusal, listing}
@@ -63,6 +63,8 @@ refusal-short Standing = omega arith
 refusal-short Layout = omega arith
 refusal-short Term = omega arith
 refusal-short Volume = omega arith
+refusal-short Pair = omega arith
+refusal-short PairBounds = omega arith
 
 module _ (b i j k : ℕ) (v : List ℤ) (d : List ℕ)
     (p : length v < 10 ^ suc i) (q : (x : ℕ) → natAbs (entry x v) < 10 ^ suc j) (r : (x : ℕ) → getD d x 0 < 10 ^ suc k) where

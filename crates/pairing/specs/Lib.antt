@@ -1,0 +1,3 @@
+-- The root of the definitions.
+pub mod Parts
+pub mod Pairs

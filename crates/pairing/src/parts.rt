@@ -1,0 +1,97 @@
+// A part by itself: the causes 1 to 5.
+ghost use mathlib.Core.Path.{_≡_};
+ghost use mathlib.Core.Bool.{true};
+ghost use Rattle.problem.specs.Limits.{maxColumns, maxRows};
+ghost use Rattle.problem.specs.Checks.{sizesFit};
+ghost use Rattle.pairing.specs.Parts.{lists, partOf, sized, listsFit, partCause};
+use crate::Sizes;
+use problem::Check;
+use problem::Problem;
+use problem::Refusal;
+use problem::checks::bounds_fit;
+use problem::checks::column_lengths_fit;
+use problem::checks::goals_fit;
+use problem::checks::ideal_lengths_fit;
+use problem::checks::row_lengths_fit;
+use problem::checks::rows_fit;
+use problem::checks::sizes_fit;
+
+// The sizes as a problem's numbers. No check here looks at the limit.
+pub fn as_problem(s: Sizes) -> Problem
+    ensures { λ r. ⌜ r ≡ sized (s .columns) (s .rows) ⌝ }
+{
+    Problem {
+        columns: s.columns,
+        rows: s.rows,
+        limit: 0,
+    }
+}
+
+// Cause 2 of eight lists. The sizes come first, so that the product fits.
+pub fn lists_fit(
+    p: Problem,
+    coefficients: &[i64],
+    rights: &[i64],
+    lower: &[i64],
+    upper: &[i64],
+    low: &[i64],
+    high: &[i64],
+    given: &[i64],
+    ideals: &[i64],
+) -> bool
+    requires { ⌜ sizesFit maxColumns maxRows p ≡ true ⌝ }
+    ensures { λ r. ⌜ r ≡ listsFit p (lists (now (coefficients .entry)) (now (rights .entry)) (now (lower .entry)) (now (upper .entry))
+        (now (low .entry)) (now (high .entry)) (now (given .entry)) (now (ideals .entry))) ⌝ }
+{
+    if !row_lengths_fit(p, coefficients, rights) {
+        return false;
+    }
+    if !column_lengths_fit(p, lower, upper, low, high) {
+        return false;
+    }
+    ideal_lengths_fit(p, given, ideals)
+}
+
+// The first cause of 1 to 5 that holds, in the order of document 01's table.
+pub fn part_cause(
+    s: Sizes,
+    coefficients: &[i64],
+    rights: &[i64],
+    lower: &[i64],
+    upper: &[i64],
+    low: &[i64],
+    high: &[i64],
+    given: &[i64],
+    ideals: &[i64],
+) -> Check
+    ensures { λ r. ⌜ r ≡ partCause (partOf s (lists (now (coefficients .entry)) (now (rights .entry)) (now (lower .entry)) (now (upper .entry))
+        (now (low .entry)) (now (high .entry)) (now (given .entry)) (now (ideals .entry)))) ⌝ }
+{
+    let p = as_problem(s);
+    if !sizes_fit(p, Problem::MAX_COLUMNS, Problem::MAX_ROWS) {
+        return Check::Failed(Refusal::Size);
+    }
+    if !lists_fit(
+        p,
+        coefficients,
+        rights,
+        lower,
+        upper,
+        low,
+        high,
+        given,
+        ideals,
+    ) {
+        return Check::Failed(Refusal::Length);
+    }
+    if !rows_fit(coefficients, rights) {
+        return Check::Failed(Refusal::Coefficient);
+    }
+    if !bounds_fit(lower, upper) {
+        return Check::Failed(Refusal::Bound);
+    }
+    if !goals_fit(lower, low, high) {
+        return Check::Failed(Refusal::Goal);
+    }
+    Check::Passed
+}
