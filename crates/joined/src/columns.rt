@@ -207,26 +207,26 @@ fn absorb_ideals(
 pub fn join_ideals(
     given: &mut [i64],
     ideals: &mut [i64],
-    first_given: &[i64],
-    first_ideals: &[i64],
-    second_given: &[i64],
-    second_ideals: &[i64],
+    given1: &[i64],
+    ideals1: &[i64],
+    given2: &[i64],
+    ideals2: &[i64],
     partners: &[usize],
     places: &[usize],
 )
-    requires { ⌜ (length (now first_given) ≤ length (now given)) × (length (now first_ideals) ≤ length (now ideals)) ⌝ }
-    requires { ⌜ (length (now partners) ≡ length (now second_ideals)) × (length (now places) ≡ length (now second_ideals))
-        × (length (now second_given) ≡ length (now second_ideals)) ⌝ }
+    requires { ⌜ (length (now given1) ≤ length (now given)) × (length (now ideals1) ≤ length (now ideals)) ⌝ }
+    requires { ⌜ (length (now partners) ≡ length (now ideals2)) × (length (now places) ≡ length (now ideals2))
+        × (length (now given2) ≡ length (now ideals2)) ⌝ }
     requires { ⌜ AllBelow (length (now given)) (now places) × AllBelow (length (now ideals)) (now places) ⌝ }
-    ensures { λ _. ⌜ now (given .exit) ≡ absorbInto Given (now (first_given .entry) ++ drop (length (now (first_given .entry))) (now (given .entry)))
-        (now (partners .entry)) (now (places .entry)) (now (second_given .entry)) ⌝ }
-    ensures { λ _. ⌜ now (ideals .exit) ≡ absorbIdeals (now (first_given .entry) ++ drop (length (now (first_given .entry))) (now (given .entry)))
-        (now (first_ideals .entry) ++ drop (length (now (first_ideals .entry))) (now (ideals .entry)))
-        (now (partners .entry)) (now (places .entry)) (now (second_given .entry)) (now (second_ideals .entry)) ⌝ }
+    ensures { λ _. ⌜ now (given .exit) ≡ absorbInto Given (now (given1 .entry) ++ drop (length (now (given1 .entry))) (now (given .entry)))
+        (now (partners .entry)) (now (places .entry)) (now (given2 .entry)) ⌝ }
+    ensures { λ _. ⌜ now (ideals .exit) ≡ absorbIdeals (now (given1 .entry) ++ drop (length (now (given1 .entry))) (now (given .entry)))
+        (now (ideals1 .entry) ++ drop (length (now (ideals1 .entry))) (now (ideals .entry)))
+        (now (partners .entry)) (now (places .entry)) (now (given2 .entry)) (now (ideals2 .entry)) ⌝ }
 {
-    let n = first_given.len();
-    let k = first_ideals.len();
-    copy(&mut given[..n], first_given);
-    copy(&mut ideals[..k], first_ideals);
-    absorb_ideals(given, ideals, second_given, second_ideals, partners, places);
+    let n = given1.len();
+    let k = ideals1.len();
+    copy(&mut given[..n], given1);
+    copy(&mut ideals[..k], ideals1);
+    absorb_ideals(given, ideals, given2, ideals2, partners, places);
 }

@@ -1,7 +1,8 @@
 -- Document 02, (vi): "From two problems and a list of pairs (column of the first, column of the second) make one".
 --   onPassed c next       the refusal that the check c finds, else the next check
---   partners P Q ps       the partners that the pairs leave
---   joinedSizes P R       the joined problem's sizes, as a problem's numbers
+--   pairing P Q ps        what is found of the pairs, and the partners that they leave; partners P Q ps, these
+--   joinedSizes P Q R     the joined problem's sizes, as a problem's numbers
+--   roomCause p B         1 and 2 of the joined problem p and the lent lists B
 --   joinCause P Q ps B    the first cause that turns a join back, in the order of the request; B are the lent lists
 --   Left                  what a join answers (Joining is declared in src/), and what is left in the lent lists; `left` makes one
 --   join P Q ps B         both: with a refusal "buffers as before"
@@ -36,7 +37,7 @@ abbrev pub partners : Part → Part → List ℕ → List ℕ
 partners P Q ps = pairing P Q ps .partners
 
 abbrev pub joinedSizes : Part → Part → List ℕ → Problem
-joinedSizes P Q R = sized (joinedCount P R) (P .rows + Q .rows)
+joinedSizes P Q R = sized (joinedCount P R) (P .rows + Q .rows) 0
 
 -- "1 for a joined size beyond 48, and last 2 for the joined problem's buffers"
 abbrev pub roomCause : Problem → Lists → Check

@@ -3,7 +3,9 @@
 --                     the marks of the ideals that are set, 0 where none is, and their numbers
 --   Part              a problem without a step limit, its sizes and its lists: "Two blocks of a hull share curves."
 --   lists, partOf     the eight lists of a call's arguments, and a part of its sizes (Sizes is declared in src/) and its lists
---   sized n m         the sizes as a problem's numbers, with the step limit 0, which no check here looks at
+--   sized n m limit   the sizes as a problem's numbers, with a step limit
+--   posed P limit     a part as a call takes it, with a step limit
+--   roomFor p         the lengths of the buffers that a call on the problem p fills
 --   matrix P          its rows
 --   PartColumn        what a part says of one column; noColumn stands past the last one
 --   columnIn l j      what the lists l say of column j, counted from 0
@@ -16,19 +18,17 @@
 use mathlib.Core.Path.{_≡_}
 use mathlib.Core.Bool.{Bool, true, _&&_}
 use mathlib.Core.List.{List, [], _∷_}
-use Prim.Native.Nat.{ℕ, zero, suc}
+use Prim.Native.Nat.{ℕ, zero, suc, _+_, _*_}
 use lib.IntN.{ℤ, pos}
 use lib.ListN.{getD}
 use Rattle.whole.specs.Lists.{entry}
 use Rattle.whole.specs.Tests.{inRange, every}
 use Rattle.lattice.specs.Rows.{chop}
 use Rattle.lattice.specs.Sums.{Satisfies}
-use Rattle.problem.specs.Limits.{maxColumns, maxRows}
-use Rattle.problem.specs.Checks.{sizesFit, rowLengthsFit, columnLengthsFit, idealLengthsFit, rowsFit, boundsFit, goalsFit, orNext}
+use Rattle.problem.specs.Checks.{Posed, rowLengthsFit, columnLengthsFit, idealLengthsFit, firstCause}
 use Rattle.problem.specs.declared.Problem.{Problem}
-use Rattle.problem.specs.declared.Refusal.the-variants.{Size, Length, Coefficient, Bound, Goal}
+use Rattle.problem.specs.declared.Lent.{Lent}
 use Rattle.problem.specs.declared.Check.{Check}
-use Rattle.problem.specs.declared.Check.the-variants.{Passed}
 use Rattle.pairing.specs.declared.Sizes.{Sizes}
 
 pub record Lists : Type 0 where
@@ -61,8 +61,21 @@ lists coefficients rights lower upper low high given ideals = record {
 abbrev pub partOf : Sizes → Lists → Part
 partOf s l = record { columns = s .columns; rows = s .rows; lists = l }
 
-abbrev pub sized : ℕ → ℕ → Problem
-sized n m = record { columns = n; rows = m; limit = 0 }
+abbrev pub sized : ℕ → ℕ → ℕ → Problem
+sized n m limit = record { columns = n; rows = m; limit = limit }
+
+abbrev pub posed : Part → ℕ → Posed
+posed P limit = record {
+  problem = sized (P .columns) (P .rows) limit;
+  coefficients = P .lists .coefficients;
+  rights = P .lists .rights;
+  lower = P .lists .lower;
+  upper = P .lists .upper;
+  low = P .lists .low;
+  high = P .lists .high;
+  given = P .lists .given;
+  ideals = P .lists .ideals;
+}
 
 abbrev pub matrix : Part → List (List ℤ)
 matrix P = chop (P .rows) (P .columns) (P .lists .coefficients)
@@ -105,16 +118,13 @@ listsFit p l =
     rowLengthsFit p (l .coefficients) (l .rights)
     && (columnLengthsFit p (l .lower) (l .upper) (l .low) (l .high) && idealLengthsFit p (l .given) (l .ideals))
 
--- "1 to 5 of the first part, then the second's": as of any problem, but that no buffer is lent to be filled and no step limit is given
+abbrev pub roomFor : Problem → Lent
+roomFor p = record { tableau = p .columns * (p .rows + p .columns); values = p .columns; strides = p .columns }
+
+-- "1 to 5 of the first part, then the second's": those of any problem. Its own lists are looked at for 2; the step limit 0 and buffers of the right
+-- lengths are no cause.
 unfoldable pub partCause : Part → Check
-partCause P =
-    let p : Problem = sized (P .columns) (P .rows) in
-    let l : Lists = P .lists in
-    orNext (sizesFit maxColumns maxRows p) Size
-    (orNext (listsFit p l) Length
-    (orNext (rowsFit (l .coefficients) (l .rights)) Coefficient
-    (orNext (boundsFit (l .lower) (l .upper)) Bound
-    (orNext (goalsFit (l .lower) (l .low) (l .high)) Goal Passed))))
+partCause P = firstCause (posed P 0) (roomFor (sized (P .columns) (P .rows) 0))
 
 -- ---- what a list is to keep: "satisfies the joined rows and bounds"
 abbrev pub inBounds : Part → List ℤ → Bool

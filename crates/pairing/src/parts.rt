@@ -6,19 +6,18 @@ ghost use Rattle.problem.specs.Checks.{sizesFit};
 ghost use Rattle.pairing.specs.Parts.{lists, partOf, sized, listsFit, partCause};
 use crate::Sizes;
 use problem::Check;
+use problem::Lent;
 use problem::Problem;
 use problem::Refusal;
-use problem::checks::bounds_fit;
 use problem::checks::column_lengths_fit;
-use problem::checks::goals_fit;
+use problem::checks::first_cause;
 use problem::checks::ideal_lengths_fit;
 use problem::checks::row_lengths_fit;
-use problem::checks::rows_fit;
 use problem::checks::sizes_fit;
 
 // The sizes as a problem's numbers. No check here looks at the limit.
 pub fn as_problem(s: Sizes) -> Problem
-    ensures { λ r. ⌜ r ≡ sized (s .columns) (s .rows) ⌝ }
+    ensures { λ r. ⌜ r ≡ sized (s .columns) (s .rows) 0 ⌝ }
 {
     Problem {
         columns: s.columns,
@@ -52,7 +51,7 @@ pub fn lists_fit(
     ideal_lengths_fit(p, given, ideals)
 }
 
-// The first cause of 1 to 5 that holds, in the order of document 01's table.
+// The first cause of 1 to 5 that holds. A problem too large is turned back before its buffers' lengths are worked out.
 pub fn part_cause(
     s: Sizes,
     coefficients: &[i64],
@@ -71,7 +70,13 @@ pub fn part_cause(
     if !sizes_fit(p, Problem::MAX_COLUMNS, Problem::MAX_ROWS) {
         return Check::Failed(Refusal::Size);
     }
-    if !lists_fit(
+    let n = s.columns;
+    let room = Lent {
+        tableau: n * (s.rows + n),
+        values: n,
+        strides: n,
+    };
+    first_cause(
         p,
         coefficients,
         rights,
@@ -81,17 +86,6 @@ pub fn part_cause(
         high,
         given,
         ideals,
-    ) {
-        return Check::Failed(Refusal::Length);
-    }
-    if !rows_fit(coefficients, rights) {
-        return Check::Failed(Refusal::Coefficient);
-    }
-    if !bounds_fit(lower, upper) {
-        return Check::Failed(Refusal::Bound);
-    }
-    if !goals_fit(lower, low, high) {
-        return Check::Failed(Refusal::Goal);
-    }
-    Check::Passed
+        room,
+    )
 }

@@ -104,7 +104,7 @@ pub fn all_span(s: &[i64], most: u64) -> bool
 }
 
 // Cause 3.
-pub fn rows_fit(coefficients: &[i64], rights: &[i64]) -> bool
+pub(crate) fn rows_fit(coefficients: &[i64], rights: &[i64]) -> bool
     ensures { λ r. ⌜ r ≡ rowsFit (now (coefficients .entry)) (now (rights .entry)) ⌝ }
 {
     if !all_span(coefficients, Problem::MAX_COEFFICIENT) {
@@ -127,7 +127,7 @@ pub(crate) fn bound_fits(lower: i64, upper: i64) -> bool
 }
 
 // Cause 4. The lengths come first, so that each column has both bounds.
-pub fn bounds_fit(lower: &[i64], upper: &[i64]) -> bool
+pub(crate) fn bounds_fit(lower: &[i64], upper: &[i64]) -> bool
     requires { ⌜ length (now upper) ≡ length (now lower) ⌝ }
     ensures { λ r. ⌜ r ≡ boundsFit (now (lower .entry)) (now (upper .entry)) ⌝ }
 {
@@ -185,7 +185,7 @@ pub(crate) fn goal_fits(lower: i64, low: i64, high: i64) -> bool
 }
 
 // Cause 5. The lengths come first here too.
-pub fn goals_fit(lower: &[i64], low: &[i64], high: &[i64]) -> bool
+pub(crate) fn goals_fit(lower: &[i64], low: &[i64], high: &[i64]) -> bool
     requires { ⌜ (length (now low) ≡ length (now lower)) × (length (now high) ≡ length (now lower)) ⌝ }
     ensures { λ r. ⌜ r ≡ goalsFit (now (lower .entry)) (now (low .entry)) (now (high .entry)) ⌝ }
 {
