@@ -1,2 +1,4 @@
 -- The root of the laws that the proofs cite.
 pub mod Walking
+pub mod Orders
+pub mod Partners
