@@ -1,5 +1,6 @@
 -- The root of the definitions.
 pub mod Calls
+pub mod Joins
 pub mod Previews
 pub mod Reads
 pub mod Version

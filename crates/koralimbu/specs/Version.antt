@@ -8,7 +8,7 @@ abbrev pub major : ℕ
 major = 0
 
 abbrev pub minor : ℕ
-minor = 6
+minor = 7
 
 abbrev pub patch : ℕ
 patch = 0
