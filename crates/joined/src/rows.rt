@@ -49,13 +49,14 @@ fn spread_row(out: &mut [i64], row: &[i64], places: &[usize])
 // The first's rows, n to a row of the joined problem.
 fn pad_rows(out: &mut [i64], n: usize, coefficients: &[i64], s: Sizes)
     requires { ⌜ (length (now coefficients) ≡ s .rows * s .columns) × (length (now out) ≡ s .rows * n) × (s .columns ≤ n) ⌝ }
-    requires { ⌜ (s .rows ≤ 1000) × (n ≤ 1000) ⌝ }
     ensures { λ _. ⌜ now (out .exit) ≡ flat (map (padded (n - s .columns)) (chop (s .rows) (s .columns) (now (coefficients .entry)))) ⌝ }
 {
+    let m = s.rows;
+    let w = s.columns;
     let mut i = 0;
-    while i < s.rows {
-        let a = i * s.columns;
-        let e = a + s.columns;
+    while i < m {
+        let a = i * w;
+        let e = a + w;
         let at = i * n;
         let next = at + n;
         pad_row(&mut out[at..next], &coefficients[a..e]);
@@ -67,13 +68,14 @@ fn pad_rows(out: &mut [i64], n: usize, coefficients: &[i64], s: Sizes)
 fn spread_rows(out: &mut [i64], n: usize, coefficients: &[i64], s: Sizes, places: &[usize])
     requires { ⌜ (length (now coefficients) ≡ s .rows * s .columns) × (length (now out) ≡ s .rows * n) × (length (now places) ≡ s .columns) ⌝ }
     requires { ⌜ AllBelow n (now places) ⌝ }
-    requires { ⌜ (s .rows ≤ 1000) × (s .columns ≤ 1000) × (n ≤ 1000) ⌝ }
     ensures { λ _. ⌜ now (out .exit) ≡ flat (map (Joined.spread n (now (places .entry))) (chop (s .rows) (s .columns) (now (coefficients .entry)))) ⌝ }
 {
+    let m = s.rows;
+    let w = s.columns;
     let mut i = 0;
-    while i < s.rows {
-        let a = i * s.columns;
-        let e = a + s.columns;
+    while i < m {
+        let a = i * w;
+        let e = a + w;
         let at = i * n;
         let next = at + n;
         spread_row(&mut out[at..next], &coefficients[a..e], places);
