@@ -3,7 +3,6 @@ trying every list of a box, each refusal and which of two is named, and wrong an
 told apart.
 """
 
-import copy
 import itertools
 
 import joins
@@ -178,7 +177,8 @@ def box_join(rng):
     share = joins.other_share(hidden, pairs, n[1], rng, 0, 2)
     parts = []
     for own in (hidden, share):
-        rows = [[rng.choice([-1, 0, 1, 1, 2]) for _ in own] for _ in range(rng.choice([0, 1, 1, 2]))]
+        rows = [[rng.choice([-1, 0, 1, 1, 2]) for _ in own]
+                for _ in range(rng.choice([0, 1, 1, 2]))]
         rights = [sum(a * v for a, v in zip(row, own)) for row in rows]
         bounds = [(value - rng.randint(0, 2), value + rng.randint(0, 2)) for value in own]
         parts.append(part(bounds, rows, rights))
@@ -382,47 +382,51 @@ def refusal_2_of_the_joined_lists():
         check_refused("joined lists for %d and %d" % (n, m), sound_join(n=n, m=m), 2)
 
 
+# Each spoils one more thing of a join at a time, whose cause comes before those already there,
+# and tells what is to be seen and the number.
+def spoil_pairs_and_later(case):
+    case.lent.rights.append(7)
+    yield "2 of the joined lists", 2
+    case.second.m = 48
+    case.second.coefficients = [0] * 96
+    case.second.rights = [0] * 48
+    yield "1 before 2 of the joined lists", 1
+    case.second.lower[1], case.second.upper[1] = 10, 11
+    case.pairs += [2, 2]
+    yield "15 before 1 of the size", 15
+    case.pairs += [0, 1]
+    yield "15 before a later pair's 14", 15
+    case.pairs[0] = 2
+    yield "14 before 15 of its own pair", 14
+    case.pairs[0] = 4
+    yield "14 before a later pair's 15", 14
+    case.pairs.append(1)
+    yield "2 of an odd list before 14", 2
+
+
+def spoil_parts(case):
+    # beside each, a column without a goal
+    for name, part, j, later in (("second", case.second, 0, "2 of an odd list"),
+                                 ("first", case.first, 1, "1 of the second")):
+        part.high[j] = 1
+        yield "5 of the %s before %s" % (name, later), 5
+        part.upper[0] = 0
+        yield "4 before 5 of the %s" % name, 4
+        part.rights[0] = 1000001
+        yield "3 before 4 of the %s" % name, 3
+        part.given.append(0)
+        yield "2 before 3 of the %s" % name, 2
+        part.m = 49
+        yield "1 before 2 of the %s" % name, 1
+
+
 @test
 def order_of_refusals():
     """Each cause is added before those that are there, and is then the one named."""
     case = sound_join()
-    case.lent.rights.append(7)
-    check_refused("2 of the joined lists", case, 2)
-    case.second.m = 48
-    case.second.coefficients = [0] * 96
-    case.second.rights = [0] * 48
-    check_refused("1 before 2 of the joined lists", case, 1)
-    case.second.lower[1], case.second.upper[1] = 10, 11
-    case.pairs += [2, 2]
-    check_refused("15 before 1 of the size", case, 15)
-    case.pairs += [0, 1]
-    check_refused("15 before a later pair's 14", case, 15)
-    case.pairs[0] = 2
-    check_refused("14 before 15 of its own pair", case, 14)
-    case.pairs[0] = 4
-    check_refused("14 before a later pair's 15", case, 14)
-    case.pairs.append(1)
-    check_refused("2 of an odd list before 14", case, 2)
-    case.second.high[0] = 1
-    check_refused("5 of the second before 2 of an odd list", case, 5)
-    case.second.upper[0] = 0
-    check_refused("4 before 5 of the second", case, 4)
-    case.second.rights[0] = 1000001
-    check_refused("3 before 4 of the second", case, 3)
-    case.second.given.append(0)
-    check_refused("2 before 3 of the second", case, 2)
-    case.second.n = 0
-    check_refused("1 before 2 of the second", case, 1)
-    case.first.high[1] = 1
-    check_refused("5 of the first before 1 of the second", case, 5)
-    case.first.upper[0] = 0
-    check_refused("4 before 5 of the first", case, 4)
-    case.first.coefficients[0] = -1001
-    check_refused("3 before 4 of the first", case, 3)
-    case.first.ideals.pop()
-    check_refused("2 before 3 of the first", case, 2)
-    case.first.m = 49
-    check_refused("1 before 2 of the first", case, 1)
+    for spoil in (spoil_pairs_and_later, spoil_parts):
+        for what, number in spoil(case):
+            check_refused(what, case, number)
 
 
 @test
@@ -432,7 +436,7 @@ def order_within_pairs():
     for pairs, number in (([1, 2], 15), ([1, 1, 1, 2], 14), ([3, 2, 1, 2], 14), ([1, 2, 1, 2], 15),
                           ([1, 2, 0, 1], 15), ([0, 1, 1, 2], 14), ([3, 1, 1, 2, 3, 1], 15),
                           ([3, 1, 3, 1, 1, 2], 14), ([1, 2, 9], 2), ([1, 1, 4, 2, 2, 2], 14)):
-        case = Join(*copy.deepcopy(parts), pairs, lists_for(5 - len(pairs) // 2, 0))
+        case = Join(*parts, pairs, lists_for(5 - len(pairs) // 2, 0))
         check_refused("pairs %r" % pairs, case, number)
 
 
