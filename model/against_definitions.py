@@ -41,7 +41,8 @@ MOST_BYTES = 240
 MOST_DIGITS = 5
 
 REFUSALS = ["Size", "Length", "Coefficient", "Bound", "Goal", "Limit", "Elimination",
-            "NoWholeNumbers", "Seating", "Standing", "Layout", "Term", "Volume"]
+            "NoWholeNumbers", "Seating", "Standing", "Layout", "Term", "Volume", "Pair",
+            "PairBounds"]
 
 
 # ------------------------------------------------------------- values as terms

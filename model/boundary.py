@@ -2,7 +2,8 @@
 
 To import: load() proves, builds and loads the crate koralimbu, declare() types one of its
 functions, Buffer is a list of numbers as C holds it, call() makes a call and tells
-what every buffer then holds, Tally counts the calls that agree with the model.
+what every buffer then holds, call_with() does where numbers stand between the buffers, Tally
+counts the calls that agree with the model.
 """
 
 import ctypes
@@ -50,10 +51,14 @@ def load(what):
     return ctypes.CDLL(SHARED)
 
 
+# How a buffer is handed over: where it lies, and its count.
+LENT = [ctypes.c_void_p, ctypes.c_size_t]
+
+
 def declare(function, numbers, buffers):
     """The function, which takes numbers of these kinds and then so many buffers."""
     function.restype = ctypes.c_uint32
-    function.argtypes = numbers + [ctypes.c_void_p, ctypes.c_size_t] * buffers
+    function.argtypes = numbers + LENT * buffers
     return function
 
 
@@ -80,9 +85,16 @@ class Buffer:
 def call(function, numbers, buffers):
     """The returned number, every buffer after the call, and the edges, by buffer, that
     are not as they were: none may be."""
-    arguments = list(numbers)
-    for buffer in buffers.values():
-        arguments += buffer.arguments
+    return call_with(function, list(numbers) + handed(buffers), buffers)
+
+
+def handed(buffers):
+    """The arguments of buffers, one after the other."""
+    return [argument for buffer in buffers.values() for argument in buffer.arguments]
+
+
+def call_with(function, arguments, buffers):
+    """The same with all arguments as they are handed over."""
     after = {"number": function(*arguments)}
     after.update((name, buffer.numbers()) for name, buffer in buffers.items())
     after["edges"] = {name: buffer.edges() for name, buffer in buffers.items()

@@ -115,8 +115,8 @@ def counts_outside(problem):
             or not 0 <= problem.m <= MAX_ROWS)
 
 
-def wrong_length(problem, lent):
-    """“a lent length not exactly what n and m need”."""
+def lists_wrong(problem):
+    """“a lent length not exactly what n and m need”: of the problem's lists."""
     n, m = problem.n, problem.m
     return (len(problem.coefficients) != m * n
             or len(problem.rights) != m
@@ -125,7 +125,13 @@ def wrong_length(problem, lent):
             or len(problem.low) != n
             or len(problem.high) != n
             or len(problem.given) != n
-            or len(problem.ideals) != n
+            or len(problem.ideals) != n)
+
+
+def wrong_length(problem, lent):
+    """The same of all buffers of a call."""
+    n, m = problem.n, problem.m
+    return (lists_wrong(problem)
             or len(lent.tableau) != n * (m + n)
             or len(lent.values) != n
             or len(lent.strides) != n)
@@ -170,12 +176,8 @@ def limit_outside(problem):
     return not 0 <= problem.limit <= MAX_LIMIT
 
 
-def cause_but_limit(problem, lent):
-    """The first of causes 1 to 5 that holds, 0 if none does."""
-    if counts_outside(problem):
-        return COUNTS_OUTSIDE
-    if wrong_length(problem, lent):
-        return WRONG_LENGTH
+def number_outside(problem):
+    """The first of causes 3 to 5 that holds, 0 if none does."""
     if row_number_outside(problem):
         return ROW_NUMBER_OUTSIDE
     if bound_outside(problem):
@@ -183,6 +185,24 @@ def cause_but_limit(problem, lent):
     if goal_outside(problem):
         return GOAL_OUTSIDE
     return 0
+
+
+def problem_cause(problem):
+    """The first of causes 1 to 5 that holds of a problem's own lists, 0 if none does."""
+    if counts_outside(problem):
+        return COUNTS_OUTSIDE
+    if lists_wrong(problem):
+        return WRONG_LENGTH
+    return number_outside(problem)
+
+
+def cause_but_limit(problem, lent):
+    """The same of a problem and the buffers that are lent beside it."""
+    if counts_outside(problem):
+        return COUNTS_OUTSIDE
+    if wrong_length(problem, lent):
+        return WRONG_LENGTH
+    return number_outside(problem)
 
 
 def first_cause(problem, lent):

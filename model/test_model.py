@@ -2,19 +2,20 @@
 
 Runs every deck case of document 01, every row of its table of refusals, the close
 readings one by one, swept volumes, ideals handed in and the reader's, pairs of goals,
-problems stated anew, previews of the next step, properties of random problems, the sample
-decks, and what the page beside them says of verdicts; each room has its file in tests/.
+problems stated anew, previews of the next step, joins of two parts, properties of random
+problems, the sample decks, and what the page beside them says of verdicts; each room has its
+file in tests/.
 The last line printed is “N passed, M failed”, counted in single checks.
 """
 
 import sys
 import traceback
 
-from tests import (calls, cases, form, generator, goals, ideals, listings, previews, reader,
-                   refusals, restated, settling, steps, tools, volumes, words)
+from tests import (calls, cases, form, generator, goals, ideals, joining, listings, previews,
+                   reader, refusals, restated, settling, steps, tools, volumes, words)
 
 ROOMS = [cases, refusals, reader, volumes, calls, form, settling, ideals, goals, restated,
-         steps, previews, generator, listings, words]
+         steps, previews, joining, generator, listings, words]
 
 
 def main():
