@@ -1,2 +1,6 @@
 -- The root of the laws that the proofs cite.
 pub mod Passing
+pub mod Every
+pub mod JoinedColumns
+pub mod SpreadRows
+pub mod Shares
