@@ -1,2 +1,7 @@
 -- The root of the laws that the proofs cite.
 pub mod RowLaws
+pub mod Passing
+pub mod Every
+pub mod JoinedColumns
+pub mod SpreadRows
+pub mod Shares

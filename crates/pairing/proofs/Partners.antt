@@ -7,6 +7,7 @@
 --   ready-set, ready-append   it holds still with a column of L changed that is no partner, and with one more behind
 --   ready-pair        one more pair
 --   Partners P Q R    R has a number for each column of Q, and is ready
+--   passed-next       a test that a check has passed, and the rest of the check
 --   pairs-ready       so it is of the partners that the pairs leave
 -- Assumes nothing.
 use mathlib.Core.Path.{_≡_, refl, sym, _∙_, ap, subst}
@@ -122,7 +123,7 @@ pub record Partners (P Q : Part) (R : List ℕ) : Type 0 where
   pub long : length R ≡ Q .columns
   pub ready : Ready (columns P) R (columns Q)
 
-passed-next : (t : Bool) (why : Refusal) (next : Check) → orNext t why next ≡ Passed → (t ≡ true) × (next ≡ Passed)
+pub passed-next : (t : Bool) (why : Refusal) (next : Check) → orNext t why next ≡ Passed → (t ≡ true) × (next ≡ Passed)
 passed-next true why next e = (refl, e)
 passed-next false why next e = never (cc)
 

@@ -1,0 +1,23 @@
+-- What a part has that no cause of 1 to 5 turns back.
+--   PartPasses P     each of the tests holds, those of the buffers that a call fills and of its limit among them, which are no cause of a part
+--   PartFits P       in numbers
+--   part-passes      so it is where no cause is named
+--   part-fits        and the numbers
+-- Assumes nothing.
+use mathlib.Core.Path.{_≡_}
+use Rattle.problem.specs.declared.Check.the-variants.{Passed}
+use Rattle.problem.proofs.CheckLaws.{Passes, Fits, passes, fits}
+use Rattle.pairing.specs.Parts.{Part, sized, posed, roomFor, partCause}
+
+abbrev pub PartPasses : Part → Type 0
+PartPasses P = Passes (posed P 0) (roomFor (sized (P .columns) (P .rows) 0))
+
+abbrev pub PartFits : Part → Type 0
+PartFits P = Fits (posed P 0) (roomFor (sized (P .columns) (P .rows) 0))
+
+pub part-passes : (P : Part) → partCause P ≡ Passed → PartPasses P
+unfolding partCause
+part-passes P e = passes (posed P 0) (roomFor (sized (P .columns) (P .rows) 0)) e
+
+pub part-fits : (P : Part) → PartPasses P → PartFits P
+part-fits P f = fits (posed P 0) (roomFor (sized (P .columns) (P .rows) 0)) f

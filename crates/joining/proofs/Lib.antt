@@ -1,0 +1,2 @@
+-- The root of the laws that the proofs cite.
+pub mod Made
