@@ -1,2 +1,4 @@
 -- The root of the laws that the proofs cite.
+pub mod Causes
 pub mod Made
+pub mod Filled
