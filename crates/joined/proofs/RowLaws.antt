@@ -1,15 +1,16 @@
 -- Laws of the functions that lay rows into lent lists.
 --   rest-long, both              `&mut t[m..]`, when `&mut t[..m]` has come back as x: how long it is; both parts end to end are the list
---   row-inside, row-wide         row i of a list of m rows of w numbers lies in the list, and has w numbers
 --   Put S a r₀ r j               the row r: r₀ with the coefficients of a before j put in at the places S
 --   put-start, put-on, put-end   it holds at first, and of one coefficient more; past the last one
+--   place-inside                 the next one's place lies in the row
 --   Laid f m w n a t i           in t, n numbers to a row, are the first i of m rows: f of the rows of a, w numbers to a row
 --   laid-start, laid-on, laid-end   it holds at first, and of one row more; past the last one
---   from-.., to-..               the row that is read next, and the one that is filled: each lies in its list, and how long it is
+--   row                          the row that is read next, as the borrow checker has it
+--   from-.., to-..               it and the one that is filled next: each lies in its list, and how long it is
 -- Assumes nothing.
 use mathlib.Core.Path.{_≡_, refl, sym, _∙_, ap, ap₂}
 use mathlib.Core.List.{List, [], _∷_, _++_, map, append-assoc, append-nil}
-use Prim.Native.Nat.{ℕ, zero, suc, _+_, _*_, _-_, _<_, _≤_}
+use Prim.Native.Nat.{ℕ, suc, _+_, _*_, _-_, _<_, _≤_}
 use native.Mathlib.Nat.{zero-mul}
 use native.Mathlib.Numerals.{add-one}
 use native.Mathlib.Omega.{arith}
@@ -22,6 +23,7 @@ use Rattle.lattice.specs.Rows.{flat, chop}
 use Rattle.lattice.proofs.LentParts.{tail-is, tail-back, part-is, part-back}
 use Rattle.lattice.proofs.FlatLaws.{chop-next, row-in-table, put-take}
 use Rattle.joined.specs.Joined.{spreadFrom}
+use Rattle.joined.specs.Filling.{AllBelow}
 
 -- ---- two parts
 -- the front comes back as x
@@ -39,23 +41,15 @@ module _ (m : ℕ) (t x : List ℤ) (h : m ≤ length t) (e : length x ≡ lengt
   both {y} p q =
       tail-back m then y (omega (arith, length-append x (drop m t), front)) ∙ ap₂ _++_ (take-at x (drop m t) m front ∙ p) q
 
--- ---- a row of a list
+-- ---- row i of a list of m rows of w numbers
 module _ (m w i : ℕ) (l : List ℤ) (e : length l ≡ m * w) (h : i < m) where
-  pub row-inside : i * w + w ≤ length l
+  row-inside : i * w + w ≤ length l
   row-inside = omega (arith, e, row-in-table m w i h)
 
-  pub row-wide : length (take (i * w + w - i * w) (drop (i * w) l)) ≡ w
+  row-wide : length (take (i * w + w - i * w) (drop (i * w) l)) ≡ w
   row-wide = ap length (part-is (i * w) w l) ∙ length-take-le w (drop (i * w) l) (omega (arith, length-drop (i * w) l, row-inside))
 
 -- ---- a row spread
-pub record Put (S : List ℕ) (a r₀ r : List ℤ) (j : ℕ) : Type 0 where
-  pub within : j ≤ length a
-  pub long : length r ≡ length r₀
-  pub rest : spreadFrom r (drop j S) (drop j a) ≡ spreadFrom r₀ S a
-
-pub put-start : (S : List ℕ) (a r : List ℤ) → Put S a r r 0
-put-start S a r = record { within = omega arith; long = refl; rest = refl }
-
 spread-next : (r : List ℤ) (S : List ℕ) (a : List ℤ) (j : ℕ) → j < length S → j < length a
     → spreadFrom r (drop j S) (drop j a) ≡ spreadFrom (set r (getD S j 0) (entry j a)) (drop (suc j) S) (drop (suc j) a)
 unfolding spreadFrom
@@ -66,16 +60,29 @@ unfolding spreadFrom
 spread-none r [] = refl
 spread-none r (i ∷ S) = refl
 
-pub put-on : (S : List ℕ) (a r₀ r : List ℤ) (j : ℕ) (x : ℤ) → length a ≡ length S → j < length a → x ≡ entry j a → Put S a r₀ r j
-    → Put S a r₀ (set r (getD S j 0) x) (j + 1)
-put-on S a r₀ r j x e h f s = record {
-  within = omega (arith, h);
-  long = length-set r (getD S j 0) x ∙ s .long;
-  rest = rw (add-one j, f) (sym (spread-next r S a j (omega (arith, e, h)) h) ∙ s .rest);
-}
+pub record Put (S : List ℕ) (a r₀ r : List ℤ) (j : ℕ) : Type 0 where
+  pub as-many : length a ≡ length S
+  pub inside : AllBelow (length r₀) S
+  pub same : length r ≡ length r₀
+  pub rest : spreadFrom r (drop j S) (drop j a) ≡ spreadFrom r₀ S a
 
-pub put-end : (S : List ℕ) (a r₀ r : List ℤ) (j : ℕ) → length a ≤ j → Put S a r₀ r j → r ≡ spreadFrom r₀ S a
-put-end S a r₀ r j h s = sym (ap (spreadFrom r (drop j S)) (drop-of-length-le a {i = j} h) ∙ spread-none r (drop j S)) ∙ s .rest
+pub put-start : {S : List ℕ} {a r : List ℤ} → length a ≡ length S → AllBelow (length r) S → Put S a r r 0
+put-start e b = record { as-many = e; inside = b; same = refl; rest = refl }
+
+module _ {S : List ℕ} {a r₀ r : List ℤ} {j : ℕ} (s : Put S a r₀ r j) where
+  pub place-inside : j < length a → getD S j 0 < length r
+  place-inside h = omega (arith, s .inside .below j (omega (arith, s .as-many)), s .same)
+
+  pub put-on : j < length a → {x : ℤ} → x ≡ entry j a → Put S a r₀ (set r (getD S j 0) x) (j + 1)
+  put-on h {x} e = record {
+    as-many = s .as-many;
+    inside = s .inside;
+    same = length-set r (getD S j 0) x ∙ s .same;
+    rest = rw (add-one j, e) (sym (spread-next r S a j (omega (arith, s .as-many)) h) ∙ s .rest);
+  }
+
+  pub put-end : length a ≤ j → r ≡ spreadFrom r₀ S a
+  put-end h = sym (ap (spreadFrom r (drop j S)) (drop-of-length-le a {i = j} h) ∙ spread-none r (drop j S)) ∙ s .rest
 
 -- ---- row after row
 pub record Laid (f : List ℤ → List ℤ) (m w n : ℕ) (a t : List ℤ) (i : ℕ) : Type 0 where

@@ -68,7 +68,8 @@ fn pad_rows(out: &mut [i64], n: usize, coefficients: &[i64], s: Sizes)
 fn spread_rows(out: &mut [i64], n: usize, coefficients: &[i64], s: Sizes, places: &[usize])
     requires { ⌜ (length (now coefficients) ≡ s .rows * s .columns) × (length (now out) ≡ s .rows * n) × (length (now places) ≡ s .columns) ⌝ }
     requires { ⌜ AllBelow n (now places) ⌝ }
-    ensures { λ _. ⌜ now (out .exit) ≡ flat (map (Joined.spread n (now (places .entry))) (chop (s .rows) (s .columns) (now (coefficients .entry)))) ⌝ }
+    ensures { λ _. ⌜ now (out .exit) ≡ flat (map (Joined.spread n (now (places .entry)))
+        (chop (s .rows) (s .columns) (now (coefficients .entry)))) ⌝ }
 {
     let m = s.rows;
     let w = s.columns;

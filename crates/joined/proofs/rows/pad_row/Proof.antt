@@ -1,5 +1,5 @@
 -- `joined::rows::pad_row` meets its contract: the first numbers are the row, the others zeros. Assumes nothing.
-use mathlib.Core.Path.{sym, _∙_, ap}
+use mathlib.Core.Path.{_∙_, ap}
 use lib.ListN.{length}
 use lib.Seq.{length-take-le}
 use Rattle.whole.specs.Lists.{zeros}
@@ -12,10 +12,10 @@ slice-relend-prefix-copy : tie.Need-slice-relend-prefix-copy
 slice-relend-prefix-copy c = search needs
 
 slice-aggregate-copy : tie.Need-slice-aggregate-copy
-slice-aggregate-copy c = sym (length-take-le (length (c .before .args .row .now)) (c .before .args .out .now) (c .before .pre))
+slice-aggregate-copy c = search (needs, length-take-le)
 
 copy-requires : tie.Need-copy-requires
-copy-requires c κs = length-take-le (length (c .before .args .row .now)) (c .before .args .out .now) (c .before .pre)
+copy-requires c κs = search (needs, length-take-le)
 
 mul-wipe : tie.Need-mul-wipe
 mul-wipe c = search needs

@@ -4,7 +4,7 @@ use native.Mathlib.Omega.{arith}
 use lib.IntN.{pos}
 use lib.ListN.{length, getD}
 use Rattle.whole.proofs.Signed.{back}
-use Rattle.joined.proofs.RowLaws.{Put, put-start, put-on, put-end}
+use Rattle.joined.proofs.RowLaws.{Put, put-start, place-inside, put-on, put-end}
 use Rattle.joined.proofs.rows.spread_into.Statement.{statement}
 use Rattle.joined.proofs.rows.spread_into.Tie as tie
 
@@ -15,13 +15,13 @@ abbrev μ-loop : tie.MeasureT-loop
 μ-loop out₀ row places j₀ out j = length row - j
 
 loop-holds : tie.Need-loop-holds Inv-loop μ-loop
-loop-holds c = put-start (c .args .places .now) (c .args .row .now) (c .args .out .now)
+loop-holds c = put-start (c .pre .0) (c .pre .1)
 
 mul-p : tie.Need-mul-p Inv-loop μ-loop
-mul-p c = omega (arith, c .before .before .pre .0)
+mul-p c = omega arith
 
 shared-slice-read-p : tie.Need-shared-slice-read-p Inv-loop μ-loop
-shared-slice-read-p c = omega (arith, c .before .before .before .pre .0)
+shared-slice-read-p c = omega arith
 
 mul-x : tie.Need-mul-x Inv-loop μ-loop
 mul-x c = omega arith
@@ -30,16 +30,10 @@ shared-slice-copy-out-x : tie.Need-shared-slice-copy-out-x Inv-loop μ-loop
 shared-slice-copy-out-x c = omega arith
 
 mul-x-2 : tie.Need-mul-x-2 Inv-loop μ-loop
-mul-x-2 c =
-    let s = c .before .before .before .before in
-    let w = c .before .before .before in
-    omega (arith, s .pre .1 .below (w .loop .j) (omega (arith, s .pre .0)), w .loop .inv .long)
+mul-x-2 c = omega (arith, place-inside (c .before .before .before .loop .inv) (c .before .before .loop-test .taken))
 
 slice-set-from-x : tie.Need-slice-set-from-x Inv-loop μ-loop
-slice-set-from-x c =
-    let s = c .before .before .before .before in
-    let w = c .before .before .before in
-    omega (arith, s .pre .1 .below (w .loop .j) (omega (arith, s .pre .0)), w .loop .inv .long)
+slice-set-from-x c = omega (arith, place-inside (c .before .before .before .loop .inv) (c .before .before .loop-test .taken))
 
 add-j : tie.Need-add-j Inv-loop μ-loop
 add-j c = omega arith
@@ -49,18 +43,14 @@ loop-less c = omega arith
 
 loop-again : tie.Need-loop-again Inv-loop μ-loop
 loop-again c =
-    let s = c .before .before .before .before in
     let w = c .before .before .before in
-    put-on (s .args .places .now) (s .args .row .now) (s .args .out .now) (w .loop .out) (w .loop .j) _ (s .pre .0)
-    (c .before .before .loop-test .taken) (back (getD (s .args .row .now) (w .loop .j) (pos 0)) (c .x .given)) (w .loop .inv)
+    put-on (w .loop .inv) (c .before .before .loop-test .taken) (back (getD (w .before .args .row .now) (w .loop .j) (pos 0)) (c .x .given))
 
 same-length : tie.Need-same-length Inv-loop μ-loop
-same-length c = c .before .loop .inv .long
+same-length c = c .before .loop .inv .same
 
 returns : tie.Need-returns Inv-loop μ-loop
-returns c =
-    put-end (c .before .before .args .places .now) (c .before .before .args .row .now) (c .before .before .args .out .now)
-    (c .before .loop .out) (c .before .loop .j) (c .loop-test .left) (c .before .loop .inv)
+returns c = put-end (c .before .loop .inv) (c .loop-test .left)
 
 pub spread-into-spec : {M : Type 1} → statement M
 spread-into-spec =
