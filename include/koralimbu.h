@@ -370,7 +370,7 @@ uint32_t koralimbu_read(const uint8_t *text, size_t text_count,
  *   first_low, first_high,
  *   first_given, first_ideals
  *   second_..                                       the same of the second part, with second_n and second_m
- *   pairs                        twice the pairs    for each pair its column of the first part, then that of the second, both counted from 1
+ *   pairs                        two a pair         for each pair its column of the first part, then that of the second, both counted from 1
  *   coefficients                 m * n              afterwards the joined rows, n to a row
  *   rights                       m                  afterwards what each row must add up to
  *   lower, upper, low, high,     n                  afterwards the bounds, the goals and the ideals of each column
@@ -424,7 +424,8 @@ uint32_t koralimbu_read(const uint8_t *text, size_t text_count,
  *                            low one is above the high one, or they are set
  *                            with a lower bound below 1
  *   14  REFUSED_PAIR         a pair has a column that is 0 or beyond those of   as they were           0, 0
- *                            its part, or one that an earlier pair has
+ *                            its part, or one that an earlier pair has of the
+ *                            same part
  *   15  REFUSED_PAIR_BOUNDS  the bounds of a pair leave nothing: the larger     as they were           0, 0
  *                            lower bound is above the smaller upper bound
  *
@@ -433,9 +434,9 @@ uint32_t koralimbu_read(const uint8_t *text, size_t text_count,
  * JOINED_COUNT is refused with REFUSED_LENGTH before anything else is looked at, and every buffer is left as it was, sizes too. There is no
  * step limit, and nothing is solved: parts that no whole numbers satisfy are joined too.
  *
- * Decks. Parts may be decks as koralimbu_read left them, of each list the first numbers as its n and m need. The columns behind the curves of a
- * deck are columns like any other: they may be paired, and need not be. The reader's ideals come along. They are made in each deck by itself, so
- * that neighbours in the other deck play no part in them.
+ * Decks. Parts may be decks as koralimbu_read left them, of each list the first numbers as its n and m need. The columns behind the curves, which
+ * rows added, are columns like any other: they may be paired, and need not be. The reader's ideals come along. They are made in each deck by
+ * itself, so that neighbours in the other deck play no part in them.
  *
  * The joined problem goes on as any other, and may be a part of a further join. Its lists lie in buffers of the largest size; what is too large
  * for them is refused, and needs none. With the eight lists of each part at the dots:

@@ -1861,6 +1861,22 @@ static void try_join_null_pointers(void)
            koralimbu_join(0, 0, NO_LISTS, 0, 0, NO_LISTS, NULL, 0, NO_LISTS, NULL, 0), KORALIMBU_REFUSED_LENGTH);
 }
 
+static void try_joins(void)
+{
+    try_join_lists();
+    try_join_places();
+    try_shared_columns();
+    try_join_order();
+    try_join_parts();
+    try_join_counts();
+    try_join_sizes();
+    try_pairs();
+    try_pair_bounds();
+    try_joined_size();
+    try_joined_assigned();
+    try_join_null_pointers();
+}
+
 /* ---------------------------------------------------------------- threads */
 
 /* What one thread does: all five calls, on texts, a problem and a part that all threads read. The part is joined with itself. */
@@ -2011,18 +2027,7 @@ int main(void)
     try_volume_refusals();
     try_volume_layouts();
     try_path_limits();
-    try_join_lists();
-    try_join_places();
-    try_shared_columns();
-    try_join_order();
-    try_join_parts();
-    try_join_counts();
-    try_join_sizes();
-    try_pairs();
-    try_pair_bounds();
-    try_joined_size();
-    try_joined_assigned();
-    try_join_null_pointers();
+    try_joins();
     try_many_steps();
     printf("%d passed, %d failed\n", passed, failed);
     return failed != 0;

@@ -73,7 +73,7 @@
 //! let fore = koralimbu::Deck::read("2\n1 5 9000 9000\n1 9 2000 2000\n0\n0\n")?;
 //! let joined = aft.join(&fore, &[(1, 0)])?; // the second curve of aft is the first one of fore
 //! let solved = joined.solve(10_000)?;
-//! assert_eq!(joined.first_share(&solved.values), [5, 5]); // both would like 6 there; fore has at most 5
+//! assert_eq!(joined.first_share(&solved.values), [5, 5]); // 4 and 9 meet at 6, and fore has at most 5
 //! assert_eq!(joined.second_share(&solved.values), [5, 2]);
 //! # Ok::<(), koralimbu::Refusal>(())
 //! ```
