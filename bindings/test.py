@@ -7,8 +7,9 @@ compiles and runs the C and C++ programs that try what the header says; builds, 
 and documents the Rust package, offline, and runs its examples on every sample deck. A
 listing must be the deck's, byte for byte. A run step by step must be the one that lies
 beside the example, where there is one, and end with the list and the verdict of the
-deck's listing. What a machine has no tool for is told in a line 'left out: ..'. The last
-line is 'N passed, M failed'.
+deck's listing. The examples that join two blocks, in C and in Rust, must print what lies
+beside the Rust one. What a machine has no tool for is told in a line 'left out: ..'. The
+last line is 'N passed, M failed'.
 """
 
 import glob
@@ -24,6 +25,11 @@ BUILT = os.path.join("target", "bindings")
 RUST = os.path.join("bindings", "rust")
 # The decks whose run lies beside the example: steps of both kinds of move, towards the bounds and towards the goals; a list seated by ideals.
 RUNS = ["bounds-conflict", "paved-bulkhead", "plain-curves"]
+# The sample blocks that are joined, and the curves that they share: one of the first block, one of the second, and so on.
+BLOCKS = ["aft-block", "fore-block"]
+SHARED = "1 2 2 3 6 1"
+# Pairs of other columns, and with which number they are refused: curves whose bounds have nothing in common; columns outside; used before.
+REFUSED = [("1 3", 15), ("0 1", 14), ("1 0", 14), ("10 1", 14), ("1 9", 14), ("1 2 1 4", 14), ("1 2 2 2", 14), ("1 2 1 3", 14), ("1 3 0 0", 15)]
 STRICT = ["-Wall", "-Wextra", "-Wpedantic", "-Wconversion", "-Wsign-conversion", "-Wshadow", "-Wundef", "-Werror", "-Iinclude"]
 
 passed = failed = 0
@@ -101,6 +107,25 @@ def shows_steps(name, done):
     return done.returncode == 0 and lines[-1:] == [verdict] and re.findall(r"-?\d+", " ".join(lines[-2:-1])) == values
 
 
+def on_blocks(what, command, folder="."):
+    """Joins the sample blocks by the pairs that they share, for which the output lies beside the Rust example, and by others."""
+    decks = [os.path.join(ROOT, "decks", name + ".txt") for name in BLOCKS]
+    joined = contents(RUST, "examples", "blocks.joined")
+    for pairs, wanted in [(SHARED, joined)] + [(pairs, b"REFUSED %d\n" % number) for pairs, number in REFUSED]:
+        done = run(command + decks + pairs.split(), folder)
+        count("%s by the pairs %s" % (what, pairs), done.returncode == 0 and done.stdout == wanted, done.stdout + done.stderr)
+    for words, why in [(decks[:1], b"usage: "), (decks + ["1", "x"], b"usage: "), (decks[:1] + ["no-such-file"], b"no-such-file: "),
+                       (decks[:1] + [os.path.join(ROOT, "decks", "wrong-curve.txt")], b"wrong-curve.txt: refused with 12")]:
+        done = run(command + words, folder)
+        count("%s with %s" % (what, " ".join(words)), done.returncode == 1 and done.stdout == b"" and why in done.stderr, done.stdout + done.stderr)
+
+
+def test_page():
+    """README.md shows the joined blocks as they lie beside the example."""
+    shown = "".join("    %s\n" % line for line in contents(RUST, "examples", "blocks.joined").decode().splitlines())
+    count("README.md's joined blocks", "\n\n" + shown + "\n" in contents("README.md").decode())
+
+
 def first_of(*names):
     """The first command there is that tells its version: a cargo may stand there without its tools."""
     for name in names:
@@ -127,6 +152,9 @@ def test_c(compiler):
     example = compiled(strict, "bindings/c/paving.c")
     if example:
         on_every_deck("the C example", [example], "paving", lists)
+    example = compiled(strict, "bindings/c/joining.c")
+    if example:
+        on_blocks("the C example joining", [example])
     counts_itself(compiled(strict, "bindings/c/edges.c"))
 
 
@@ -138,8 +166,12 @@ def test_rust(cargo):
     add_counts("cargo test", run([cargo, "test", "--offline", "--no-fail-fast"], RUST),
                rb"^test result: .* (\d+) passed; (\d+) failed;")
     ran("cargo doc", run([cargo, "doc", "--offline", "--no-deps"], RUST, RUSTDOCFLAGS="-D warnings"))
-    for example, own, good in [("paving", "paving", lists), ("steps", "paved-bulkhead", shows_steps)]:
-        on_every_deck("the Rust example " + example, [cargo, "run", "--quiet", "--offline", "--example", example, "--"], own, good, RUST)
+    example = [cargo, "run", "--quiet", "--offline", "--example"]
+    for name, own, good in [("paving", "paving", lists), ("steps", "paved-bulkhead", shows_steps)]:
+        on_every_deck("the Rust example " + name, example + [name, "--"], own, good, RUST)
+    on_blocks("the Rust example joining", example + ["joining", "--"], RUST)
+    done = run(example + ["joining"], RUST)
+    count("the Rust example joining on its own blocks", done.stdout == contents(RUST, "examples", "blocks.joined"), done.stdout + done.stderr)
 
 
 def library():
@@ -158,6 +190,7 @@ def library():
 
 
 def main():
+    test_page()
     if library():
         os.makedirs(os.path.join(ROOT, BUILT), exist_ok=True)
         compiler = first_of("cc", "gcc", "clang")

@@ -1,5 +1,5 @@
-/* Koralimbu: deck texts, whole assignments, Continue and its preview on lent buffers. The functions lie in libkoralimbu.a
- * (`rt staticlib koralimbu`), which is proved.
+/* Koralimbu: deck texts, joins of two problems, whole assignments, Continue and its preview on lent buffers. The functions lie in
+ * libkoralimbu.a (`rt staticlib koralimbu`), which is proved.
  *
  * Buffers. Each is a pointer and then its count of numbers. A pointer may be null where its count is 0. A buffer that is written
  * overlaps no other.
@@ -22,7 +22,7 @@ extern "C" {
 /* The version, which rises with each change of a call or of the text; docs/CHANGES.md has the list. A header and an archive of different
  * versions must not be used together: a program compares KORALIMBU_VERSION with koralimbu_version() once, at its start. */
 #define KORALIMBU_VERSION_MAJOR 0
-#define KORALIMBU_VERSION_MINOR 6
+#define KORALIMBU_VERSION_MINOR 7
 #define KORALIMBU_VERSION_PATCH 0
 #define KORALIMBU_VERSION (KORALIMBU_VERSION_MAJOR * 1000000 + KORALIMBU_VERSION_MINOR * 1000 + KORALIMBU_VERSION_PATCH)
 
@@ -44,6 +44,8 @@ uint32_t koralimbu_version(void);
 #define KORALIMBU_REFUSED_LAYOUT 11
 #define KORALIMBU_REFUSED_TERM 12
 #define KORALIMBU_REFUSED_VOLUME 13
+#define KORALIMBU_REFUSED_PAIR 14
+#define KORALIMBU_REFUSED_PAIR_BOUNDS 15
 
 /* Verdicts. A move adds one vector of the basis to the values or takes it away, once, or does so with each of two.
  *   FITTED   all values are in bounds and no move improves; a better list may still exist
@@ -89,10 +91,11 @@ uint32_t koralimbu_version(void);
 /* Document 01's M: how far a number of the elimination and a value may lie from 0, to both sides. */
 #define KORALIMBU_M 2147483647
 
-/* The counts of a report, of a preview's report and of sizes. */
+/* The counts of a report, of a preview's report, of the reader's sizes and of the join's. */
 #define KORALIMBU_REPORT_COUNT 3
 #define KORALIMBU_PREVIEW_COUNT 6
 #define KORALIMBU_SIZES_COUNT 3
+#define KORALIMBU_JOINED_COUNT 2
 
 /* The bytes of stack that are enough for any call. */
 #define KORALIMBU_MOST_STACK 65536
@@ -347,6 +350,126 @@ uint32_t koralimbu_preview(size_t n, size_t m,
  * The values of the curves are then the first sizes[2] of values.
  */
 uint32_t koralimbu_read(const uint8_t *text, size_t text_count,
+                        int64_t *coefficients, size_t coefficients_count,
+                        int64_t *rights, size_t rights_count,
+                        int64_t *lower, size_t lower_count,
+                        int64_t *upper, size_t upper_count,
+                        int64_t *low, size_t low_count,
+                        int64_t *high, size_t high_count,
+                        int64_t *given, size_t given_count,
+                        int64_t *ideals, size_t ideals_count,
+                        size_t *sizes, size_t sizes_count);
+
+/* The join: makes one problem of two that share columns, as two blocks of a hull share curves. It is made of a first part, a second part, and
+ * pairs of a column of the first and the column of the second that is the same curve.
+ *
+ *                                count              holds
+ *   first_coefficients           first_m * first_n  the rows of the first part, first_n to a row
+ *   first_rights                 first_m            what each of them must add up to
+ *   first_lower, first_upper,    first_n            the bounds, the goals and the ideals of its columns, as above
+ *   first_low, first_high,
+ *   first_given, first_ideals
+ *   second_..                                       the same of the second part, with second_n and second_m
+ *   pairs                        two a pair         for each pair its column of the first part, then that of the second, both counted from 1
+ *   coefficients                 m * n              afterwards the joined rows, n to a row
+ *   rights                       m                  afterwards what each row must add up to
+ *   lower, upper, low, high,     n                  afterwards the bounds, the goals and the ideals of each column
+ *   given, ideals
+ *   sizes                        JOINED_COUNT       afterwards n and m
+ *
+ * Here n is first_n + second_n less the number of pairs, and m is first_m + second_m. The parts and pairs are only read, and lists of the parts
+ * may be shared: the same problem may be both parts.
+ *
+ * Columns. Those of the first part come first, in their order, and behind them those of the second that stand in no pair, in theirs. A column in
+ * a pair is shared, and has the place of the first part's. A part's column stands in one pair at most.
+ *
+ * Rows. Those of the first part come first, and behind them those of the second. A row has the coefficients of its part at the places of its
+ * part's columns, and 0 at the others.
+ *
+ * Bounds, goals and ideals. A column that is not shared has those of its part. A shared one has the larger lower and the smaller upper bound;
+ * the smaller of the two low goals and the larger of the two high goals, but where one part has no goal for it, the other's low and high goal;
+ * and the first part's given and ideals where that given is not 0, else the second's, as they are. An ideal comes along where the joined
+ * column has a goal too; there it is not used.
+ *
+ * So a list satisfies the joined rows and bounds exactly when its share of each part satisfies that part's. The first part's share is the first
+ * first_n values. A column of the second, j from 0, has its value at place[j]:
+ *
+ *   size_t j, k, next = first_n, place[KORALIMBU_MOST_COLUMNS];
+ *
+ *   for (j = 0; j < second_n; j++) {
+ *     for (k = 0; k < pairs_count && pairs[k + 1] != j + 1; k += 2)
+ *       ;
+ *     place[j] = k < pairs_count ? pairs[k] - 1 : next++;
+ *   }
+ *
+ * What is returned, and what is then left:
+ *
+ *                                                                               coefficients, rights,  sizes
+ *                                                                               lower, upper, low,
+ *                                                                               high, given, ideals
+ *    0  ACCEPTED             the parts are joined                               the joined problem     n, m
+ *    1  REFUSED_SIZE         a part's n is not 1 to MOST_COLUMNS or its m not   as they were           0, 0
+ *                            0 to MOST_ROWS, or n is above MOST_COLUMNS, or m
+ *                            above MOST_ROWS
+ *    2  REFUSED_LENGTH       a count is not exactly what first_n and first_m,   as they were           0, 0
+ *                            second_n and second_m, or n and m need, or that
+ *                            of pairs is odd
+ *    3  REFUSED_COEFFICIENT  a coefficient of a part is beyond                  as they were           0, 0
+ *                            RANGE_COEFFICIENT, or a right side beyond
+ *                            RANGE_RIGHT, of either sign
+ *    4  REFUSED_BOUND        a bound of a part is beyond RANGE_BOUND of either  as they were           0, 0
+ *                            sign, or a lower bound is above its upper bound
+ *    5  REFUSED_GOAL         a low or a high goal of a part is not 0 to         as they were           0, 0
+ *                            RANGE_GOAL, or just one of the two is 0, or the
+ *                            low one is above the high one, or they are set
+ *                            with a lower bound below 1
+ *   14  REFUSED_PAIR         a pair has a column that is 0 or beyond those of   as they were           0, 0
+ *                            its part, or one that an earlier pair has of the
+ *                            same part
+ *   15  REFUSED_PAIR_BOUNDS  the bounds of a pair leave nothing: the larger     as they were           0, 0
+ *                            lower bound is above the smaller upper bound
+ *
+ * The first cause that holds is returned, in this order: 1 to 5 of the first part, with 2 for the counts of its lists; 1 to 5 of the second; 2
+ * for an odd count of pairs; then pair by pair 14, then 15; 1 for n or m; 2 for the counts of the joined lists. A sizes whose count is not
+ * JOINED_COUNT is refused with REFUSED_LENGTH before anything else is looked at, and every buffer is left as it was, sizes too. There is no
+ * step limit, and nothing is solved: parts that no whole numbers satisfy are joined too.
+ *
+ * Decks. Parts may be decks as koralimbu_read left them, of each list the first numbers as its n and m need. The columns behind the curves, which
+ * rows added, are columns like any other: they may be paired, and need not be. The reader's ideals come along. They are made in each deck by
+ * itself, so that neighbours in the other deck play no part in them.
+ *
+ * The joined problem goes on as any other, and may be a part of a further join. Its lists lie in buffers of the largest size; what is too large
+ * for them is refused, and needs none. With the eight lists of each part at the dots:
+ *
+ *   n = first_n + second_n - pairs_count / 2;
+ *   m = first_m + second_m;
+ *   if (n > KORALIMBU_MOST_COLUMNS || m > KORALIMBU_MOST_ROWS)
+ *     n = m = 0;
+ *   number = koralimbu_join(first_n, first_m, .., second_n, second_m, .., pairs, pairs_count, coefficients, m * n, rights, m,
+ *                           lower, n, upper, n, low, n, high, n, given, n, ideals, n, sizes, KORALIMBU_JOINED_COUNT);
+ *   if (number == KORALIMBU_ACCEPTED)
+ *     number = koralimbu_assign(n, m, 10000, coefficients, m * n, rights, m, lower, n, upper, n, low, n, high, n, given, n, ideals, n,
+ *                               tableau, n * (m + n), values, n, strides, n, report, KORALIMBU_REPORT_COUNT);
+ */
+uint32_t koralimbu_join(size_t first_n, size_t first_m,
+                        const int64_t *first_coefficients, size_t first_coefficients_count,
+                        const int64_t *first_rights, size_t first_rights_count,
+                        const int64_t *first_lower, size_t first_lower_count,
+                        const int64_t *first_upper, size_t first_upper_count,
+                        const int64_t *first_low, size_t first_low_count,
+                        const int64_t *first_high, size_t first_high_count,
+                        const int64_t *first_given, size_t first_given_count,
+                        const int64_t *first_ideals, size_t first_ideals_count,
+                        size_t second_n, size_t second_m,
+                        const int64_t *second_coefficients, size_t second_coefficients_count,
+                        const int64_t *second_rights, size_t second_rights_count,
+                        const int64_t *second_lower, size_t second_lower_count,
+                        const int64_t *second_upper, size_t second_upper_count,
+                        const int64_t *second_low, size_t second_low_count,
+                        const int64_t *second_high, size_t second_high_count,
+                        const int64_t *second_given, size_t second_given_count,
+                        const int64_t *second_ideals, size_t second_ideals_count,
+                        const size_t *pairs, size_t pairs_count,
                         int64_t *coefficients, size_t coefficients_count,
                         int64_t *rights, size_t rights_count,
                         int64_t *lower, size_t lower_count,

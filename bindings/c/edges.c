@@ -1,5 +1,5 @@
 /* What the header says, tried over the archive: the version, null pointers, every refusal and limit by its name, the preview beside
- * Continue, pairs of goals, ideals, the sizes of a deck, swept volumes, calls in several threads at once, and calls on a small stack.
+ * Continue, pairs of goals, ideals, the sizes of a deck, swept volumes, joins, calls in several threads at once, and calls on a small stack.
  *
  * Prints a line for each check that fails, and last 'N passed, M failed'.
  */
@@ -14,7 +14,7 @@
 #include "koralimbu.h"
 
 /* The names are numbers for the preprocessor too. */
-#if KORALIMBU_VERSION < 6000 || KORALIMBU_MOST_COEFFICIENTS != KORALIMBU_MOST_ROWS * KORALIMBU_MOST_COLUMNS \
+#if KORALIMBU_VERSION < 7000 || KORALIMBU_MOST_COEFFICIENTS != KORALIMBU_MOST_ROWS * KORALIMBU_MOST_COLUMNS \
     || KORALIMBU_MOST_TABLEAU != KORALIMBU_MOST_COLUMNS * (KORALIMBU_MOST_ROWS + KORALIMBU_MOST_COLUMNS) \
     || KORALIMBU_DECK_COEFFICIENTS != KORALIMBU_DECK_ROWS * KORALIMBU_DECK_COLUMNS
 #error "names of koralimbu.h that do not agree"
@@ -1279,28 +1279,631 @@ static void try_path_limits(void)
     reads_zeros("two paths of all curves", text, KORALIMBU_DECK_COLUMNS, 1);
 }
 
+/* ---------------------------------------------------------------- the join */
+
+/* The lists of a problem, and the numbers of the most pairs and of one more. */
+enum { EIGHT = 8, NUMBERS = 2 * KORALIMBU_MOST_COLUMNS + 2 };
+
+/* How many numbers a join is lent of each list. */
+struct lent {
+    size_t first[EIGHT], second[EIGHT], pairs, joined[EIGHT], sizes;
+};
+
+/* A join's. */
+struct joined {
+    uint32_t number;
+    size_t sizes[KORALIMBU_JOINED_COUNT + 1];
+    struct posed made;
+};
+
+#define LISTS_OF(p, counts) \
+    (p)->coefficients, (counts)[0], (p)->rights, (counts)[1], (p)->lower, (counts)[2], (p)->upper, (counts)[3], \
+    (p)->low, (counts)[4], (p)->high, (counts)[5], (p)->given, (counts)[6], (p)->ideals, (counts)[7]
+
+/* What n columns and m rows need; nothing where that is more than there is room for. */
+static void need(size_t counts[EIGHT], size_t n, size_t m)
+{
+    size_t k;
+
+    if (n > COLUMNS || m > ROWS)
+        n = m = 0;
+    counts[0] = m * n;
+    counts[1] = m;
+    for (k = 2; k < EIGHT; k++)
+        counts[k] = n;
+}
+
+static void need_all(struct lent *l, const struct posed *p, const struct posed *q, size_t pairs_count)
+{
+    need(l->first, p->n, p->m);
+    need(l->second, q->n, q->m);
+    need(l->joined, p->n + q->n - pairs_count / 2, p->m + q->m);
+    l->pairs = pairs_count;
+    l->sizes = KORALIMBU_JOINED_COUNT;
+}
+
+static void mark_lists(struct posed *p)
+{
+    memset(p, 0, sizeof *p);
+    fill(p->coefficients, ROWS * COLUMNS, MARK);
+    fill(p->rights, ROWS, MARK);
+    fill(p->lower, COLUMNS, MARK);
+    fill(p->upper, COLUMNS, MARK);
+    fill(p->low, COLUMNS, MARK);
+    fill(p->high, COLUMNS, MARK);
+    fill(p->given, COLUMNS, MARK);
+    fill(p->ideals, COLUMNS, MARK);
+}
+
+static void join_with(const struct posed *p, const struct posed *q, const size_t *pairs, const struct lent *l, struct joined *j)
+{
+    memset(j, 0, sizeof *j);
+    j->sizes[0] = j->sizes[1] = j->sizes[2] = MARK;
+    mark_lists(&j->made);
+    j->number = koralimbu_join(p->n, p->m, LISTS_OF(p, l->first), q->n, q->m, LISTS_OF(q, l->second), pairs, l->pairs,
+                               LISTS_OF(&j->made, l->joined), j->sizes, l->sizes);
+}
+
+/* The eight joined lists are as they were lent. */
+static int unjoined(const struct joined *j)
+{
+    static struct posed marked;
+
+    mark_lists(&marked);
+    return memcmp(&j->made, &marked, sizeof marked) == 0;
+}
+
+/* Where the columns of the second part stand, by the header's lines. */
+static void find_places(size_t first_n, size_t second_n, const size_t *pairs, size_t pairs_count, size_t *place)
+{
+    size_t j, k, next = first_n;
+
+    for (j = 0; j < second_n; j++) {
+        for (k = 0; k < pairs_count && pairs[k + 1] != j + 1; k += 2)
+            ;
+        place[j] = k < pairs_count ? pairs[k] - 1 : next++;
+    }
+}
+
+static void copy_column(struct posed *to, size_t at, const struct posed *from, size_t j)
+{
+    to->lower[at] = from->lower[j];
+    to->upper[at] = from->upper[j];
+    want(to, at, from->low[j], from->high[j]);
+    to->given[at] = from->given[j];
+    to->ideals[at] = from->ideals[j];
+}
+
+/* A column of the first part that stands there already is shared with one of the second. */
+static void share_column(struct posed *to, size_t at, const struct posed *q, size_t j)
+{
+    if (q->lower[j] > to->lower[at])
+        to->lower[at] = q->lower[j];
+    if (q->upper[j] < to->upper[at])
+        to->upper[at] = q->upper[j];
+    if (to->low[at] == 0 || (q->low[j] != 0 && q->low[j] < to->low[at]))
+        to->low[at] = q->low[j];
+    if (to->high[at] == 0 || q->high[j] > to->high[at])
+        to->high[at] = q->high[j];
+    if (to->given[at] == 0) {
+        to->given[at] = q->given[j];
+        to->ideals[at] = q->ideals[j];
+    }
+}
+
+/* The joined problem by the header's rule. Behind its numbers the lists are marked. */
+static void join_plainly(const struct posed *p, const struct posed *q, const size_t *pairs, size_t pairs_count, struct posed *d)
+{
+    size_t n = p->n + q->n - pairs_count / 2, m = p->m + q->m, place[COLUMNS], i, j;
+
+    find_places(p->n, q->n, pairs, pairs_count, place);
+    mark_lists(d);
+    fill(d->coefficients, m * n, 0);
+    for (j = 0; j < p->n; j++) {
+        copy_column(d, j, p, j);
+        for (i = 0; i < p->m; i++)
+            d->coefficients[i * n + j] = p->coefficients[i * p->n + j];
+    }
+    for (j = 0; j < q->n; j++) {
+        if (place[j] < p->n)
+            share_column(d, place[j], q, j);
+        else
+            copy_column(d, place[j], q, j);
+        for (i = 0; i < q->m; i++)
+            d->coefficients[(p->m + i) * n + place[j]] = q->coefficients[i * q->n + j];
+    }
+    for (i = 0; i < m; i++)
+        d->rights[i] = i < p->m ? p->rights[i] : q->rights[i - p->m];
+}
+
+/* A join with such counts returns a number. It only reads the parts and the pairs, and leaves the joined problem or what it was lent. */
+static void joins_with(const char *what, const struct posed *p, const struct posed *q, const size_t *pairs, const struct lent *l, uint32_t wanted)
+{
+    static struct posed copies[2], plain;
+    static struct joined j;
+    size_t numbers[NUMBERS];
+
+    memcpy(&copies[0], p, sizeof *p);
+    memcpy(&copies[1], q, sizeof *q);
+    if (l->pairs > 0)
+        memcpy(numbers, pairs, l->pairs * sizeof *numbers);
+    join_with(p, q, pairs, l, &j);
+    expect(what, j.number, wanted);
+    check(what, memcmp(&copies[0], p, sizeof *p) == 0 && memcmp(&copies[1], q, sizeof *q) == 0);
+    check(what, l->pairs == 0 || memcmp(numbers, pairs, l->pairs * sizeof *numbers) == 0);
+    if (wanted == KORALIMBU_ACCEPTED) {
+        join_plainly(p, q, pairs, l->pairs, &plain);
+        check(what, memcmp(&j.made, &plain, sizeof plain) == 0);
+        check(what, j.sizes[0] == p->n + q->n - l->pairs / 2 && j.sizes[1] == p->m + q->m);
+    } else {
+        check(what, unjoined(&j));
+        check(what, j.sizes[0] == 0 && j.sizes[1] == 0);
+    }
+    check(what, j.sizes[2] == MARK);
+}
+
+/* With the counts that the parts and pairs need. */
+static void joins(const char *what, const struct posed *p, const struct posed *q, const size_t *pairs, size_t pairs_count, uint32_t wanted)
+{
+    struct lent l;
+
+    need_all(&l, p, q, pairs_count);
+    joins_with(what, p, q, pairs, &l, wanted);
+}
+
+/* A part by whose numbers the places in it are told apart, and the part itself from another that begins elsewhere. */
+static void pose_part(struct posed *p, size_t n, size_t m, int64_t from)
+{
+    size_t k;
+
+    pose(p, n, m);
+    for (k = 0; k < m * n; k++)
+        p->coefficients[k] = from + (int64_t)k % 400;
+    for (k = 0; k < m; k++)
+        p->rights[k] = 1000 * from + (int64_t)k;
+    for (k = 0; k < n; k++) {
+        p->lower[k] = from + (int64_t)k;
+        p->upper[k] = 1000 + from + (int64_t)k;
+        want(p, k, 3000 + from + (int64_t)k, 5000 + from + (int64_t)k);
+        p->given[k] = k % 3 == 0 ? 0 : -from - (int64_t)k;
+        p->ideals[k] = 7000 + from + (int64_t)k;
+    }
+}
+
+/* Parts of two and of three columns, with two rows and one: each list by its numbers, with the second's columns 3 and 1 shared. */
+static void try_join_lists(void)
+{
+    static const size_t pairs[] = {2, 3, 1, 1};
+    static const int64_t coefficients[] = {100, 101, 0, 102, 103, 0, 500, 502, 501}, rights[] = {100000, 100001, 500000};
+    static const int64_t lower[] = {500, 502, 501}, upper[] = {1100, 1101, 1501};
+    static const int64_t low[] = {3100, 3101, 3501}, high[] = {5500, 5502, 5501}, given[] = {0, -101, -501}, ideals[] = {7500, 7101, 7501};
+    static struct posed p, q;
+    static struct joined j;
+    struct lent l;
+
+    pose_part(&p, 2, 2, 100);
+    pose_part(&q, 3, 1, 500);
+    need_all(&l, &p, &q, 4);
+    join_with(&p, &q, pairs, &l, &j);
+    expect("two shared columns", j.number, KORALIMBU_ACCEPTED);
+    check("their sizes", j.sizes[0] == 3 && j.sizes[1] == 3 && j.sizes[2] == MARK);
+    check("their rows", memcmp(j.made.coefficients, coefficients, sizeof coefficients) == 0 && j.made.coefficients[9] == MARK);
+    check("their right sides", memcmp(j.made.rights, rights, sizeof rights) == 0 && j.made.rights[3] == MARK);
+    check("their bounds", memcmp(j.made.lower, lower, sizeof lower) == 0 && memcmp(j.made.upper, upper, sizeof upper) == 0);
+    check("their goals", memcmp(j.made.low, low, sizeof low) == 0 && memcmp(j.made.high, high, sizeof high) == 0);
+    check("their ideals", memcmp(j.made.given, given, sizeof given) == 0 && memcmp(j.made.ideals, ideals, sizeof ideals) == 0);
+}
+
+/* By the header's rule, from no pair to a pair for each column, of parts up to the most columns and rows. */
+static void try_join_places(void)
+{
+    static const size_t sizes[][4] = {{1, 0, 1, 0}, {2, 2, 3, 1}, {3, 0, 5, 2}, {7, 4, 4, 0}, {24, 24, 24, 24}, {47, 1, 1, 47}, {48, 48, 7, 0}};
+    static struct posed p, q;
+    size_t pairs[NUMBERS], k, c, count;
+
+    for (k = 0; k < sizeof sizes / sizeof *sizes; k++) {
+        pose_part(&p, sizes[k][0], sizes[k][1], 100);
+        pose_part(&q, sizes[k][2], sizes[k][3], 500);
+        for (count = 0; count <= p.n && count <= q.n; count++) {
+            uint32_t wanted = p.n + q.n - count <= KORALIMBU_MOST_COLUMNS ? KORALIMBU_ACCEPTED : KORALIMBU_REFUSED_SIZE;
+
+            /* The first's columns from the first on and the second's from the last; then the other way round. */
+            for (c = 0; c < count; c++) {
+                pairs[2 * c] = c + 1;
+                pairs[2 * c + 1] = q.n - c;
+            }
+            joins("pairs from both ends", &p, &q, pairs, 2 * count, wanted);
+            for (c = 0; c < count; c++) {
+                pairs[2 * c] = p.n - c;
+                pairs[2 * c + 1] = c + 1;
+            }
+            joins("pairs from the other ends", &p, &q, pairs, 2 * count, wanted);
+        }
+    }
+    joins("a null list of no pair", &p, &p, NULL, 0, KORALIMBU_REFUSED_SIZE);
+    pose_part(&p, 3, 1, 100);
+    joins("a problem with itself, and a null list of no pair", &p, &p, NULL, 0, KORALIMBU_ACCEPTED);
+    joins("a problem with itself", &p, &p, (const size_t[]){3, 1}, 2, KORALIMBU_ACCEPTED);
+}
+
+/* One column of each part, the same: its bounds, goals, mark and ideal in the first, in the second and then. */
+static void try_shared_column(const int64_t first[6], const int64_t second[6], const int64_t wanted[6])
+{
+    static const size_t pairs[] = {1, 1};
+    static struct posed parts[2], made;
+    static struct joined j;
+    const int64_t *numbers[] = {first, second, wanted};
+    struct posed *columns[] = {&parts[0], &parts[1], &made};
+    struct lent l;
+    size_t k;
+
+    for (k = 0; k < 3; k++) {
+        pose(columns[k], 1, 0);
+        columns[k]->lower[0] = numbers[k][0];
+        columns[k]->upper[0] = numbers[k][1];
+        want(columns[k], 0, numbers[k][2], numbers[k][3]);
+        columns[k]->given[0] = numbers[k][4];
+        columns[k]->ideals[0] = numbers[k][5];
+    }
+    need_all(&l, &parts[0], &parts[1], 2);
+    join_with(&parts[0], &parts[1], pairs, &l, &j);
+    expect("a shared column", j.number, KORALIMBU_ACCEPTED);
+    check("a shared column's bounds", j.made.lower[0] == made.lower[0] && j.made.upper[0] == made.upper[0]);
+    check("a shared column's goals", j.made.low[0] == made.low[0] && j.made.high[0] == made.high[0]);
+    check("a shared column's ideal", j.made.given[0] == made.given[0] && j.made.ideals[0] == made.ideals[0]);
+    joins("a shared column", &parts[0], &parts[1], pairs, 2, KORALIMBU_ACCEPTED);
+}
+
+static void try_shared_columns(void)
+{
+    enum { FAR = KORALIMBU_RANGE_BOUND, MOST = KORALIMBU_RANGE_GOAL };
+    static const int64_t columns[][3][6] = {
+        {{1, 9, 0, 0, 0, 0}, {3, 12, 0, 0, 0, 0}, {3, 9, 0, 0, 0, 0}},
+        {{3, 7, 0, 0, 0, 0}, {1, 9, 0, 0, 0, 0}, {3, 7, 0, 0, 0, 0}},
+        {{2, 5, 0, 0, 0, 0}, {5, 8, 0, 0, 0, 0}, {5, 5, 0, 0, 0, 0}},
+        {{-FAR, FAR, 0, 0, 0, 0}, {-FAR, -FAR, 0, 0, 0, 0}, {-FAR, -FAR, 0, 0, 0, 0}},
+        {{1, 9, 4000, 4000, 0, 0}, {1, 9, 9000, 9000, 0, 0}, {1, 9, 4000, 9000, 0, 0}},
+        {{1, 9, 4000, 9000, 0, 0}, {1, 9, 5000, 6000, 0, 0}, {1, 9, 4000, 9000, 0, 0}},
+        {{1, 9, 5000, 9000, 0, 0}, {1, 9, 4000, 6000, 0, 0}, {1, 9, 4000, 9000, 0, 0}},
+        {{1, 9, MOST, MOST, 0, 0}, {1, 9, 1, 1, 0, 0}, {1, 9, 1, MOST, 0, 0}},
+        {{1, 9, 0, 0, 0, 0}, {1, 9, 4000, 9000, 0, 0}, {1, 9, 4000, 9000, 0, 0}},
+        {{1, 9, 4000, 9000, 0, 0}, {-5, 9, 0, 0, 0, 0}, {1, 9, 4000, 9000, 0, 0}},
+        /* A mark other than 0 is copied as it is, and the number of an unset one is the second's. */
+        {{1, 9, 0, 0, 1, 7}, {1, 9, 0, 0, 1, 5}, {1, 9, 0, 0, 1, 7}},
+        {{1, 9, 0, 0, INT64_MIN, INT64_MAX}, {1, 9, 0, 0, 2, 5}, {1, 9, 0, 0, INT64_MIN, INT64_MAX}},
+        {{1, 9, 0, 0, -1, 0}, {1, 9, 0, 0, 0, 5}, {1, 9, 0, 0, -1, 0}},
+        {{1, 9, 0, 0, 0, 7}, {1, 9, 0, 0, MARK, INT64_MIN}, {1, 9, 0, 0, MARK, INT64_MIN}},
+        {{1, 9, 0, 0, 0, 7}, {1, 9, 0, 0, 0, 5}, {1, 9, 0, 0, 0, 5}},
+        {{1, 9, 4000, 4000, 0, 7}, {1, 9, 0, 0, 3, 5}, {1, 9, 4000, 4000, 3, 5}}};
+    size_t k;
+
+    for (k = 0; k < sizeof columns / sizeof *columns; k++)
+        try_shared_column(columns[k][0], columns[k][1], columns[k][2]);
+}
+
+/* Makes a part one that is refused with a number, whatever else is wrong with it that is told later. */
+static void worsen(struct posed *p, size_t counts[EIGHT], uint32_t number)
+{
+    if (number == KORALIMBU_REFUSED_GOAL)
+        p->high[1] = p->low[1] - 1;
+    else if (number == KORALIMBU_REFUSED_BOUND)
+        p->upper[1] = p->lower[1] - 1;
+    else if (number == KORALIMBU_REFUSED_COEFFICIENT)
+        p->rights[0] = KORALIMBU_RANGE_RIGHT + 1;
+    else if (number == KORALIMBU_REFUSED_LENGTH)
+        counts[EIGHT - 1]++;
+    else
+        p->n = 0;
+}
+
+/* The first part's causes, then the second's, each before what comes behind it, before an odd count of pairs, pairs outside and all joined lists. */
+static void try_join_order(void)
+{
+    static const size_t pairs[] = {0, 9, 9};
+    static struct posed p, q;
+    struct lent l;
+    uint32_t number;
+
+    pose_part(&p, 2, 1, 100);
+    pose_part(&q, 3, 2, 500);
+    need_all(&l, &p, &q, 3);
+    memset(l.joined, 0, sizeof l.joined);
+    joins_with("an odd count before a pair and the joined lists", &p, &q, pairs, &l, KORALIMBU_REFUSED_LENGTH);
+    for (number = KORALIMBU_REFUSED_GOAL; number >= KORALIMBU_REFUSED_SIZE; number--) {
+        worsen(&q, l.second, number);
+        joins_with("a cause of the second part", &p, &q, pairs, &l, number);
+    }
+    for (number = KORALIMBU_REFUSED_GOAL; number >= KORALIMBU_REFUSED_SIZE; number--) {
+        worsen(&p, l.first, number);
+        joins_with("a cause of the first part before the second's", &p, &q, pairs, &l, number);
+    }
+}
+
+/* Each cause of a part by itself, in one part and in the other. */
+static void refuses_part(const char *what, const struct posed *part, uint32_t wanted)
+{
+    static struct posed good;
+
+    pose_part(&good, 2, 1, 100);
+    joins(what, part, &good, (const size_t[]){1, 1}, 2, wanted);
+    joins(what, &good, part, (const size_t[]){1, 1}, 2, wanted);
+    joins(what, part, &good, (const size_t[]){9, 9}, 2, wanted);
+    joins(what, part, part, NULL, 0, wanted);
+}
+
+static void try_join_parts(void)
+{
+    static struct posed p;
+    int sign;
+
+    pose(&p, 0, 0);
+    refuses_part("a part of no column", &p, KORALIMBU_REFUSED_SIZE);
+    pose(&p, KORALIMBU_MOST_COLUMNS + 1, 0);
+    refuses_part("a part with a column too many", &p, KORALIMBU_REFUSED_SIZE);
+    pose(&p, 2, KORALIMBU_MOST_ROWS + 1);
+    refuses_part("a part with a row too many", &p, KORALIMBU_REFUSED_SIZE);
+    for (sign = -1; sign <= 1; sign += 2) {
+        pose(&p, 2, 2);
+        p.coefficients[3] = sign * (KORALIMBU_RANGE_COEFFICIENT + 1);
+        refuses_part("a part's coefficient", &p, KORALIMBU_REFUSED_COEFFICIENT);
+        pose(&p, 2, 2);
+        p.rights[1] = sign * (KORALIMBU_RANGE_RIGHT + 1);
+        refuses_part("a part's right side", &p, KORALIMBU_REFUSED_COEFFICIENT);
+    }
+    pose(&p, 2, 0);
+    p.upper[1] = KORALIMBU_RANGE_BOUND + 1;
+    refuses_part("a part's upper bound", &p, KORALIMBU_REFUSED_BOUND);
+    pose(&p, 2, 0);
+    p.lower[1] = -KORALIMBU_RANGE_BOUND - 1;
+    refuses_part("a part's lower bound", &p, KORALIMBU_REFUSED_BOUND);
+    p.lower[1] = 11;
+    refuses_part("a part's lower bound above its upper one", &p, KORALIMBU_REFUSED_BOUND);
+    pose(&p, 2, 0);
+    want(&p, 1, 1, 1);
+    refuses_part("a part's goals with a lower bound of 0", &p, KORALIMBU_REFUSED_GOAL);
+}
+
+/* Every list of both parts and of the joined problem, with no number, one less and one more; and one less beside one more. */
+static void try_join_counts(void)
+{
+    static const size_t pairs[] = {2, 1};
+    static struct posed p, q;
+    struct lent l;
+    size_t *counts[] = {l.first, l.second, l.joined}, list, k, right;
+
+    pose_part(&p, 2, 2, 100);
+    pose_part(&q, 3, 1, 500);
+    for (list = 0; list < 3 * EIGHT; list++) {
+        size_t *count = &counts[list / EIGHT][list % EIGHT], *other = &counts[list / EIGHT][(list + 1) % EIGHT];
+
+        need_all(&l, &p, &q, 2);
+        right = *count;
+        for (k = 0; k < 3; k++) {
+            *count = k == 0 ? 0 : k == 1 ? right - 1 : right + 1;
+            joins_with("a wrong count of a list", &p, &q, pairs, &l, KORALIMBU_REFUSED_LENGTH);
+        }
+        *other -= 1;
+        joins_with("two wrong counts", &p, &q, pairs, &l, KORALIMBU_REFUSED_LENGTH);
+    }
+    need_all(&l, &p, &q, 2);
+    joins_with("the right counts", &p, &q, pairs, &l, KORALIMBU_ACCEPTED);
+    joins("an odd count of pairs", &p, &q, (const size_t[]){2, 1, 1}, 3, KORALIMBU_REFUSED_LENGTH);
+    joins("half a pair", &p, &q, (const size_t[]){2}, 1, KORALIMBU_REFUSED_LENGTH);
+}
+
+/* Sizes of another count are not written, and are told before anything else. */
+static void try_join_sizes(void)
+{
+    static const size_t others[] = {0, 1, KORALIMBU_JOINED_COUNT + 1};
+    static struct posed parts[2];
+    static struct joined j;
+    struct lent l;
+    size_t k, wrong;
+
+    for (wrong = 0; wrong < 2; wrong++) {
+        pose_part(&parts[0], 2, 1, 100);
+        pose_part(&parts[1], 2, 1, 500);
+        need_all(&l, &parts[0], &parts[1], 0);
+        /* With the first part's size wrong too, which would be 1. */
+        if (wrong)
+            parts[0].n = 0;
+        for (k = 0; k < sizeof others / sizeof *others; k++) {
+            l.sizes = others[k];
+            join_with(&parts[0], &parts[1], NULL, &l, &j);
+            expect("a join's sizes of another count", j.number, KORALIMBU_REFUSED_LENGTH);
+            check("what such sizes are left as", j.sizes[0] == MARK && j.sizes[1] == MARK && j.sizes[2] == MARK);
+            check("what such sizes leave", unjoined(&j));
+        }
+    }
+}
+
+/* Pairs of columns that a part has not, alone and behind a pair that is none of these; and columns that an earlier pair has. */
+static void try_pairs(void)
+{
+    static const size_t outside[][2] = {{0, 1}, {1, 0}, {0, 0}, {4, 1}, {1, 6}, {4, 6}, {49, 1}, {SIZE_MAX, 1}, {1, SIZE_MAX}};
+    static const size_t again[][6] = {{1, 1, 1, 2, 3, 3}, {1, 1, 2, 1, 3, 3}, {1, 1, 1, 1, 3, 3}, {1, 1, 2, 2, 1, 3}, {1, 1, 2, 2, 3, 1}};
+    static struct posed p, q;
+    size_t pairs[NUMBERS] = {2, 3}, k;
+
+    pose_part(&p, 3, 2, 100);
+    pose_part(&q, 5, 1, 500);
+    for (k = 0; k < sizeof outside / sizeof *outside; k++) {
+        joins("a column outside", &p, &q, outside[k], 2, KORALIMBU_REFUSED_PAIR);
+        memcpy(pairs + 2, outside[k], sizeof outside[k]);
+        joins("a later column outside", &p, &q, pairs, 4, KORALIMBU_REFUSED_PAIR);
+    }
+    for (k = 0; k < sizeof again / sizeof *again; k++)
+        joins("a column used before", &p, &q, again[k], 6, KORALIMBU_REFUSED_PAIR);
+    joins("the same number on both sides", &p, &q, (const size_t[]){1, 2, 2, 1}, 4, KORALIMBU_ACCEPTED);
+    pose_part(&p, KORALIMBU_MOST_COLUMNS, 0, 100);
+    for (k = 0; k < NUMBERS; k++)
+        pairs[k] = k / 2 + 1;
+    joins("a pair for each of the most columns", &p, &p, pairs, NUMBERS - 2, KORALIMBU_ACCEPTED);
+    joins("a pair more than columns", &p, &p, pairs, NUMBERS, KORALIMBU_REFUSED_PAIR);
+}
+
+/* Columns with the bounds 0 to 4 and 5 to 10 are no pair; the others have the bounds 0 to 10. */
+static void try_pair_bounds(void)
+{
+    static const struct {
+        size_t pairs[6], count;
+        uint32_t wanted;
+    } tries[] = {{{1, 1}, 2, KORALIMBU_REFUSED_PAIR_BOUNDS},
+                 {{2, 2, 1, 1}, 4, KORALIMBU_REFUSED_PAIR_BOUNDS},
+                 {{1, 1, 0, 0}, 4, KORALIMBU_REFUSED_PAIR_BOUNDS},
+                 {{0, 0, 1, 1}, 4, KORALIMBU_REFUSED_PAIR},
+                 {{1, 1, 2, 2, 2, 3}, 6, KORALIMBU_REFUSED_PAIR_BOUNDS},
+                 /* The last pair would be refused for its bounds as well. */
+                 {{1, 2, 1, 1}, 4, KORALIMBU_REFUSED_PAIR},
+                 {{2, 1, 1, 1}, 4, KORALIMBU_REFUSED_PAIR},
+                 {{1, 2, 2, 1}, 4, KORALIMBU_ACCEPTED}};
+    static struct posed p, q;
+    size_t k;
+
+    pose(&p, 3, 0);
+    pose(&q, 3, 0);
+    p.upper[0] = 4;
+    q.lower[0] = 5;
+    for (k = 0; k < sizeof tries / sizeof *tries; k++)
+        joins("bounds of pairs", &p, &q, tries[k].pairs, tries[k].count, tries[k].wanted);
+    joins("bounds of a pair, the other way round", &q, &p, (const size_t[]){1, 1}, 2, KORALIMBU_REFUSED_PAIR_BOUNDS);
+    q.lower[0] = 4;
+    joins("bounds of a pair that leave one number", &p, &q, (const size_t[]){1, 1}, 2, KORALIMBU_ACCEPTED);
+}
+
+/* A joined size beyond the limit: after the pairs, before the joined lists. */
+static void try_joined_size(void)
+{
+    static const size_t shared[] = {1, 1}, outside[] = {1, 2};
+    static struct posed p, q;
+    struct lent l;
+    int rows;
+
+    for (rows = 0; rows < 2; rows++) {
+        pose(&p, rows ? 1 : KORALIMBU_MOST_COLUMNS, rows ? KORALIMBU_MOST_ROWS : 0);
+        pose(&q, 1, rows ? 1 : 0);
+        joins("a joined size beyond", &p, &q, NULL, 0, KORALIMBU_REFUSED_SIZE);
+        joins("a joined size beyond", &q, &p, NULL, 0, KORALIMBU_REFUSED_SIZE);
+        joins("a pair before a joined size", &p, &q, outside, 2, KORALIMBU_REFUSED_PAIR);
+        joins("a shared column and a joined size", &p, &q, shared, 2, rows ? KORALIMBU_REFUSED_SIZE : KORALIMBU_ACCEPTED);
+        need_all(&l, &p, &q, 0);
+        memset(l.joined, 0, sizeof l.joined);
+        joins_with("a joined size before the joined lists", &p, &q, NULL, &l, KORALIMBU_REFUSED_SIZE);
+        p.upper[0] = 4;
+        q.lower[0] = 5;
+        joins("bounds of a pair before a joined size", &p, &q, shared, 2, KORALIMBU_REFUSED_PAIR_BOUNDS);
+    }
+}
+
+/* A panel that wants 4 and one that wants 9, v1 = v2 each, meet: the shares of the assigned list. */
+static void try_joined_assigned(void)
+{
+    static const size_t pairs[] = {2, 1};
+    static struct posed parts[2];
+    static struct joined j;
+    static struct answer a;
+    struct lent l;
+    size_t k;
+
+    for (k = 0; k < 2; k++) {
+        pose(&parts[k], 2, 1);
+        parts[k].coefficients[0] = 1;
+        parts[k].coefficients[1] = -1;
+        fill(parts[k].lower, 2, 1);
+        fill(parts[k].low, 2, k ? 9000 : 4000);
+        fill(parts[k].high, 2, k ? 9000 : 4000);
+        settle(koralimbu_assign, &parts[k], &a);
+        check("a panel by itself", all_are(a.values, 2, k ? 9 : 4));
+    }
+    need_all(&l, &parts[0], &parts[1], 2);
+    join_with(&parts[0], &parts[1], pairs, &l, &j);
+    j.made.n = j.sizes[0];
+    j.made.m = j.sizes[1];
+    j.made.limit = LIMIT;
+    settle(koralimbu_assign, &j.made, &a);
+    expect("two panels joined", a.number, KORALIMBU_ACCEPTED);
+    check("two panels joined", a.report[0] == KORALIMBU_FITTED && all_are(a.values, 3, 6));
+}
+
+/* ---------------------------------------------------------------- the join's null pointers */
+
+/* The six lists of a column, from a place on, without one of them. */
+#define COLUMN(p, place) \
+    LENT(place, (p).lower, 1), LENT((place) + 1, (p).upper, 1), LENT((place) + 2, (p).low, 1), LENT((place) + 3, (p).high, 1), \
+    LENT((place) + 4, (p).given, 1), LENT((place) + 5, (p).ideals, 1)
+
+/* One column each without rows, joined by a pair, without one of the twenty lists. */
+static uint32_t join_without(int none)
+{
+    static struct posed p, made;
+    size_t pairs[] = {1, 1}, sizes[KORALIMBU_JOINED_COUNT];
+
+    pose(&p, 1, 0);
+    return koralimbu_join(1, 0, NULL, 0, NULL, 0, COLUMN(p, 0), 1, 0, NULL, 0, NULL, 0, COLUMN(p, 6), LENT(12, pairs, 2),
+                          NULL, 0, NULL, 0, COLUMN(made, 13), LENT(19, sizes, KORALIMBU_JOINED_COUNT));
+}
+
+#define NO_LISTS NULL, 0, NULL, 0, NULL, 0, NULL, 0, NULL, 0, NULL, 0, NULL, 0, NULL, 0
+
+static void try_join_null_pointers(void)
+{
+    size_t sizes[KORALIMBU_JOINED_COUNT];
+    int none;
+
+    expect("null rows of no row in a join", join_without(-1), KORALIMBU_ACCEPTED);
+    for (none = 0; none < 20; none++)
+        expect("a null list of a join", join_without(none), KORALIMBU_REFUSED_LENGTH);
+    expect("a join of no columns and every list null",
+           koralimbu_join(0, 0, NO_LISTS, 0, 0, NO_LISTS, NULL, 0, NO_LISTS, sizes, KORALIMBU_JOINED_COUNT), KORALIMBU_REFUSED_SIZE);
+    expect("a join of a column each and every list null",
+           koralimbu_join(1, 0, NO_LISTS, 1, 0, NO_LISTS, NULL, 0, NO_LISTS, sizes, KORALIMBU_JOINED_COUNT), KORALIMBU_REFUSED_LENGTH);
+    expect("a join with every list null, the sizes too",
+           koralimbu_join(0, 0, NO_LISTS, 0, 0, NO_LISTS, NULL, 0, NO_LISTS, NULL, 0), KORALIMBU_REFUSED_LENGTH);
+}
+
+static void try_joins(void)
+{
+    try_join_lists();
+    try_join_places();
+    try_shared_columns();
+    try_join_order();
+    try_join_parts();
+    try_join_counts();
+    try_join_sizes();
+    try_pairs();
+    try_pair_bounds();
+    try_joined_size();
+    try_joined_assigned();
+    try_join_null_pointers();
+}
+
 /* ---------------------------------------------------------------- threads */
 
-/* What one thread does: all four calls, on texts and a problem that all threads read. */
+/* What one thread does: all five calls, on texts, a problem and a part that all threads read. The part is joined with itself. */
 struct work {
-    const struct posed *posed;
+    const struct posed *posed, *part;
     size_t rounds;
     struct answer assigned, continued;
     struct seen seen;
     struct deck deck, swept;
+    struct joined joined;
 };
 
 static void *work(void *given)
 {
+    static const size_t pairs[] = {1, 2};
     struct work *w = given;
+    struct lent lent;
     size_t k;
 
+    need_all(&lent, w->part, w->part, 2);
     for (k = 0; k < w->rounds; k++) {
         read_text((const uint8_t *)paving, sizeof paving - 1, &w->deck);
         read_text((const uint8_t *)swept, sizeof swept - 1, &w->swept);
         settle(koralimbu_assign, w->posed, &w->assigned);
         settle(koralimbu_continue, w->posed, &w->continued);
         look(w->posed, &w->seen);
+        join_with(w->part, w->part, pairs, &lent, &w->joined);
     }
     return NULL;
 }
@@ -1310,7 +1913,7 @@ static int same(const struct work *a, const struct work *b)
     return memcmp(&a->assigned, &b->assigned, sizeof a->assigned) == 0
            && memcmp(&a->continued, &b->continued, sizeof a->continued) == 0
            && memcmp(&a->seen, &b->seen, sizeof a->seen) == 0 && memcmp(&a->deck, &b->deck, sizeof a->deck) == 0
-           && memcmp(&a->swept, &b->swept, sizeof a->swept) == 0;
+           && memcmp(&a->swept, &b->swept, sizeof a->swept) == 0 && memcmp(&a->joined, &b->joined, sizeof a->joined) == 0;
 }
 
 /* The largest problem, of pairs v(2k) = v(2k + 1) whose bounds begin far from each other, so that it takes many steps. */
@@ -1335,6 +1938,7 @@ static void try_threads(const struct posed *p, const struct work *alone)
 
     for (started = 0; started < THREADS; started++) {
         works[started].posed = p;
+        works[started].part = alone->part;
         works[started].rounds = ROUNDS;
         if (pthread_create(&threads[started], NULL, work, &works[started]) != 0)
             break;
@@ -1355,6 +1959,7 @@ static void try_small_stack(const struct posed *p, const struct work *alone)
     int started;
 
     small.posed = p;
+    small.part = alone->part;
     small.rounds = 1;
     pthread_attr_init(&attributes);
     started = pthread_attr_setstacksize(&attributes, KORALIMBU_MOST_STACK + (size_t)PTHREAD_STACK_MIN) == 0
@@ -1368,16 +1973,20 @@ static void try_small_stack(const struct posed *p, const struct work *alone)
 
 static void try_many_steps(void)
 {
-    static struct posed pairs;
+    static struct posed pairs, part;
     static struct work alone;
 
     pose_pairs(&pairs);
+    /* Joined with itself it has the most rows, and by the one pair a column less than the most. */
+    pose_part(&part, KORALIMBU_MOST_COLUMNS / 2, KORALIMBU_MOST_ROWS / 2, 100);
     alone.posed = &pairs;
+    alone.part = &part;
     alone.rounds = 1;
     work(&alone);
     expect("many steps", alone.assigned.number, KORALIMBU_ACCEPTED);
     check("both decks", alone.deck.number == KORALIMBU_ACCEPTED && alone.swept.number == KORALIMBU_ACCEPTED);
     check("many steps towards the bounds", alone.assigned.report[1] > 1000 && alone.continued.report[1] > 1000);
+    check("the largest join", alone.joined.number == KORALIMBU_ACCEPTED && alone.joined.sizes[1] == KORALIMBU_MOST_ROWS);
     check("the first of them", alone.seen.number == KORALIMBU_ACCEPTED && alone.seen.report[0] == KORALIMBU_PART_BOUNDS);
     previewed("the first of many steps", &pairs, KORALIMBU_ACCEPTED);
     try_threads(&pairs, &alone);
@@ -1418,6 +2027,7 @@ int main(void)
     try_volume_refusals();
     try_volume_layouts();
     try_path_limits();
+    try_joins();
     try_many_steps();
     printf("%d passed, %d failed\n", passed, failed);
     return failed != 0;

@@ -97,6 +97,72 @@ static void read_texts() {
     expect("a curve twice in a path", read_text(std::vector<uint8_t>(twice, twice + sizeof twice - 1), given, ideals), KORALIMBU_REFUSED_VOLUME);
 }
 
+// A problem in vectors: v1 = v2 with these bounds and goals, or one column without rows.
+struct Part {
+    std::vector<int64_t> coefficients, rights, lower, upper, low, high, given, ideals;
+};
+
+static Part panel(int64_t least, int64_t most, int64_t goal) {
+    return {{1, -1}, {0}, {least, least}, {most, most}, {goal, goal}, {goal, goal}, {0, 0}, {0, 0}};
+}
+
+static Part column(int64_t least, int64_t most) {
+    return {{}, {}, {least}, {most}, {0}, {0}, {1}, {7}};
+}
+
+static uint32_t join(const Part &first, const Part &second, const std::vector<size_t> &pairs, Part &made, std::vector<size_t> &sizes) {
+    return koralimbu_join(first.lower.size(), first.rights.size(), first.coefficients.data(), first.coefficients.size(),
+                          first.rights.data(), first.rights.size(), first.lower.data(), first.lower.size(), first.upper.data(), first.upper.size(),
+                          first.low.data(), first.low.size(), first.high.data(), first.high.size(), first.given.data(), first.given.size(),
+                          first.ideals.data(), first.ideals.size(), second.lower.size(), second.rights.size(),
+                          second.coefficients.data(), second.coefficients.size(), second.rights.data(), second.rights.size(),
+                          second.lower.data(), second.lower.size(), second.upper.data(), second.upper.size(),
+                          second.low.data(), second.low.size(), second.high.data(), second.high.size(),
+                          second.given.data(), second.given.size(), second.ideals.data(), second.ideals.size(), pairs.data(), pairs.size(),
+                          made.coefficients.data(), made.coefficients.size(), made.rights.data(), made.rights.size(),
+                          made.lower.data(), made.lower.size(), made.upper.data(), made.upper.size(), made.low.data(), made.low.size(),
+                          made.high.data(), made.high.size(), made.given.data(), made.given.size(), made.ideals.data(), made.ideals.size(),
+                          sizes.data(), sizes.size());
+}
+
+// Lists for n columns and m rows, as they are before a join.
+static Part lent(size_t n, size_t m) {
+    const std::vector<int64_t> marks(n, -7);
+    return {std::vector<int64_t>(m * n, -7), std::vector<int64_t>(m, -7), marks, marks, marks, marks, marks, marks};
+}
+
+static bool same(const Part &a, const Part &b) {
+    return a.coefficients == b.coefficients && a.rights == b.rights && a.lower == b.lower && a.upper == b.upper && a.low == b.low
+           && a.high == b.high && a.given == b.given && a.ideals == b.ideals;
+}
+
+// The join is refused, the lists are as they were, and the sizes are 0.
+static void refuses(const char *what, const Part &first, const Part &second, const std::vector<size_t> &pairs, uint32_t wanted) {
+    std::vector<size_t> sizes{9, 9};
+    Part made = lent(3, 2);
+    expect(what, join(first, second, pairs, made, sizes), wanted);
+    expect(what, same(made, lent(3, 2)) && sizes == std::vector<size_t>{0, 0}, true);
+}
+
+static void join_parts() {
+    std::vector<size_t> sizes{9, 9}, none;
+    Part made = lent(3, 2);
+    const Part joined{{1, -1, 0, 0, 1, -1}, {0, 0}, {1, 3, 3}, {8, 8, 9}, {4000, 4000, 9000}, {4000, 9000, 9000}, {0, 0, 0}, {0, 0, 0}};
+    expect("two panels", join(panel(1, 8, 4000), panel(3, 9, 9000), {2, 1}, made, sizes), KORALIMBU_ACCEPTED);
+    expect("the joined panels", same(made, joined) && sizes == std::vector<size_t>{3, 2}, true);
+    made = lent(2, 0);
+    expect("columns without rows and an empty list of pairs", join(column(1, 8), column(3, 9), {}, made, sizes), KORALIMBU_ACCEPTED);
+    expect("both columns", same(made, {{}, {}, {1, 3}, {8, 9}, {0, 0}, {0, 0}, {1, 1}, {7, 7}}) && sizes == std::vector<size_t>{2, 0}, true);
+    refuses("no columns", {}, {}, {}, KORALIMBU_REFUSED_SIZE);
+    refuses("half a pair", panel(1, 8, 4000), panel(3, 9, 9000), {2}, KORALIMBU_REFUSED_LENGTH);
+    refuses("a column outside", panel(1, 8, 4000), panel(3, 9, 9000), {2, 0}, KORALIMBU_REFUSED_PAIR);
+    refuses("a column used before", panel(1, 8, 4000), panel(3, 9, 9000), {1, 1, 1, 2}, KORALIMBU_REFUSED_PAIR);
+    refuses("bounds that leave nothing", panel(1, 2, 4000), panel(3, 9, 9000), {2, 1}, KORALIMBU_REFUSED_PAIR_BOUNDS);
+    refuses("a goal with a lower bound of 0", panel(1, 8, 4000), panel(0, 9, 9000), {2, 1}, KORALIMBU_REFUSED_GOAL);
+    refuses("lists for a pair and no pair", panel(1, 8, 4000), panel(3, 9, 9000), {}, KORALIMBU_REFUSED_LENGTH);
+    expect("no sizes", join(panel(1, 8, 4000), panel(3, 9, 9000), {2, 1}, made, none), KORALIMBU_REFUSED_LENGTH);
+}
+
 int main() {
     expect("the version", koralimbu_version(), KORALIMBU_VERSION);
     for (Engine *call : {koralimbu_assign, koralimbu_continue}) {
@@ -110,6 +176,7 @@ int main() {
     expect("a preview without rows", preview_without_rows(), KORALIMBU_ACCEPTED);
     expect("a preview of empty vectors", preview_all_empty(), KORALIMBU_REFUSED_LENGTH);
     read_texts();
+    join_parts();
     std::printf("%d passed, %d failed\n", passed, failed);
     return failed != 0;
 }

@@ -1,8 +1,12 @@
 //! The calls of `include/koralimbu.h`, each behind a safe function.
 
 use crate::ideals::Handed;
+use crate::joining::Numbered;
 use crate::step::{step_of, PREVIEW_COUNT};
-use crate::{Answer, Buffers, DeckBuffers, PreviewBuffers, Problem, Refusal, Sizes, Step, Steps, Verdict};
+use crate::{
+    Answer, Buffers, DeckBuffers, JoinBuffers, JoinedSizes, PreviewBuffers, Problem, Refusal, Sizes, Step, Steps,
+    Verdict,
+};
 
 // Line for line the header's.
 #[rustfmt::skip]
@@ -70,11 +74,43 @@ extern "C" {
         ideals: *mut i64, ideals_count: usize,
         sizes: *mut usize, sizes_count: usize,
     ) -> u32;
+
+    fn koralimbu_join(
+        first_n: usize, first_m: usize,
+        first_coefficients: *const i64, first_coefficients_count: usize,
+        first_rights: *const i64, first_rights_count: usize,
+        first_lower: *const i64, first_lower_count: usize,
+        first_upper: *const i64, first_upper_count: usize,
+        first_low: *const i64, first_low_count: usize,
+        first_high: *const i64, first_high_count: usize,
+        first_given: *const i64, first_given_count: usize,
+        first_ideals: *const i64, first_ideals_count: usize,
+        second_n: usize, second_m: usize,
+        second_coefficients: *const i64, second_coefficients_count: usize,
+        second_rights: *const i64, second_rights_count: usize,
+        second_lower: *const i64, second_lower_count: usize,
+        second_upper: *const i64, second_upper_count: usize,
+        second_low: *const i64, second_low_count: usize,
+        second_high: *const i64, second_high_count: usize,
+        second_given: *const i64, second_given_count: usize,
+        second_ideals: *const i64, second_ideals_count: usize,
+        pairs: *const usize, pairs_count: usize,
+        coefficients: *mut i64, coefficients_count: usize,
+        rights: *mut i64, rights_count: usize,
+        lower: *mut i64, lower_count: usize,
+        upper: *mut i64, upper_count: usize,
+        low: *mut i64, low_count: usize,
+        high: *mut i64, high_count: usize,
+        given: *mut i64, given_count: usize,
+        ideals: *mut i64, ideals_count: usize,
+        sizes: *mut usize, sizes_count: usize,
+    ) -> u32;
 }
 
-/// The counts of a report and of sizes.
+/// The counts of a report, of the reader's sizes and of the join's.
 pub const REPORT_COUNT: usize = 3;
 pub const SIZES_COUNT: usize = 3;
+pub const JOINED_COUNT: usize = 2;
 
 pub fn version() -> u32 {
     // Sound: it takes nothing and touches no memory.
@@ -182,6 +218,44 @@ pub fn read(text: &[u8], buffers: &mut DeckBuffers) -> Result<Sizes, Refusal> {
     handed.leave(buffers.ideals);
     let [columns, rows, curves] = sizes;
     Ok(Sizes { columns, rows, curves })
+}
+
+pub fn join(
+    first: &Problem,
+    second: &Problem,
+    pairs: &[(usize, usize)],
+    buffers: &mut JoinBuffers,
+) -> Result<JoinedSizes, Refusal> {
+    let handed = [first, second].map(|part| Handed::of(part.columns.ideals));
+    let mut left = Handed::of(buffers.ideals);
+    let numbered = Numbered::of(pairs);
+    let mut sizes = [0; JOINED_COUNT];
+    // Sound for the reasons above.
+    #[rustfmt::skip]
+    let number = unsafe {
+        koralimbu_join(
+            first.columns.lower.len(), first.rows.rights.len(),
+            first.rows.coefficients.as_ptr(), first.rows.coefficients.len(), first.rows.rights.as_ptr(), first.rows.rights.len(),
+            first.columns.lower.as_ptr(), first.columns.lower.len(), first.columns.upper.as_ptr(), first.columns.upper.len(),
+            first.columns.low.as_ptr(), first.columns.low.len(), first.columns.high.as_ptr(), first.columns.high.len(),
+            handed[0].given.as_ptr(), handed[0].count, handed[0].ideals.as_ptr(), handed[0].count,
+            second.columns.lower.len(), second.rows.rights.len(),
+            second.rows.coefficients.as_ptr(), second.rows.coefficients.len(), second.rows.rights.as_ptr(), second.rows.rights.len(),
+            second.columns.lower.as_ptr(), second.columns.lower.len(), second.columns.upper.as_ptr(), second.columns.upper.len(),
+            second.columns.low.as_ptr(), second.columns.low.len(), second.columns.high.as_ptr(), second.columns.high.len(),
+            handed[1].given.as_ptr(), handed[1].count, handed[1].ideals.as_ptr(), handed[1].count,
+            numbered.numbers.as_ptr(), numbered.count,
+            buffers.coefficients.as_mut_ptr(), buffers.coefficients.len(), buffers.rights.as_mut_ptr(), buffers.rights.len(),
+            buffers.lower.as_mut_ptr(), buffers.lower.len(), buffers.upper.as_mut_ptr(), buffers.upper.len(),
+            buffers.low.as_mut_ptr(), buffers.low.len(), buffers.high.as_mut_ptr(), buffers.high.len(),
+            left.given.as_mut_ptr(), left.count, left.ideals.as_mut_ptr(), left.count,
+            sizes.as_mut_ptr(), sizes.len(),
+        )
+    };
+    Refusal::check(number)?;
+    left.leave(buffers.ideals);
+    let [columns, rows] = sizes;
+    Ok(JoinedSizes { columns, rows })
 }
 
 #[cfg(test)]

@@ -2,7 +2,7 @@
 
 use std::collections::BTreeMap;
 
-use crate::calls::{verdict_of, REPORT_COUNT, SIZES_COUNT};
+use crate::calls::{verdict_of, JOINED_COUNT, REPORT_COUNT, SIZES_COUNT};
 use crate::step::{part_of, sign_of, PREVIEW_COUNT};
 use crate::{Part, Refusal, Sign, Verdict};
 
@@ -29,11 +29,12 @@ fn limits() -> BTreeMap<&'static str, i64> {
     names.insert("REPORT_COUNT", REPORT_COUNT as i64);
     names.insert("PREVIEW_COUNT", PREVIEW_COUNT as i64);
     names.insert("SIZES_COUNT", SIZES_COUNT as i64);
+    names.insert("JOINED_COUNT", JOINED_COUNT as i64);
     names
 }
 
 /// The header's names of refusals, in the order of their numbers.
-const REFUSED: [(&str, Refusal); 13] = [
+const REFUSED: [(&str, Refusal); 15] = [
     ("REFUSED_SIZE", Refusal::Size),
     ("REFUSED_LENGTH", Refusal::Length),
     ("REFUSED_COEFFICIENT", Refusal::Coefficient),
@@ -47,6 +48,8 @@ const REFUSED: [(&str, Refusal); 13] = [
     ("REFUSED_LAYOUT", Refusal::Layout),
     ("REFUSED_TERM", Refusal::Term),
     ("REFUSED_VOLUME", Refusal::Volume),
+    ("REFUSED_PAIR", Refusal::Pair),
+    ("REFUSED_PAIR_BOUNDS", Refusal::PairBounds),
 ];
 
 const VERDICTS: [(&str, Verdict); 3] =

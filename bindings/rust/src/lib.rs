@@ -65,8 +65,21 @@
 //! # Ok::<(), koralimbu::Refusal>(())
 //! ```
 //!
-//! [`assign`], [`continue_from`], [`preview`] and [`read_deck`] are the engine's own calls, for callers who keep their buffers. They allocate
-//! nothing. What a call leaves in each buffer stands in `include/koralimbu.h`.
+//! Two blocks that share curves are joined into one problem by pairs of a column of the first and the one of the second that is the same curve,
+//! counted from 0. Of the values each block then has its share:
+//!
+//! ```
+//! let aft = koralimbu::Deck::read("2\n1 9 4000 4000\n1 9 4000 4000\n1\n0 0 2 1 1 2 -1\n0\n")?;
+//! let fore = koralimbu::Deck::read("2\n1 5 9000 9000\n1 9 2000 2000\n0\n0\n")?;
+//! let joined = aft.join(&fore, &[(1, 0)])?; // the second curve of aft is the first one of fore
+//! let solved = joined.solve(10_000)?;
+//! assert_eq!(joined.first_share(&solved.values), [5, 5]); // 4 and 9 meet at 6, and fore has at most 5
+//! assert_eq!(joined.second_share(&solved.values), [5, 2]);
+//! # Ok::<(), koralimbu::Refusal>(())
+//! ```
+//!
+//! [`assign`], [`continue_from`], [`preview`], [`read_deck`] and [`join`] are the engine's own calls, for callers who keep their buffers. They
+//! allocate nothing. What a call leaves in each buffer stands in `include/koralimbu.h`.
 //!
 //! The engine keeps no state of its own, so that any of this may be called in several threads at once.
 
@@ -76,13 +89,17 @@ mod calls;
 #[cfg(test)]
 mod header;
 mod ideals;
+mod joining;
 mod limits;
+mod lists;
 mod refusal;
 mod step;
 mod version;
 
 use calls::Call;
+pub use joining::{join, JoinBuffers, Joined, JoinedSizes};
 pub use limits::*;
+use lists::Lists;
 pub use refusal::Refusal;
 pub use step::{basis, Change, Move, NextStep, Part, Sign, SignedVector, Step};
 pub use version::{version, VERSION};
@@ -279,46 +296,25 @@ pub fn read_deck(text: &[u8], buffers: &mut DeckBuffers) -> Result<Sizes, Refusa
 #[derive(Clone, Debug, PartialEq, Eq)]
 pub struct Deck {
     curves: usize,
-    coefficients: Vec<i64>,
-    rights: Vec<i64>,
-    lower: Vec<i64>,
-    upper: Vec<i64>,
-    low: Vec<i64>,
-    high: Vec<i64>,
-    ideals: Vec<Option<i64>>,
+    lists: Lists,
 }
 
 impl Deck {
     /// The deck of a text.
     pub fn read(text: impl AsRef<[u8]>) -> Result<Deck, Refusal> {
-        let mut deck = Deck {
-            curves: 0,
-            coefficients: vec![0; DECK_COEFFICIENTS],
-            rights: vec![0; DECK_ROWS],
-            lower: vec![0; DECK_COLUMNS],
-            upper: vec![0; DECK_COLUMNS],
-            low: vec![0; DECK_COLUMNS],
-            high: vec![0; DECK_COLUMNS],
-            ideals: vec![None; DECK_COLUMNS],
-        };
+        let mut lists = Lists::new(DECK_COLUMNS, DECK_ROWS);
         let mut buffers = DeckBuffers {
-            coefficients: &mut deck.coefficients,
-            rights: &mut deck.rights,
-            lower: &mut deck.lower,
-            upper: &mut deck.upper,
-            low: &mut deck.low,
-            high: &mut deck.high,
-            ideals: &mut deck.ideals,
+            coefficients: &mut lists.coefficients,
+            rights: &mut lists.rights,
+            lower: &mut lists.lower,
+            upper: &mut lists.upper,
+            low: &mut lists.low,
+            high: &mut lists.high,
+            ideals: &mut lists.ideals,
         };
         let sizes = read_deck(text.as_ref(), &mut buffers)?;
-        deck.curves = sizes.curves;
-        deck.coefficients.truncate(sizes.rows * sizes.columns);
-        deck.rights.truncate(sizes.rows);
-        for list in [&mut deck.lower, &mut deck.upper, &mut deck.low, &mut deck.high] {
-            list.truncate(sizes.columns);
-        }
-        deck.ideals.truncate(sizes.columns);
-        Ok(deck)
+        lists.truncate(sizes.columns, sizes.rows);
+        Ok(Deck { curves: sizes.curves, lists })
     }
 
     /// How many curves the text states. They are the first columns.
@@ -328,22 +324,12 @@ impl Deck {
 
     /// How many columns, behind the curves, were added by rows of kinds 1 to 3, in row order.
     pub fn added(&self) -> usize {
-        self.lower.len() - self.curves
+        self.lists.lower.len() - self.curves
     }
 
     /// The deck's problem with a step limit.
     pub fn problem(&self, limit: u32) -> Problem<'_> {
-        Problem {
-            columns: Columns {
-                lower: &self.lower,
-                upper: &self.upper,
-                low: &self.low,
-                high: &self.high,
-                ideals: &self.ideals,
-            },
-            rows: Rows { coefficients: &self.coefficients, rights: &self.rights },
-            limit,
-        }
+        self.lists.problem(limit)
     }
 
     /// A whole assignment of the deck. The curves' values are the first ones:

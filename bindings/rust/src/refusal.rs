@@ -7,7 +7,8 @@ use std::fmt;
 #[derive(Clone, Copy, PartialEq, Eq, Hash)]
 #[non_exhaustive]
 pub enum Refusal {
-    /// 1: the count of columns or that of rows is outside its limits, in a text also by the rows that the paths of volumes add.
+    /// 1: the count of columns or that of rows is outside its limits, in a text also by the rows that the paths of volumes add, in a join also that
+    /// of the joined problem.
     Size,
     /// 2: a list or buffer has not the length that the columns and rows need.
     Length,
@@ -34,6 +35,10 @@ pub enum Refusal {
     Term,
     /// 13: the count of swept volumes, a count of paths or of a path's curves, or an index in a path is wrong.
     Volume,
+    /// 14: a pair of a join has a column that its part has not, or one that an earlier pair has.
+    Pair,
+    /// 15: the bounds of a pair of a join leave nothing: the larger lower bound is above the smaller upper bound.
+    PairBounds,
     /// The library answered with a number, or where this is 0 with a verdict or a step, that this package does not know: it is of
     /// another version.
     Unknown(u32),
@@ -57,6 +62,8 @@ impl Refusal {
         Layout,
         Term,
         Volume,
+        Pair,
+        PairBounds,
     ];
 
     /// The number that the engine's call returned.
@@ -75,6 +82,8 @@ impl Refusal {
             Layout => 11,
             Term => 12,
             Volume => 13,
+            Pair => 14,
+            PairBounds => 15,
             Unknown(number) => number,
         }
     }
@@ -90,7 +99,8 @@ impl Refusal {
     fn why(self) -> &'static str {
         match self {
             Size => {
-                "the count of columns is not 1 to 48, the count of rows is not 0 to 48, or paths of volumes make a 49th row"
+                "the count of columns is not 1 to 48, the count of rows is not 0 to 48, paths of volumes make a 49th row, or two \
+                 parts together have a 49th column or row"
             }
             Length => "a list or buffer has not the length that the columns and rows need",
             Coefficient => {
@@ -117,6 +127,8 @@ impl Refusal {
                 "the count of volumes is below 0, a count of paths or of a path's curves is below 1, or an index in a path \
                  names no curve or stands there twice"
             }
+            Pair => "a pair has a column that its part has not, or one that stands in an earlier pair",
+            PairBounds => "no number is within both bounds of two columns that are a pair",
             Unknown(_) => "this package does not know that number, since libkoralimbu.a is of another version",
         }
     }
@@ -156,7 +168,7 @@ mod tests {
 
     #[test]
     fn an_unknown_number_is_kept() {
-        for number in [14, 20, u32::MAX] {
+        for number in [16, 20, u32::MAX] {
             let refusal = Refusal::check(number).unwrap_err();
             assert_eq!((refusal, refusal.number()), (Unknown(number), number));
             assert!(refusal.to_string().starts_with(&format!("refused with {number}: this package does not know")));

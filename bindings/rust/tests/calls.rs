@@ -650,7 +650,7 @@ fn each_refusal_has_its_number_and_text() {
 /// A `main` that returns the refusal prints it so.
 #[test]
 fn a_refusal_is_debugged_as_it_is_displayed() {
-    for refusal in Refusal::ALL.iter().copied().chain([Refusal::Unknown(0), Refusal::Unknown(14)]) {
+    for refusal in Refusal::ALL.iter().copied().chain([Refusal::Unknown(0), Refusal::Unknown(16)]) {
         assert_eq!(format!("{refusal:?}"), refusal.to_string());
     }
     let error: Box<dyn std::error::Error> = Refusal::Layout.into();
