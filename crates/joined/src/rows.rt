@@ -97,7 +97,6 @@ pub fn join_rows(
     requires { ⌜ (length (now coefficients) ≡ first .rows * first .columns) × (length (now coefficients2) ≡ second .rows * second .columns)
         × (length (now places) ≡ second .columns) ⌝ }
     requires { ⌜ (length (now out) ≡ (first .rows + second .rows) * n) × (first .columns ≤ n) × AllBelow n (now places) ⌝ }
-    requires { ⌜ (first .rows ≤ 1000) × (second .rows ≤ 1000) × (second .columns ≤ 1000) × (n ≤ 1000) ⌝ }
     ensures { λ _. ⌜ now (out .exit) ≡ flat (map (padded (n - first .columns)) (chop (first .rows) (first .columns) (now (coefficients .entry)))
         ++ map (Joined.spread n (now (places .entry))) (chop (second .rows) (second .columns) (now (coefficients2 .entry)))) ⌝ }
 {

@@ -2,3 +2,4 @@
 pub mod Walking
 pub mod Orders
 pub mod Partners
+pub mod Cases

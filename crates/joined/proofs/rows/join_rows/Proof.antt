@@ -18,12 +18,12 @@ slice-relend-prefix-pad-rows c = search needs
 slice-aggregate-pad-rows : tie.Need-slice-aggregate-pad-rows
 slice-aggregate-pad-rows c =
     let s = c .before .before .before in
-    sym (length-take-le (s .args .first .rows * s .args .n) (s .args .out .now) (omega (arith, s .pre .1 .0 .0)))
+    sym (length-take-le (s .args .first .rows * s .args .n) (s .args .out .now) (omega (arith, s .pre .1 .0)))
 
 pad-rows-requires : tie.Need-pad-rows-requires
 pad-rows-requires c κs =
     let s = c .before .before .before in
-    (s .pre .0 .0, length-take-le (s .args .first .rows * s .args .n) (s .args .out .now) (omega (arith, s .pre .1 .0 .0)), s .pre .1 .0 .1)
+    (s .pre .0 .0, length-take-le (s .args .first .rows * s .args .n) (s .args .out .now) (omega (arith, s .pre .1 .0)), s .pre .1 .1)
 
 mul-spread-rows : tie.Need-mul-spread-rows
 mul-spread-rows c = search needs
@@ -48,7 +48,7 @@ returns c =
     let d = c .before .before .before .before in
     let s = d .before .before .before .before in
     rw flat-append
-    (both (s .args .first .rows * s .args .n) (s .args .out .now) (d .pad-rows .last .0) (omega (arith, s .pre .1 .0 .0)) (d .pad-rows .kept .0)
+    (both (s .args .first .rows * s .args .n) (s .args .out .now) (d .pad-rows .last .0) (omega (arith, s .pre .1 .0)) (d .pad-rows .kept .0)
     (d .pad-rows .ensures) (c .before .spread-rows .ensures))
 
 pub join-rows-spec : {M : Type 1} → statement M
