@@ -4,3 +4,4 @@ pub mod Every
 pub mod JoinedColumns
 pub mod SpreadRows
 pub mod Shares
+pub mod Fitting
