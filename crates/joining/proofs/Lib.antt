@@ -1,2 +1,3 @@
 -- The root of the laws that the proofs cite.
 pub mod Made
+pub mod Shares
