@@ -5,3 +5,4 @@ pub mod Every
 pub mod JoinedColumns
 pub mod SpreadRows
 pub mod Shares
+pub mod Fitting

@@ -3,8 +3,14 @@
 --   PartFits P       in numbers
 --   part-passes      so it is where no cause is named
 --   part-fits        and the numbers
+--   room-right       buffers of the right lengths are no cause
 -- Assumes nothing.
-use mathlib.Core.Path.{_≡_}
+use mathlib.Core.Path.{_≡_, refl, ap₂}
+use mathlib.Core.Bool.{true, _&&_}
+use Prim.Native.Nat.{_+_, _*_}
+use borrow.Author.Tests.{eq-eqb}
+use Rattle.problem.specs.Checks.{lentFit}
+use Rattle.problem.specs.declared.Problem.{Problem}
 use Rattle.problem.specs.declared.Check.the-variants.{Passed}
 use Rattle.problem.proofs.CheckLaws.{Passes, Fits, passes, fits}
 use Rattle.pairing.specs.Parts.{Part, sized, posed, roomFor, partCause}
@@ -21,3 +27,7 @@ part-passes P e = passes (posed P 0) (roomFor (sized (P .columns) (P .rows) 0)) 
 
 pub part-fits : (P : Part) → PartPasses P → PartFits P
 part-fits P f = fits (posed P 0) (roomFor (sized (P .columns) (P .rows) 0)) f
+
+pub room-right : (p : Problem) → lentFit p (roomFor p) ≡ true
+room-right p =
+    ap₂ _&&_ (eq-eqb (p .columns * (p .rows + p .columns)) _ refl) (ap₂ _&&_ (eq-eqb (p .columns) _ refl) (eq-eqb (p .columns) _ refl))

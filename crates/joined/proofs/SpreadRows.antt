@@ -133,7 +133,8 @@ module _ (P Q : Part) (R : List ℕ) (r : Partners P Q R) where
 
   pub places-below : AllBelow (joinedCount P R) (places P R) × (length (places P R) ≡ Q .columns)
   places-below = (
-    subst (λ (n : ℕ). AllBelow n (places P R)) (length-replicate (joinedCount P R) (pos 0)) (free-below (zeros (joinedCount P R)) (places P R) joined-free),
+    subst (λ (n : ℕ). AllBelow n (places P R)) (length-replicate (joinedCount P R) (pos 0))
+        (free-below (zeros (joinedCount P R)) (places P R) joined-free),
     length-places (P .columns) R ∙ r .long,
   )
 

@@ -2,3 +2,5 @@
 pub mod Causes
 pub mod Made
 pub mod Filled
+pub mod Shares
+pub mod Cases

@@ -1,7 +1,7 @@
 -- What a join has that is not refused.
 --   pairs-found         the partners that the pairs leave are ready, where none is refused
 --   room-fits           the joined sizes and the lent lists fit, where neither is a cause
---   Makes P Q ps B      the parts pass, the pairs leave partners that are ready, and the joined sizes and the lent lists fit
+--   Makes P Q ps B      the parts pass, the list of pairs is even and leaves partners that are ready, and the joined sizes and the lent lists fit
 --   cause-makes         so it is where no cause is named
 --   MadeOf P Q ps B s   so it is, and what is left is the joined problem, of the sizes s
 --   join-makes          so it is of a join that is made
