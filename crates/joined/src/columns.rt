@@ -185,7 +185,8 @@ fn absorb_ideals(
     partners: &[usize],
     places: &[usize],
 )
-    requires { ⌜ (length (now partners) ≡ length (now ideals2)) × (length (now places) ≡ length (now ideals2)) × (length (now given2) ≡ length (now ideals2)) ⌝ }
+    requires { ⌜ (length (now partners) ≡ length (now ideals2)) × (length (now places) ≡ length (now ideals2))
+        × (length (now given2) ≡ length (now ideals2)) ⌝ }
     requires { ⌜ AllBelow (length (now given)) (now places) × AllBelow (length (now ideals)) (now places) ⌝ }
     ensures { λ _. ⌜ now (given .exit) ≡ absorbInto Given (now (given .entry)) (now (partners .entry)) (now (places .entry)) (now (given2 .entry)) ⌝ }
     ensures { λ _. ⌜ now (ideals .exit) ≡ absorbIdeals (now (given .entry)) (now (ideals .entry)) (now (partners .entry)) (now (places .entry))

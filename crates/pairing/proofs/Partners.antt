@@ -67,7 +67,8 @@ pub not-either : (p : ℕ) (R : List ℕ) (a : ℕ) → (p ≡ a → ⊥) → us
 unfolding uses
 not-either p R a n u = rw (ne-eqb p a n, u)
 
-pub ready-set : (L : List PartColumn) (R : List ℕ) (C : List PartColumn) (i : ℕ) (d : PartColumn) → uses R (suc i) ≡ false → Ready L R C → Ready (set L i d) R C
+pub ready-set : (L : List PartColumn) (R : List ℕ) (C : List PartColumn) (i : ℕ) (d : PartColumn)
+    → uses R (suc i) ≡ false → Ready L R C → Ready (set L i d) R C
 ready-set L [] C i d u r = tt
 ready-set L (p ∷ R) [] i d u r = tt
 ready-set L (zero ∷ R) (c ∷ C) i d u r = ready-set L R C i d (not-first zero R (suc i) u .1) r

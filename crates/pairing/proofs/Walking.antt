@@ -97,7 +97,8 @@ module _ (X Y : Bounds) (ps R : List ℕ) (k : ℕ) (l : k < length ps / 2) wher
   on c e = pairs-on X Y ps R k l ∙ ap
       (λ (z : Check). onPair z R (pairUp X Y (drop ((k + 1) * 2) ps) (set R (getD ps (k * 2 + 1) 0 - 1) (getD ps (k * 2) 0)))) e
 
-  pub pairs-taken : isFree (length (X .lower)) (length (Y .lower)) R (getD ps (k * 2) 0) (getD ps (k * 2 + 1) 0) ≡ false → pairUp X Y (drop (k * 2) ps) R ≡ matched (Failed Pair) R
+  pub pairs-taken : isFree (length (X .lower)) (length (Y .lower)) R (getD ps (k * 2) 0) (getD ps (k * 2 + 1) 0) ≡ false
+      → pairUp X Y (drop (k * 2) ps) R ≡ matched (Failed Pair) R
   unfolding free a b
   pairs-taken e = on (Failed Pair) (check-pair free left e)
 
