@@ -1,14 +1,15 @@
 -- What the eight lists hold once they are filled.
 --   Long n m l, lists-long   the lengths of lists that fit n columns and m rows, in numbers
 --   room-behind     how much room a list of the joined columns has behind the first's numbers
+--   unshared-most   no more columns are unshared than there are
 --   listFor r l     the list of l that the rule r is for
 --   filling         the eight lists as the code fills them
 --   lists-filled    the lists, filled with the partners that the pairs leave, are those of the joined problem
 -- Assumes nothing.
 use mathlib.Core.Path.{_≡_, refl, _∙_, ap}
 use mathlib.Core.Bool.{true}
-use mathlib.Core.List.{List, _++_, map}
-use Prim.Native.Nat.{ℕ, _+_, _*_, _-_}
+use mathlib.Core.List.{List, [], _∷_, _++_, map}
+use Prim.Native.Nat.{ℕ, zero, suc, _+_, _*_, _-_, _≤_}
 use native.Mathlib.Omega.{arith}
 use borrow.Author.Tests.{eqb-true}
 use lib.Dec.{eqb}
@@ -64,6 +65,12 @@ lists-long n m l e =
 
 pub room-behind : (l u : List ℤ) (n k : ℕ) → length l ≡ n → length u ≡ n + k → length (drop (length l) u) ≡ k
 room-behind l u n k e f = length-drop (length l) u ∙ omega arith
+
+pub unshared-most : (R : List ℕ) → unshared R ≤ length R
+unfolding unshared
+unshared-most [] = omega arith
+unshared-most (zero ∷ R) = omega (arith, unshared-most R)
+unshared-most (suc i ∷ R) = omega (arith, unshared-most R)
 
 -- the list of a part that a rule is for
 abbrev pub listFor : Rule → Lists → List ℤ
