@@ -94,6 +94,23 @@ listed Low P f = f .low-long
 listed High P f = f .high-long
 listed Given P f = f .given-long
 
+-- the room of a list behind the first's numbers
+abbrev pub behind : Part → Lists → (Lists → List ℤ) → List ℤ
+behind P B h = drop (length (h (P .lists))) (h B)
+
+-- the eight lists as the code fills them, with m joined columns, the partners R and the places S
+abbrev pub filling : Part → Part → Lists → ℕ → List ℕ → List ℕ → Lists
+filling P Q B m R S =
+    lists (flat (map (padded (m - P .columns)) (matrix P) ++ map (spread m S) (matrix Q)))
+    (P .lists .rights ++ Q .lists .rights)
+    (absorbInto Lower (P .lists .lower ++ behind P B (λ l. l .lower)) R S (Q .lists .lower))
+    (absorbInto Upper (P .lists .upper ++ behind P B (λ l. l .upper)) R S (Q .lists .upper))
+    (absorbInto Low (P .lists .low ++ behind P B (λ l. l .low)) R S (Q .lists .low))
+    (absorbInto High (P .lists .high ++ behind P B (λ l. l .high)) R S (Q .lists .high))
+    (absorbInto Given (P .lists .given ++ behind P B (λ l. l .given)) R S (Q .lists .given))
+    (absorbIdeals (P .lists .given ++ behind P B (λ l. l .given)) (P .lists .ideals ++ behind P B (λ l. l .ideals)) R S (Q .lists .given)
+    (Q .lists .ideals))
+
 module _ (P Q : Part) (ps : List ℕ) (B : Lists) (k : Makes P Q ps B) where
   f : PartFits P
   f = part-fits P (k .first)
@@ -104,13 +121,9 @@ module _ (P Q : Part) (ps : List ℕ) (B : Lists) (k : Makes P Q ps B) where
   lent : Long (joinedCount P (partners P Q ps)) (P .rows + Q .rows) B
   lent = lists-long (joinedCount P (partners P Q ps)) (P .rows + Q .rows) B (k .lent)
 
-  -- the room of a list behind the first's numbers
-  abbrev behind : (Lists → List ℤ) → List ℤ
-  behind h = drop (length (h (P .lists))) (h B)
-
   -- each list of the columns
   filled : (q : Rule) → length (listFor q B) ≡ joinedCount P (partners P Q ps)
-      → absorbInto q (listFor q (P .lists) ++ behind (listFor q)) (partners P Q ps) (places P (partners P Q ps)) (listFor q (Q .lists))
+      → absorbInto q (listFor q (P .lists) ++ behind P B (listFor q)) (partners P Q ps) (places P (partners P Q ps)) (listFor q (Q .lists))
       ≡ map (field q) (joinedColumns P Q (partners P Q ps))
   filled q e =
       list-joined P Q (partners P Q ps) (k .ready) q _ _ _ (numbers q P (listed q P f)) (numbers q Q (listed q Q g))
@@ -119,7 +132,7 @@ module _ (P Q : Part) (ps : List ℕ) (B : Lists) (k : Makes P Q ps B) where
   abbrev ideals-of : (X : Part) → PartFits X → map (λ c. c .ideal) (columns X) ≡ X .lists .ideals
   ideals-of X h = numbers-of (λ c. c .ideal) (λ l. l .ideals) refl (λ l j. refl) X (h .ideals-long)
 
-  filled-ideals : absorbIdeals (P .lists .given ++ behind (λ l. l .given)) (P .lists .ideals ++ behind (λ l. l .ideals)) (partners P Q ps)
+  filled-ideals : absorbIdeals (P .lists .given ++ behind P B (λ l. l .given)) (P .lists .ideals ++ behind P B (λ l. l .ideals)) (partners P Q ps)
       (places P (partners P Q ps)) (Q .lists .given) (Q .lists .ideals)
       ≡ map (λ c. c .ideal) (joinedColumns P Q (partners P Q ps))
   filled-ideals =
@@ -136,19 +149,8 @@ module _ (P Q : Part) (ps : List ℕ) (B : Lists) (k : Makes P Q ps B) where
       let e : joinedCount P (partners P Q ps) - P .columns ≡ unshared (partners P Q ps) = omega arith in
       ap (λ (x : ℕ). flat (map (padded x) (matrix P) ++ map (spread (joinedCount P (partners P Q ps)) (places P (partners P Q ps))) (matrix Q))) e
 
-  -- the eight lists as the code fills them, with the partners R and the places S
-  abbrev pub filling : List ℕ → List ℕ → Lists
-  filling R S =
-      lists (flat (map (padded (joinedCount P R - P .columns)) (matrix P) ++ map (spread (joinedCount P R) S) (matrix Q)))
-      (P .lists .rights ++ Q .lists .rights)
-      (absorbInto Lower (P .lists .lower ++ behind (λ l. l .lower)) R S (Q .lists .lower))
-      (absorbInto Upper (P .lists .upper ++ behind (λ l. l .upper)) R S (Q .lists .upper))
-      (absorbInto Low (P .lists .low ++ behind (λ l. l .low)) R S (Q .lists .low))
-      (absorbInto High (P .lists .high ++ behind (λ l. l .high)) R S (Q .lists .high))
-      (absorbInto Given (P .lists .given ++ behind (λ l. l .given)) R S (Q .lists .given))
-      (absorbIdeals (P .lists .given ++ behind (λ l. l .given)) (P .lists .ideals ++ behind (λ l. l .ideals)) R S (Q .lists .given) (Q .lists .ideals))
-
-  pub lists-filled : filling (partners P Q ps) (places P (partners P Q ps)) ≡ joined P Q (partners P Q ps) .lists
+  pub lists-filled : filling P Q B (joinedCount P (partners P Q ps)) (partners P Q ps) (places P (partners P Q ps))
+      ≡ joined P Q (partners P Q ps) .lists
   unfolding joined
   lists-filled =
       λ i. lists (rows-filled i) (P .lists .rights ++ Q .lists .rights) (filled Lower (lent .lower) i) (filled Upper (lent .upper) i)

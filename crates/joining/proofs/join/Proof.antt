@@ -2,8 +2,8 @@
 -- Assumes nothing.
 use mathlib.Core.Path.{_≡_, refl, sym, _∙_, ap, ap₂, subst}
 use mathlib.Core.Bool.{true, false}
-use mathlib.Core.List.{List, [], _++_, map}
-use Prim.Native.Nat.{ℕ, _+_, _*_, _-_, _%_, _≤_}
+use mathlib.Core.List.{List, [], _++_}
+use Prim.Native.Nat.{ℕ, _+_, _*_, _%_, _≤_}
 use native.Mathlib.Omega.{arith}
 use borrow.Author.Needs.{needs}
 use borrow.Author.Tests.{eq-eqb, ne-eqb}
@@ -11,26 +11,24 @@ use lib.Dec.{eqb}
 use lib.IntN.{ℤ}
 use lib.ListN.{length, take, drop, replicate, length-append}
 use lib.Seq.{length-take-le, take-at}
-use Rattle.lattice.specs.Rows.{flat}
 use Rattle.whole.proofs.Lists.{take-replicate}
 use Rattle.whole.proofs.Tests.{passed, failed}
 use Rattle.problem.specs.Limits.{maxColumns, maxRows}
 use Rattle.problem.specs.Checks.{sizesFit}
 use Rattle.problem.specs.declared.Problem.{Problem}
 use Rattle.problem.specs.declared.Check.the-variants.{Passed, Failed}
-use Rattle.pairing.specs.Parts.{Lists, Part, lists, partOf, sized, matrix, listsFit, partCause}
+use Rattle.pairing.specs.Parts.{Lists, Part, lists, partOf, sized, listsFit, partCause}
 use Rattle.pairing.specs.Pairs.{bounds, matched, unpaired, pairUp}
 use Rattle.joined.specs.Columns.{placesFrom, places, unshared, joinedCount}
-use Rattle.joined.specs.Joined.{padded, spread}
-use Rattle.joined.specs.Filling.{absorbInto, absorbIdeals, AllBelow}
-use Rattle.joined.specs.declared.columns.Rule.the-variants.{Lower, Upper, Low, High, Given}
+use Rattle.joined.specs.Filling.{AllBelow}
 use Rattle.joined.proofs.Passing.{PartPasses, PartFits, part-passes, part-fits}
 use Rattle.joined.proofs.SpreadRows.{places-below}
 use Rattle.joining.specs.Join.{pairing, partners, joinedSizes, joinCause, Left, left, join}
 use Rattle.joining.specs.declared.Joining.the-variants.{Made}
-use Rattle.joining.proofs.Causes.{join-refused, join-made, first-fails, second-fails, odd-fails, pair-fails, size-fails, lent-fails, none-fails}
+use Rattle.joining.proofs.Causes.{join-refused, join-made, first-fails, second-fails, odd-fails, pair-fails}
+use Rattle.joining.proofs.Causes.{size-fails, lent-fails, none-fails}
 use Rattle.joining.proofs.Made.{Makes, cause-makes}
-use Rattle.joining.proofs.Filled.{Long, lists-long, unshared-most, lists-filled}
+use Rattle.joining.proofs.Filled.{Long, lists-long, unshared-most, filling, lists-filled}
 use Rattle.joining.proofs.join.Statement.{statement}
 use Rattle.joining.proofs.join.Tie as tie
 
@@ -104,8 +102,8 @@ module _ (c : tie.After-pair-up) where
   unfolding pairing
   paired =
       c .pair-up .ensures
-      ∙ ap (pairUp (bounds (from-pairs .args .lo1 .now) (from-pairs .args .hi1 .now)) (bounds (from-pairs .args .lo2 .now) (from-pairs .args .hi2 .now))
-      (ps from-pairs)) (take-replicate n 48 0 (few at-pairs))
+      ∙ ap (pairUp (bounds (from-pairs .args .lo1 .now) (from-pairs .args .hi1 .now))
+      (bounds (from-pairs .args .lo2 .now) (from-pairs .args .hi2 .now)) (ps from-pairs)) (take-replicate n 48 0 (few at-pairs))
 
   long : length R ≡ n
   long = c .pair-up .kept .1 .1 .1 .1 .1 .0 ∙ length-take-le _ _ (few at-pairs)
@@ -278,24 +276,15 @@ module _ (c : tie.After-fill-places) where
   ready : (l1 l2 o : List ℤ)
       → length l1 ≡ by .args .first .columns → length l2 ≡ by .args .second .columns → length o ≡ joinedCount (P by) J → (r q : List ℕ)
       → (length l1 ≤ length o)
-      × (((length (take (n pairs-at) (R pairs-at ++ drop (n pairs-at) r)) ≡ length l2) × (length (take (n pairs-at) (S ++ drop (n pairs-at) q)) ≡ length l2))
+      × (((length (take (n pairs-at) (R pairs-at ++ drop (n pairs-at) r)) ≡ length l2)
+      × (length (take (n pairs-at) (S ++ drop (n pairs-at) q)) ≡ length l2))
       × AllBelow (length o) (take (n pairs-at) (S ++ drop (n pairs-at) q)))
   ready l1 l2 o e h z r q = (omega (arith, e, z), ((long-partners r ∙ sym h, long-lent q ∙ sym h), below (length o) q z))
 
-  -- the lists as they are filled, with m joined columns, the partners r and the places q
+  -- what is left with m joined columns, the partners r and the places q
   abbrev filledWith : ℕ → List ℕ → List ℕ → Left
   filledWith m r q =
-      left (Made (record { columns = m; rows = by .args .first .rows + by .args .second .rows }))
-      (lists (flat (map (padded (m - by .args .first .columns)) (matrix (P by)) ++ map (spread m q) (matrix (Q by))))
-      (by .args .b1 .now ++ by .args .b2 .now)
-      (absorbInto Lower (by .args .lo1 .now ++ drop (length (by .args .lo1 .now)) (by .args .lo .now)) r q (by .args .lo2 .now))
-      (absorbInto Upper (by .args .hi1 .now ++ drop (length (by .args .hi1 .now)) (by .args .hi .now)) r q (by .args .hi2 .now))
-      (absorbInto Low (by .args .low1 .now ++ drop (length (by .args .low1 .now)) (by .args .low .now)) r q (by .args .low2 .now))
-      (absorbInto High (by .args .high1 .now ++ drop (length (by .args .high1 .now)) (by .args .high .now)) r q (by .args .high2 .now))
-      (absorbInto Given (by .args .given1 .now ++ drop (length (by .args .given1 .now)) (by .args .given .now)) r q (by .args .given2 .now))
-      (absorbIdeals (by .args .given1 .now ++ drop (length (by .args .given1 .now)) (by .args .given .now))
-      (by .args .ideals1 .now ++ drop (length (by .args .ideals1 .now)) (by .args .ideals .now)) r q (by .args .given2 .now)
-      (by .args .ideals2 .now)))
+      left (Made (record { columns = m; rows = by .args .first .rows + by .args .second .rows })) (filling (P by) (Q by) (B by) m r q)
 
   joins : (r q : List ℕ) → r ≡ J → q ≡ places (P by) J → filledWith N r q ≡ join (P by) (Q by) (ps by) (B by)
   joins r q e h =
@@ -303,6 +292,28 @@ module _ (c : tie.After-fill-places) where
       ∙ ap (left (Made (record { columns = joinedCount (P by) J; rows = by .args .first .rows + by .args .second .rows })))
       (lists-filled (P by) (Q by) (ps by) (B by) (k at-places))
       ∙ join-made (P by) (Q by) (ps by) (B by) (none at-places)
+
+-- the filling, call by call, back to where the places are known
+module _ (c : tie.After-join-rights) where
+  abbrev rows-of : tie.After-join-rows
+  rows-of = c .before .before .before
+
+  abbrev places-of : tie.After-fill-places
+  places-of = rows-of .before .before .before .before .before
+
+module _ (c : tie.After-join-list2) where
+  abbrev lower-of : tie.After-join-list
+  lower-of = c .before .before .before
+
+  abbrev rights-of : tie.After-join-rights
+  rights-of = lower-of .before .before .before
+
+module _ (c : tie.After-join-list4) where
+  abbrev low-of : tie.After-join-list3
+  low-of = c .before .before .before
+
+  abbrev upper-of : tie.After-join-list2
+  upper-of = low-of .before .before .before
 
 part-cause-requires : tie.Need-part-cause-requires
 part-cause-requires c κs = search needs
@@ -453,45 +464,53 @@ join-rows-requires c κs =
     )
 
 join-rights-requires : tie.Need-join-rights-requires
-join-rights-requires c κs = let p = c .before .before .before .before .before .before .before in l p .rights ∙ sym (ap₂ _+_ (x p .rights-long) (y p .rights-long))
+join-rights-requires c κs =
+    let p = c .before .before .before .before .before .before .before in
+    l p .rights ∙ sym (ap₂ _+_ (x p .rights-long) (y p .rights-long))
 
 join-list-requires : tie.Need-join-list-requires
 join-list-requires c κs =
-    let p = c .before .before .before .before .before .before .before .before .before .before in ready p (by p .args .lo1 .now) (by p .args .lo2 .now) (by p .args .lo .now) (x p .lower-long) (y p .lower-long) (l p .lower) _ _
+    let p = places-of (c .before .before) in
+    ready p (by p .args .lo1 .now) (by p .args .lo2 .now) (by p .args .lo .now) (x p .lower-long) (y p .lower-long) (l p .lower) _ _
 
 join-list-requires-2 : tie.Need-join-list-requires-2
 join-list-requires-2 c κs =
-    let p = c .before .before .before .before .before .before .before .before .before .before .before .before .before in ready p (by p .args .hi1 .now) (by p .args .hi2 .now) (by p .args .hi .now) (x p .upper-long) (y p .upper-long) (l p .upper) _ _
+    let p = places-of (c .before .before .before .before .before) in
+    ready p (by p .args .hi1 .now) (by p .args .hi2 .now) (by p .args .hi .now) (x p .upper-long) (y p .upper-long) (l p .upper) _ _
 
 join-list-requires-3 : tie.Need-join-list-requires-3
 join-list-requires-3 c κs =
-    let p = c .before .before .before .before .before .before .before .before .before .before .before .before .before .before .before .before in ready p (by p .args .low1 .now) (by p .args .low2 .now) (by p .args .low .now) (x p .low-long) (y p .low-long) (l p .low) _ _
+    let p = places-of (rights-of (c .before .before)) in
+    ready p (by p .args .low1 .now) (by p .args .low2 .now) (by p .args .low .now) (x p .low-long) (y p .low-long) (l p .low) _ _
 
 join-list-requires-4 : tie.Need-join-list-requires-4
 join-list-requires-4 c κs =
-    let p = c .before .before .before .before .before .before .before .before .before .before .before .before .before .before .before .before .before .before .before in ready p (by p .args .high1 .now) (by p .args .high2 .now) (by p .args .high .now) (x p .high-long) (y p .high-long) (l p .high) _ _
+    let p = places-of (rights-of (c .before .before .before .before .before)) in
+    ready p (by p .args .high1 .now) (by p .args .high2 .now) (by p .args .high .now) (x p .high-long) (y p .high-long) (l p .high) _ _
 
 join-ideals-requires : tie.Need-join-ideals-requires
 join-ideals-requires c κs =
-    let p = c .before .before .before .before .before .before .before .before .before .before .before .before .before .before .before .before .before .before .before .before .before .before .before in
-    let a = ready p (by p .args .given1 .now) (by p .args .given2 .now) (by p .args .given .now) (x p .given-long) (y p .given-long) (l p .given) [] _ in
-    let b = ready p (by p .args .ideals1 .now) (by p .args .ideals2 .now) (by p .args .ideals .now) (x p .ideals-long) (y p .ideals-long) (l p .ideals) _ _ in
+    let p = places-of (rights-of (upper-of (c .before .before .before))) in
+    let a =
+    ready p (by p .args .given1 .now) (by p .args .given2 .now) (by p .args .given .now) (x p .given-long) (y p .given-long) (l p .given) [] _ in
+    let b =
+    ready p (by p .args .ideals1 .now) (by p .args .ideals2 .now) (by p .args .ideals .now) (x p .ideals-long) (y p .ideals-long) (l p .ideals) _ _ in
     ((a .0, b .0), ((b .1 .0 .0, b .1 .0 .1, y p .given-long ∙ sym (y p .ideals-long)), (a .1 .1, b .1 .1)))
 
 same-length-9 : tie.Need-same-length-9
-same-length-9 c = c .before .before .before .before .before .before .before .before .before .before .before .before .before .before .before .before .before .before .before .before .before .join-rows .kept .0
+same-length-9 c = rows-of (rights-of (upper-of (c .before .before .before .before .before .before))) .join-rows .kept .0
 
 same-length-10 : tie.Need-same-length-10
-same-length-10 c = c .before .before .before .before .before .before .before .before .before .before .before .before .before .before .before .before .before .before .join-rights .kept .0
+same-length-10 c = rights-of (upper-of (c .before .before .before .before .before .before)) .join-rights .kept .0
 
 same-length-11 : tie.Need-same-length-11
-same-length-11 c = c .before .before .before .before .before .before .before .before .before .before .before .before .before .before .before .join-list .kept .1 .0
+same-length-11 c = lower-of (upper-of (c .before .before .before .before .before .before)) .join-list .kept .1 .0
 
 same-length-12 : tie.Need-same-length-12
-same-length-12 c = c .before .before .before .before .before .before .before .before .before .before .before .before .join-list2 .kept .1 .0
+same-length-12 c = upper-of (c .before .before .before .before .before .before) .join-list2 .kept .1 .0
 
 same-length-13 : tie.Need-same-length-13
-same-length-13 c = c .before .before .before .before .before .before .before .before .before .join-list3 .kept .1 .0
+same-length-13 c = low-of (c .before .before .before .before .before .before) .join-list3 .kept .1 .0
 
 same-length-14 : tie.Need-same-length-14
 same-length-14 c = c .before .before .before .before .before .before .join-list4 .kept .1 .0
@@ -504,12 +523,14 @@ same-length-16 c = c .before .before .join-ideals .kept .1 .0
 
 returns-7 : tie.Need-returns-7
 returns-7 c =
-    let p = c .before .before .before .before .before .before .before .before .before .before .before .before .before .before .before .before .before .before .before .before .before .before .before .before .before .before in
-    let s = by p in
-    (λ i. left (Made (record { columns = N p; rows = s .args .first .rows + s .args .second .rows }))
-    (lists (c .before .before .before .before .before .before .before .before .before .before .before .before .before .before .before .before .before .before .before .before .before .join-rows .ensures i) (c .before .before .before .before .before .before .before .before .before .before .before .before .before .before .before .before .before .before .join-rights .ensures i) (c .before .before .before .before .before .before .before .before .before .before .before .before .before .before .before .join-list .ensures i)
-    (c .before .before .before .before .before .before .before .before .before .before .before .before .join-list2 .ensures i) (c .before .before .before .before .before .before .before .before .before .join-list3 .ensures i) (c .before .before .before .before .before .before .join-list4 .ensures i)
-    (c .before .before .join-ideals .ensures .0 i) (c .before .before .join-ideals .ensures .1 i)))
+    let w = c .before .before in
+    let h = w .before .before .before .before in
+    let u = upper-of h in
+    let q = rights-of u in
+    let p = places-of q in
+    (λ i. left (Made (record { columns = N p; rows = by p .args .first .rows + by p .args .second .rows }))
+    (lists (rows-of q .join-rows .ensures i) (q .join-rights .ensures i) (lower-of u .join-list .ensures i) (u .join-list2 .ensures i)
+    (low-of h .join-list3 .ensures i) (h .join-list4 .ensures i) (w .join-ideals .ensures .0 i) (w .join-ideals .ensures .1 i)))
     ∙ joins p _ _ (lent-R p _) (lent-S p _)
 
 same-length : tie.Need-same-length

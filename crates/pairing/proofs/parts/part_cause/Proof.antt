@@ -12,7 +12,8 @@ use Rattle.pairing.proofs.parts.part_cause.Statement.{statement}
 use Rattle.pairing.proofs.parts.part_cause.Tie as tie
 
 -- the test of the sizes, as the code makes it
-same : (c : tie.After-sizes-fit) → let s = c .before .before .args .s in c .sizes-fit .result ≡ sizesFit maxColumns maxRows (sized (s .columns) (s .rows) 0)
+same : (c : tie.After-sizes-fit) → let s = c .before .before .args .s in
+    c .sizes-fit .result ≡ sizesFit maxColumns maxRows (sized (s .columns) (s .rows) 0)
 same c = c .sizes-fit .ensures ∙ ap (sizesFit maxColumns maxRows) (c .before .as-problem .ensures)
 
 holds : (c : tie.Else1) → let s = c .before .before .before .args .s in sizesFit maxColumns maxRows (sized (s .columns) (s .rows) 0) ≡ true
