@@ -14,8 +14,8 @@ import needs
 from needs import ROOT
 
 # The files of code whose public functions are the entry points.
-ENTRIES = ["engine/src/lib.rt", "engine/src/preview.rt", "deck/src/lib.rt", "solve/src/lib.rt", "koralimbu/src/lib.rt", "koralimbu/src/previewing.rt",
-           "koralimbu/src/reading.rt", "koralimbu/src/version.rt"]
+ENTRIES = ["engine/src/lib.rt", "engine/src/preview.rt", "joining/src/lib.rt", "deck/src/lib.rt", "solve/src/lib.rt", "koralimbu/src/lib.rt",
+           "koralimbu/src/joins.rt", "koralimbu/src/previewing.rt", "koralimbu/src/reading.rt", "koralimbu/src/version.rt"]
 
 # The files of statements that docs/PROMISES.md cites, and in files of more than statements these.
 STATEMENTS = {
@@ -25,6 +25,7 @@ STATEMENTS = {
     "engine/specs/Outcomes.antt": ["KeepsRows", "VerdictMeans", "NoneExactlyWhen"],
     "engine/specs/Stride.antt": ["AssignStrides", "ContinueStrides"],
     "engine/specs/Preview.antt": ["PreviewContinue", "PreviewRoom", "PreviewStep", "PreviewRest", "PreviewLimit"],
+    "joining/specs/Shares.antt": ["PartCauses", "JoinShares", "JoinFits"],
     "goals/specs/Ideals.antt": ["RootIs", "RootAlone"],
     "goals/specs/OneGoal.antt": ["IdealKept", "FitKept"],
     "whole/specs/Divisor.antt": ["DivisorGreatest"],

@@ -4,3 +4,4 @@ pub mod Sizes
 pub mod CallLaws
 pub mod ReadLaws
 pub mod PreviewLaws
+pub mod JoinLaws
