@@ -1,19 +1,20 @@
 """The formal definitions against the plain model, on random cases.
 
-    python3 model/against_definitions.py [PROBLEMS TEXTS SEED RUNS PREVIEWS IDEALS]
+    python3 model/against_definitions.py [PROBLEMS TEXTS SEED RUNS PREVIEWS IDEALS JOINS]
 
 The definitions of crates/*/specs compute. This writes a crate of one equation
 for each case below target/against, with the model's answer on its right side,
 and has the checker compute the left sides: whole assignments and Continue with
 every lent buffer afterwards, texts with the listing's bytes, the runs of both calls with
 what falls at a step (document 02, (xiii)), previews with what they tell and leave
-(document 02, (i)), many of which show a step, and the two lists of ideals that the reader
-hands in for what texts state (document 02, (ii)). Ideals play a part in a third of the
-calls and a sixth of the listed texts, high goals above the low ones (document 02, (v)) in
-another third of the calls. A sixth of the texts has rows by the paths of swept volumes
-(document 02, (iii)), about as many are refused by their volumes, at each of the places where
-they can be, and about as many show what there is of pairs of goals. Cases are kept small,
-since the checker computes slowly. The last line is 'N passed, M failed'.
+(document 02, (i)), many of which show a step, the two lists of ideals that the reader
+hands in for what texts state (document 02, (ii)), and joins of two parts with every lent list
+afterwards (document 02, (vi)). Ideals play a part in a third of the calls and a sixth of the
+listed texts, high goals above the low ones (document 02, (v)) in another third of the calls.
+A sixth of the texts has rows by the paths of swept volumes (document 02, (iii)), about as
+many are refused by their volumes, at each of the places where they can be, and about as many
+show what there is of pairs of goals. The joins show each of the kinds of joins.py. Cases are
+kept small, since the checker computes slowly. The last line is 'N passed, M failed'.
 """
 
 import os
@@ -27,6 +28,7 @@ import runs
 from engine import PROBLEM_LISTS, has_goal, preview, ratio_of
 from generate import (REFUSED_KINDS, Case, beside_deck, join, preview_case, problem_case,
                       rng_for, text_case, volume_kinds)
+from joins import KINDS, join_case, kinds_of
 from listing import blank_lent, listing, problem_of
 from needs import ROOT
 from pairs import TEXT_KINDS, share_curves, text_kinds
@@ -39,6 +41,10 @@ MOST_STATED = 150
 MOST_STEPS = 12
 MOST_BYTES = 240
 MOST_DIGITS = 5
+MOST_JOINED = 200
+# Joins about the largest size need more.
+MOST_LARGE = 700
+LARGE_KINDS = [kind for kind in KINDS if re.search("48|by joined|the size", kind)]
 
 REFUSALS = ["Size", "Length", "Coefficient", "Bound", "Goal", "Limit", "Elimination",
             "NoWholeNumbers", "Seating", "Standing", "Layout", "Term", "Volume", "Pair",
@@ -71,6 +77,15 @@ def posed(problem):
                *[integers(getattr(problem, name)) for name in PROBLEM_LISTS]))
 
 
+def eight_lists(problem):
+    return "(lists %s)" % " ".join(integers(getattr(problem, name)) for name in PROBLEM_LISTS)
+
+
+def part_record(problem):
+    return ("(record { columns = %d; rows = %d; lists = %s })"
+            % (problem.n, problem.m, eight_lists(problem)))
+
+
 def buffers(lent):
     return ("tableau = %s; values = %s; strides = %s"
             % (integers(lent.tableau), integers(lent.values), naturals(lent.strides)))
@@ -91,6 +106,12 @@ def seen(number, step):
     (s, a), (t, b) = step.move if len(step.move) == 2 else step.move + ((step.move[0][0], 0),)
     return ("Next %s %d (record { s = %d; a = %s; t = %d; b = %s })"
             % (step.part.capitalize(), step.column, s, integer(a), t, integer(b)))
+
+
+def join_answer(number, n, m):
+    if number:
+        return "(Unjoined %s)" % REFUSALS[number - 1]
+    return "(Made (record { columns = %d; rows = %d }))" % (n, m)
 
 
 # ------------------------------------------------------------------- the cases
@@ -219,6 +240,27 @@ def ideals_equation(rng):
             % (stated, n, integers(deck.given[:n]), stated, n, integers(deck.ideals[:n])))
 
 
+def numbers_of(case):
+    """How many numbers a join is handed."""
+    return len(case.pairs) + sum(len(getattr(lists, name)) for name in PROBLEM_LISTS
+                                 for lists in (case.first, case.second, case.lent))
+
+
+def join_equation(rng, shown=None):
+    """A join as an equation, or None where it is too large, or a kind of joins is to be shown
+    and is not."""
+    case = join_case(rng)
+    if numbers_of(case) > (MOST_LARGE if shown in LARGE_KINDS else MOST_JOINED):
+        return None
+    if shown is not None and shown not in kinds_of(case):
+        return None
+    before = eight_lists(case.lent)
+    answered = join_answer(*case.run())
+    return ("join %s %s %s %s ≡ left %s %s"
+            % (part_record(case.first), part_record(case.second), naturals(case.pairs), before,
+               answered, eight_lists(case.lent)))
+
+
 def some(make, count, seed, **wanted):
     """The first count cases that are small enough, and as they are wanted."""
     found = []
@@ -239,10 +281,10 @@ def problem_equations(count, seed):
             + some(problem_equation, third, seed + 2, by_high=True))
 
 
-def shown_equations(kinds, count, seed):
-    """Of texts that show these kinds, as many of each and together at most count."""
+def shown_equations(make, kinds, count, seed):
+    """Of cases that show these kinds, as many of each and together at most count."""
     return [equation for number, kind in enumerate(kinds)
-            for equation in some(text_equation, count // len(kinds), seed + number, shown=kind)]
+            for equation in some(make, count // len(kinds), seed + number, shown=kind)]
 
 
 def text_equations(count, seed):
@@ -251,13 +293,21 @@ def text_equations(count, seed):
     volumes, as often at each place, and a sixth shows each kind of pairs of goals as often;
     what does not go into these is any text."""
     sixth = count // 6
-    shown = shown_equations(REFUSED_KINDS, sixth, seed + 4)
+    shown = shown_equations(text_equation, REFUSED_KINDS, sixth, seed + 4)
     # plain curves and equal goals are in all the others
-    shown += shown_equations(TEXT_KINDS[2:], sixth, seed + 4 + len(REFUSED_KINDS))
+    shown += shown_equations(text_equation, TEXT_KINDS[2:], sixth,
+                             seed + 4 + len(REFUSED_KINDS))
     return (some(text_equation, count - 3 * sixth - len(shown), seed)
             + some(text_equation, sixth, seed + 1, is_read=True)
             + some(text_equation, sixth, seed + 2, is_read=True, by_ideals=True)
             + some(text_equation, sixth, seed + 3, shown="a path row") + shown)
+
+
+def join_equations(count, seed):
+    """Of joins: each kind as often, those that are made and those that are refused, and what
+    does not go into these is any join."""
+    shown = shown_equations(join_equation, KINDS, count, seed + 1)
+    return some(join_equation, count - len(shown), seed) + shown
 
 
 # ------------------------------------------------------------- the scratch crate
@@ -273,10 +323,10 @@ def crates():
 
 
 def needed(names):
-    """The crates that the definitions of a whole run lie in: solve, runs and what they
-    know."""
+    """The crates that the definitions of a whole run and of a join lie in: solve, runs,
+    joining and what they know."""
     lines = dict(names)
-    want, todo = [], ["solve", "runs"]
+    want, todo = [], ["solve", "runs", "joining"]
     while todo:
         name = todo.pop()
         if name in lines and name not in want:
@@ -314,6 +364,10 @@ use Rattle.settling.specs.declared.Part.the-variants.{Bounds, Goals}
 use Rattle.engine.specs.Assign.{Buffers, Done, columns, assign, continue}
 use Rattle.engine.specs.Preview.{Shown, preview}
 use Rattle.engine.specs.declared.preview.Seen.the-variants.{Refused as Unseen, Rest, Next}
+use Rattle.pairing.specs.declared.Sizes.{Sizes}
+use Rattle.pairing.specs.Parts.{Part, lists}
+use Rattle.joining.specs.Join.{left, join}
+use Rattle.joining.specs.declared.Joining.the-variants.{Refused as Unjoined, Made}
 use Rattle.runs.specs.Sorted.{sorted}
 use Rattle.runs.specs.Runs.{distances, ratios}
 use Rattle.runs.specs.CallRuns.{assignRun, continueRun}
@@ -358,13 +412,14 @@ def write_crate(equations):
 
 
 def main(arguments):
-    counts = needs.numbers(arguments, [60, 90, 1, 20, 30, 40], __doc__)
+    counts = needs.numbers(arguments, [60, 90, 1, 20, 30, 40, 70], __doc__)
     rt = needs.rt()
     equations = problem_equations(counts[0], counts[2])
     equations += text_equations(counts[1], counts[2])
     equations += some(run_equation, counts[3], counts[2])
     equations += some(preview_equation, counts[4], counts[2])
     equations += some(ideals_equation, counts[5], counts[2])
+    equations += join_equations(counts[6], counts[2])
     write_crate(equations)
     run = subprocess.run([rt, "check", "cases"], cwd=SCRATCH, capture_output=True, text=True)
     log = run.stdout + run.stderr
