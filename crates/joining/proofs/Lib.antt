@@ -3,4 +3,5 @@ pub mod Causes
 pub mod Made
 pub mod Filled
 pub mod Shares
+pub mod Meeting
 pub mod Cases

@@ -1,16 +1,25 @@
 -- What a join that is made promises.
---   PartCauses        the causes that turn a part back are those of a call's problem, where the call's own buffers and its limit are right
---   JoinShares        "A list satisfies the joined rows and bounds exactly when its two shares satisfy their own."
---   JoinFits          the joined problem is ready for a call: of the causes 1 to 6 none is left but 2 for the call's own buffers, and 6
--- The theorems are `part-causes`, `join-shares` and `join-fits`, in proofs/Shares.
+--   PartCauses          the causes that turn a part back are those of a call's problem, where the call's own buffers and its limit are right
+--   JoinShares          "A list satisfies the joined rows and bounds exactly when its two shares satisfy their own."
+--   JoinFits            the joined problem is ready for a call: of the causes 1 to 6 none is left but 2 for the call's own buffers, and 6
+--   firstOf, secondOf   the columns of pair k, each counted from 1 in its part; the pairs of ps are those with k * 2 + 1 < length ps
+--   Alone ps j          the column j of the second part, counted from 0, stands in no pair
+--   JoinWithin          the columns of a pair are columns of their parts
+--   JoinMeets           the two columns of a pair are one: both shares of a list have the same number there
+--   JoinAlone           a column of the second has the partner 0 exactly when it stands in no pair
+--   JoinBehind          "the first's columns, then the second's unshared ones in order": the number of a column that stands in no pair comes
+--                       behind those of the first's columns and of the unshared ones before it
+-- The theorems are `part-causes`, `join-shares` and `join-fits`, in proofs/Shares, and `join-within`, `join-meets`, `join-alone` and `join-behind`,
+-- in proofs/Meeting.
 -- Assumes nothing.
 use mathlib.Core.Path.{_≡_}
 use mathlib.Core.Bool.{true}
 use mathlib.Core.Logic.{_↔_}
 use mathlib.Core.List.{List}
-use Prim.Native.Nat.{ℕ}
+use Prim.Native.Nat.{ℕ, _+_, _*_, _-_, _<_, _≤_}
 use lib.IntN.{ℤ}
-use lib.ListN.{length}
+use lib.ListN.{length, getD, take}
+use Rattle.whole.specs.Lists.{entry}
 use Rattle.problem.specs.Checks.{lentFit, limitFits, orNext, firstCause}
 use Rattle.problem.specs.declared.Problem.{Problem}
 use Rattle.problem.specs.declared.Lent.{Lent}
@@ -18,7 +27,7 @@ use Rattle.problem.specs.declared.Refusal.the-variants.{Length, Limit}
 use Rattle.problem.specs.declared.Check.the-variants.{Passed}
 use Rattle.pairing.specs.declared.Sizes.{Sizes}
 use Rattle.pairing.specs.Parts.{Lists, Part, sized, posed, partCause, Fulfils}
-use Rattle.joined.specs.Columns.{places}
+use Rattle.joined.specs.Columns.{places, unshared}
 use Rattle.joined.specs.Joined.{firstShare, secondShare}
 use Rattle.joining.specs.Join.{partners, join, outcome}
 use Rattle.joining.specs.declared.Joining.the-variants.{Made}
@@ -36,3 +45,32 @@ abbrev pub JoinFits : Type 0
 JoinFits = (P Q : Part) (ps : List ℕ) (B : Lists) (s : Sizes) → join P Q ps B .answer ≡ Made s
     → (limit : ℕ) (L : Lent) → let p : Problem = sized (s .columns) (s .rows) limit in
     firstCause (posed (outcome P Q ps B s) limit) L ≡ orNext (lentFit p L) Length (orNext (limitFits p) Limit Passed)
+
+-- ---- the pairs
+abbrev pub firstOf : List ℕ → ℕ → ℕ
+firstOf ps k = getD ps (k * 2) 0
+
+abbrev pub secondOf : List ℕ → ℕ → ℕ
+secondOf ps k = getD ps (k * 2 + 1) 0
+
+abbrev pub Alone : List ℕ → ℕ → Type 0
+Alone ps j = (k : ℕ) → k * 2 + 1 < length ps → secondOf ps k ≡ j + 1 → ⊥
+
+abbrev pub JoinWithin : Type 0
+JoinWithin = (P Q : Part) (ps : List ℕ) (B : Lists) (s : Sizes) → join P Q ps B .answer ≡ Made s
+    → (k : ℕ) → k * 2 + 1 < length ps
+    → (1 ≤ firstOf ps k) × (firstOf ps k ≤ P .columns) × (1 ≤ secondOf ps k) × (secondOf ps k ≤ Q .columns)
+
+abbrev pub JoinMeets : Type 0
+JoinMeets = (P Q : Part) (ps : List ℕ) (B : Lists) (s : Sizes) → join P Q ps B .answer ≡ Made s
+    → (k : ℕ) → k * 2 + 1 < length ps → (x : List ℤ)
+    → entry (secondOf ps k - 1) (secondShare (places P (partners P Q ps)) x) ≡ entry (firstOf ps k - 1) (firstShare P x)
+
+abbrev pub JoinAlone : Type 0
+JoinAlone = (P Q : Part) (ps : List ℕ) (B : Lists) (s : Sizes) → join P Q ps B .answer ≡ Made s
+    → (j : ℕ) → j < Q .columns → (getD (partners P Q ps) j 0 ≡ 0) ↔ Alone ps j
+
+abbrev pub JoinBehind : Type 0
+JoinBehind = (P Q : Part) (ps : List ℕ) (B : Lists) (s : Sizes) → join P Q ps B .answer ≡ Made s
+    → (j : ℕ) → j < Q .columns → Alone ps j → (x : List ℤ)
+    → entry j (secondShare (places P (partners P Q ps)) x) ≡ entry (P .columns + unshared (take j (partners P Q ps))) x
