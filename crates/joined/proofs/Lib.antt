@@ -9,3 +9,4 @@ pub mod JoinedColumns
 pub mod SpreadRows
 pub mod Shares
 pub mod Fitting
+pub mod Cases

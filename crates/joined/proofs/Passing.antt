@@ -13,20 +13,20 @@ use Rattle.problem.specs.Checks.{lentFit}
 use Rattle.problem.specs.declared.Problem.{Problem}
 use Rattle.problem.specs.declared.Check.the-variants.{Passed}
 use Rattle.problem.proofs.CheckLaws.{Passes, Fits, passes, fits}
-use Rattle.pairing.specs.Parts.{Part, sized, posed, roomFor, partCause}
+use Rattle.pairing.specs.Parts.{Part, sized, asPosed, roomFor, partCause}
 
 abbrev pub PartPasses : Part → Type 0
-PartPasses P = Passes (posed P 0) (roomFor (sized (P .columns) (P .rows) 0))
+PartPasses P = Passes (asPosed P 0) (roomFor (sized (P .columns) (P .rows) 0))
 
 abbrev pub PartFits : Part → Type 0
-PartFits P = Fits (posed P 0) (roomFor (sized (P .columns) (P .rows) 0))
+PartFits P = Fits (asPosed P 0) (roomFor (sized (P .columns) (P .rows) 0))
 
 pub part-passes : (P : Part) → partCause P ≡ Passed → PartPasses P
 unfolding partCause
-part-passes P e = passes (posed P 0) (roomFor (sized (P .columns) (P .rows) 0)) e
+part-passes P e = passes (asPosed P 0) (roomFor (sized (P .columns) (P .rows) 0)) e
 
 pub part-fits : (P : Part) → PartPasses P → PartFits P
-part-fits P f = fits (posed P 0) (roomFor (sized (P .columns) (P .rows) 0)) f
+part-fits P f = fits (asPosed P 0) (roomFor (sized (P .columns) (P .rows) 0)) f
 
 pub room-right : (p : Problem) → lentFit p (roomFor p) ≡ true
 room-right p =

@@ -1,7 +1,5 @@
 -- Cases of a join that the checker computes. Columns of pairs are counted from 1.
---   first          v1 + v2 = 4: column 1 from 1 to 9 with goals 2,000 to 3,000, column 2 from 0 to 7 with the ideal 6 set
---   second         2v1 − v2 + 3v3 = 0: column 1 from 2 to 8 with goals 1,000 to 2,500, column 2 from 3 to 5 with the ideal 5 set, column 3 from −1
---                  to 1
+--   first, second, part, o and the lists of three joins are those of joined's cases
 --   lent a b n     lists of a coefficients, b right sides, and n numbers of the columns each; nothing, none of any
 --   columnLists .. lists for two rows and three columns, but of these numbers of the columns
 --   plain n        n columns, each from 0 to 0, without goals, and no row
@@ -25,22 +23,9 @@ use Rattle.pairing.specs.Parts.{Lists, Part, lists, columnsFrom, partCause}
 use Rattle.pairing.specs.Pairs.{uses, pairCheck, pairUp}
 use Rattle.joined.specs.Columns.{absorb, placesFrom, places, unshared}
 use Rattle.joined.specs.Joined.{spreadFrom, joined, firstShare, secondShare}
+use Rattle.joined.proofs.Cases.{o, part, first, second, wholeLists, crossedLists, behindLists}
 use Rattle.joining.specs.Join.{pairing, partners, joinCause, left, join}
 use Rattle.joining.specs.declared.Joining.the-variants.{Refused, Made}
-
-abbrev o : ℤ
-o = pos 0
-
-abbrev part : ℕ → ℕ → Lists → Part
-part n m l = record { columns = n; rows = m; lists = l }
-
-abbrev first : Part
-first = part 2 1 (lists (pos 1 ∷ pos 1 ∷ []) (pos 4 ∷ []) (pos 1 ∷ o ∷ []) (pos 9 ∷ pos 7 ∷ []) (pos 2000 ∷ o ∷ []) (pos 3000 ∷ o ∷ [])
-    (o ∷ pos 1 ∷ []) (o ∷ pos 6 ∷ []))
-
-abbrev second : Part
-second = part 3 1 (lists (pos 2 ∷ negsuc 0 ∷ pos 3 ∷ []) (o ∷ []) (pos 2 ∷ pos 3 ∷ negsuc 0 ∷ []) (pos 8 ∷ pos 5 ∷ pos 1 ∷ [])
-    (pos 1000 ∷ o ∷ o ∷ []) (pos 2500 ∷ o ∷ o ∷ []) (o ∷ pos 1 ∷ o ∷ []) (o ∷ pos 5 ∷ o ∷ []))
 
 abbrev lent : ℕ → ℕ → ℕ → Lists
 lent a b n = lists (zeros a) (zeros b) (zeros n) (zeros n) (zeros n) (zeros n) (zeros n) (zeros n)
@@ -67,21 +52,10 @@ abbrev cause : Part → Part → List ℕ → Check
 cause P Q ps = joinCause P Q ps nothing
 
 pub record JoiningCases : Type 0 where
-  -- column 1 of the first is column 1 of the second, 2 is 2, and the third comes behind: "the larger lower and the smaller upper bound, the lowest
-  -- low and the highest high goal"; the ideal is "the first's where both have one", and none where neither has
-  whole : join first second (1 ∷ 1 ∷ 2 ∷ 2 ∷ []) (lent 6 2 3) ≡ left (Made (record { columns = 3; rows = 2 }))
-      (lists (pos 1 ∷ pos 1 ∷ o ∷ pos 2 ∷ negsuc 0 ∷ pos 3 ∷ []) (pos 4 ∷ o ∷ []) (pos 2 ∷ pos 3 ∷ negsuc 0 ∷ []) (pos 8 ∷ pos 5 ∷ pos 1 ∷ [])
-      (pos 1000 ∷ o ∷ o ∷ []) (pos 3000 ∷ o ∷ o ∷ []) (o ∷ pos 1 ∷ o ∷ []) (o ∷ pos 6 ∷ o ∷ []))
-  -- crossed, the first's 1 is the second's 2 and its 2 is the second's 1: "where one has no goal, the other's are taken", of the first and of the
-  -- second, and so of the ideals
-  crossed : join first second (1 ∷ 2 ∷ 2 ∷ 1 ∷ []) (lent 6 2 3) ≡ left (Made (record { columns = 3; rows = 2 }))
-      (lists (pos 1 ∷ pos 1 ∷ o ∷ negsuc 0 ∷ pos 2 ∷ pos 3 ∷ []) (pos 4 ∷ o ∷ []) (pos 3 ∷ pos 2 ∷ negsuc 0 ∷ []) (pos 5 ∷ pos 7 ∷ pos 1 ∷ [])
-      (pos 2000 ∷ pos 1000 ∷ o ∷ []) (pos 3000 ∷ pos 2500 ∷ o ∷ []) (pos 1 ∷ pos 1 ∷ o ∷ []) (pos 5 ∷ pos 6 ∷ o ∷ []))
-  -- the second's columns 1 and 2 come to the places 3 and 4: "the first's columns, then the second's unshared ones in order"
-  behind : join first second (1 ∷ 3 ∷ []) (lent 8 2 4) ≡ left (Made (record { columns = 4; rows = 2 }))
-      (lists (pos 1 ∷ pos 1 ∷ o ∷ o ∷ pos 3 ∷ o ∷ pos 2 ∷ negsuc 0 ∷ []) (pos 4 ∷ o ∷ []) (pos 1 ∷ o ∷ pos 2 ∷ pos 3 ∷ [])
-      (pos 1 ∷ pos 7 ∷ pos 8 ∷ pos 5 ∷ []) (pos 2000 ∷ o ∷ pos 1000 ∷ o ∷ []) (pos 3000 ∷ o ∷ pos 2500 ∷ o ∷ []) (o ∷ pos 1 ∷ o ∷ pos 1 ∷ [])
-      (o ∷ pos 6 ∷ o ∷ pos 5 ∷ []))
+  -- three joins that are made: column 1 is column 1 and 2 is 2; crossed; and the second's columns 1 and 2 behind
+  whole : join first second (1 ∷ 1 ∷ 2 ∷ 2 ∷ []) (lent 6 2 3) ≡ left (Made (record { columns = 3; rows = 2 })) wholeLists
+  crossed : join first second (1 ∷ 2 ∷ 2 ∷ 1 ∷ []) (lent 6 2 3) ≡ left (Made (record { columns = 3; rows = 2 })) crossedLists
+  behind : join first second (1 ∷ 3 ∷ []) (lent 8 2 4) ≡ left (Made (record { columns = 4; rows = 2 })) behindLists
   -- no pair at all
   apart : join first second [] (lent 10 2 5) .answer ≡ Made (record { columns = 5; rows = 2 })
   -- the shares of a list, by the partners and the places: all shared and crossed, and two behind

@@ -9,7 +9,7 @@ use Rattle.problem.specs.Checks.{lentFit, limitFits, orNext, firstCause}
 use Rattle.problem.specs.declared.Lent.{Lent}
 use Rattle.problem.specs.declared.Refusal.the-variants.{Length, Limit}
 use Rattle.problem.specs.declared.Check.the-variants.{Passed}
-use Rattle.pairing.specs.Parts.{Part, sized, posed, partCause}
+use Rattle.pairing.specs.Parts.{Part, sized, asPosed, partCause}
 use Rattle.joined.specs.Joined.{joined}
 use Rattle.joined.proofs.Passing.{PartPasses, room-right}
 use Rattle.joined.proofs.Shares.{joined-shares}
@@ -24,7 +24,7 @@ part-causes P limit L e f = rw (e, f, room-right (sized (P .columns) (P .rows) 0
 
 -- a part that passes, as a call takes it
 passes-call : (P : Part) → PartPasses P → (limit : ℕ) (L : Lent)
-    → firstCause (posed P limit) L
+    → firstCause (asPosed P limit) L
     ≡ orNext (lentFit (sized (P .columns) (P .rows) limit) L) Length (orNext (limitFits (sized (P .columns) (P .rows) limit)) Limit Passed)
 unfolding firstCause
 passes-call P f limit L = rw (f .sizes, f .row-lengths, f .column-lengths, f .ideal-lengths, f .rows, f .bounds, f .goals)

@@ -26,15 +26,15 @@ use Rattle.problem.specs.declared.Lent.{Lent}
 use Rattle.problem.specs.declared.Refusal.the-variants.{Length, Limit}
 use Rattle.problem.specs.declared.Check.the-variants.{Passed}
 use Rattle.pairing.specs.declared.Sizes.{Sizes}
-use Rattle.pairing.specs.Parts.{Lists, Part, sized, posed, partCause, Fulfils}
+use Rattle.pairing.specs.Parts.{Lists, Part, sized, asPosed, partCause, Fulfils}
 use Rattle.joined.specs.Columns.{places, unshared}
 use Rattle.joined.specs.Joined.{firstShare, secondShare}
 use Rattle.joining.specs.Join.{partners, join, outcome}
 use Rattle.joining.specs.declared.Joining.the-variants.{Made}
 
 abbrev pub PartCauses : Type 0
-PartCauses = (P : Part) (limit : ℕ) (L : Lent) → lentFit (posed P limit .problem) L ≡ true → limitFits (posed P limit .problem) ≡ true
-    → firstCause (posed P limit) L ≡ partCause P
+PartCauses = (P : Part) (limit : ℕ) (L : Lent) → lentFit (asPosed P limit .problem) L ≡ true → limitFits (asPosed P limit .problem) ≡ true
+    → firstCause (asPosed P limit) L ≡ partCause P
 
 abbrev pub JoinShares : Type 0
 JoinShares = (P Q : Part) (ps : List ℕ) (B : Lists) (s : Sizes) → join P Q ps B .answer ≡ Made s
@@ -44,7 +44,7 @@ JoinShares = (P Q : Part) (ps : List ℕ) (B : Lists) (s : Sizes) → join P Q p
 abbrev pub JoinFits : Type 0
 JoinFits = (P Q : Part) (ps : List ℕ) (B : Lists) (s : Sizes) → join P Q ps B .answer ≡ Made s
     → (limit : ℕ) (L : Lent) → let p : Problem = sized (s .columns) (s .rows) limit in
-    firstCause (posed (outcome P Q ps B s) limit) L ≡ orNext (lentFit p L) Length (orNext (limitFits p) Limit Passed)
+    firstCause (asPosed (outcome P Q ps B s) limit) L ≡ orNext (lentFit p L) Length (orNext (limitFits p) Limit Passed)
 
 -- ---- the pairs
 abbrev pub firstOf : List ℕ → ℕ → ℕ

@@ -4,7 +4,7 @@
 --   Part              a problem without a step limit, its sizes and its lists: "Two blocks of a hull share curves."
 --   lists, partOf     the eight lists of a call's arguments, and a part of its sizes (Sizes is declared in src/) and its lists
 --   sized n m limit   the sizes as a problem's numbers, with a step limit
---   posed P limit     a part as a call takes it, with a step limit
+--   asPosed P limit   a part as a call takes it, with a step limit
 --   roomFor p         the lengths of the buffers that a call on the problem p fills
 --   matrix P          its rows
 --   PartColumn        what a part says of one column; noColumn stands past the last one
@@ -64,8 +64,8 @@ partOf s l = record { columns = s .columns; rows = s .rows; lists = l }
 abbrev pub sized : ℕ → ℕ → ℕ → Problem
 sized n m limit = record { columns = n; rows = m; limit = limit }
 
-abbrev pub posed : Part → ℕ → Posed
-posed P limit = record {
+abbrev pub asPosed : Part → ℕ → Posed
+asPosed P limit = record {
   problem = sized (P .columns) (P .rows) limit;
   coefficients = P .lists .coefficients;
   rights = P .lists .rights;
@@ -124,7 +124,7 @@ roomFor p = record { tableau = p .columns * (p .rows + p .columns); values = p .
 -- "1 to 5 of the first part, then the second's": those of any problem. Its own lists are looked at for 2; the step limit 0 and buffers of the right
 -- lengths are no cause.
 unfoldable pub partCause : Part → Check
-partCause P = firstCause (posed P 0) (roomFor (sized (P .columns) (P .rows) 0))
+partCause P = firstCause (asPosed P 0) (roomFor (sized (P .columns) (P .rows) 0))
 
 -- ---- what a list is to keep: "satisfies the joined rows and bounds"
 abbrev pub inBounds : Part → List ℤ → Bool
