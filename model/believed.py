@@ -25,7 +25,7 @@ STATEMENTS = {
     "engine/specs/Outcomes.antt": ["KeepsRows", "VerdictMeans", "NoneExactlyWhen"],
     "engine/specs/Stride.antt": ["AssignStrides", "ContinueStrides"],
     "engine/specs/Preview.antt": ["PreviewContinue", "PreviewRoom", "PreviewStep", "PreviewRest", "PreviewLimit"],
-    "joining/specs/Shares.antt": ["PartCauses", "JoinShares", "JoinFits"],
+    "joining/specs/Shares.antt": ["PartCauses", "JoinShares", "JoinFits", "JoinWithin", "JoinMeets", "JoinAlone", "JoinBehind"],
     "goals/specs/Ideals.antt": ["RootIs", "RootAlone"],
     "goals/specs/OneGoal.antt": ["IdealKept", "FitKept"],
     "whole/specs/Divisor.antt": ["DivisorGreatest"],
