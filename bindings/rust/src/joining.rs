@@ -169,7 +169,7 @@ impl Joined {
     ///
     /// # Panics
     ///
-    /// If the list is shorter than the joined columns are many.
+    /// If the place of a column lies beyond the list.
     pub fn second_share<T: Copy>(&self, list: &[T]) -> Vec<T> {
         self.places.iter().map(|place| list[*place]).collect()
     }

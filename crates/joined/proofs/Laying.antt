@@ -28,7 +28,7 @@ use mir.Facts.{toZ-ofZ}
 use Rattle.whole.specs.Lists.{entry}
 use Rattle.whole.specs.Tests.{isZero}
 use Rattle.whole.proofs.Signed.{back}
-use Rattle.joined.specs.Columns.{goalOf, placesFrom, unshared}
+use Rattle.joined.specs.Columns.{goalBy, placesFrom, unshared}
 use Rattle.joined.specs.Filling.{placeOf, nextOf, combined, taken, takenIdeal, absorbInto, absorbIdeals, AllBelow}
 use Rattle.joined.specs.declared.columns.Rule.{Rule}
 use Rattle.joined.specs.declared.columns.Rule.the-variants.{Given}
@@ -227,8 +227,8 @@ of-unset g x a m e z = rw (eq-eqb (natAbs g) 0 (sym e ∙ z))
 pub of-set : (g x a : ℤ) (m : ℕ) → m ≡ natAbs g → (m ≡ 0 → ⊥) → a ≡ cond (isZero g) x a
 of-set g x a m e n = rw (ne-eqb (natAbs g) 0 (λ h. n (e ∙ h)))
 
-pub goal-other : (f : ℤ → ℤ → ℤ) (a b : ℤ) (m k : ℕ) → m ≡ natAbs a → (m ≡ 0 → ⊥) → k ≡ natAbs b → k ≡ 0 → a ≡ goalOf f a b
-goal-other f a b m k e n g z = of-unset b a (f a b) k g z ∙ of-set a b (cond (isZero b) a (f a b)) m e n
+pub goal-other : (a b c : ℤ) (m k : ℕ) → m ≡ natAbs a → (m ≡ 0 → ⊥) → k ≡ natAbs b → k ≡ 0 → a ≡ goalBy a b c
+goal-other a b c m k e n g z = of-unset b a c k g z ∙ of-set a b (cond (isZero b) a c) m e n
 
-pub goal-both : (f : ℤ → ℤ → ℤ) (a b : ℤ) (m k : ℕ) → m ≡ natAbs a → (m ≡ 0 → ⊥) → k ≡ natAbs b → (k ≡ 0 → ⊥) → f a b ≡ goalOf f a b
-goal-both f a b m k e n g z = of-set b a (f a b) k g z ∙ of-set a b (cond (isZero b) a (f a b)) m e n
+pub goal-both : (a b c : ℤ) (m k : ℕ) → m ≡ natAbs a → (m ≡ 0 → ⊥) → k ≡ natAbs b → (k ≡ 0 → ⊥) → c ≡ goalBy a b c
+goal-both a b c m k e n g z = of-set b a c k g z ∙ of-set a b (cond (isZero b) a c) m e n

@@ -1,5 +1,5 @@
 -- Document 02, (vi): the columns of the joined problem, and where those of the second part come.
---   goalOf f a b          of two goals, where 0 is none
+--   goalBy a b both       of two goals, where 0 is none: the other one, or `both` where both are set; goalOf f a b, where that is made by f
 --   shared c d            the column that c of the first and d of the second become
 --   absorb L R C          the columns L joined with the second's columns C, whose partners are R (a number for each, as `pairUp` leaves them): a
 --                         shared one is put together with its partner, an unshared one comes behind
@@ -19,8 +19,11 @@ use Rattle.pairing.specs.Parts.{Part, PartColumn, columns, at}
 use Rattle.pairing.specs.Pairs.{larger, smaller}
 
 -- "where one has no goal, the other's are taken": a low and a high goal are both 0 or both set, so that each can be judged by itself
+abbrev pub goalBy : ℤ → ℤ → ℤ → ℤ
+goalBy a b both = cond (isZero a) b (cond (isZero b) a both)
+
 abbrev pub goalOf : (ℤ → ℤ → ℤ) → ℤ → ℤ → ℤ
-goalOf f a b = cond (isZero a) b (cond (isZero b) a (f a b))
+goalOf f a b = goalBy a b (f a b)
 
 -- "A shared column takes the larger lower and the smaller upper bound, the lowest low and the highest high goal; [..] A set ideal comes along with
 -- its column, the first's where both have one." Where the first's mark is 0, the second's mark and number are taken as they are.

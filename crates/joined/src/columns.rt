@@ -3,8 +3,7 @@ ghost use mathlib.Core.Path.{_≡_};
 ghost use mathlib.Core.List.{_++_};
 ghost use Prim.Native.Nat.{_≤_, _+_};
 ghost use lib.ListN.{length, drop};
-ghost use Rattle.pairing.specs.Pairs as Pairs;
-ghost use Rattle.joined.specs.Columns.{goalOf, placesFrom};
+ghost use Rattle.joined.specs.Columns.{goalBy, placesFrom};
 ghost use Rattle.joined.specs.Columns as Columns;
 ghost use Rattle.joined.specs.Filling.{placeOf, nextOf, takenIdeal, absorbInto, absorbIdeals, AllBelow};
 ghost use Rattle.joined.specs.Filling as Filling;
@@ -45,7 +44,7 @@ fn place_of(partner: usize, k: usize) -> usize
     if partner == 0 { k } else { partner - 1 }
 }
 
-// The place of the next unshared column after it.
+// The place of the next unshared column after it. The bound is far above what two parts have, so that no place overflows.
 fn next_of(partner: usize, k: usize) -> usize
     requires { ⌜ k ≤ 1000 ⌝ }
     ensures { λ r. ⌜ r ≡ nextOf partner k ⌝ }
@@ -69,9 +68,9 @@ pub fn fill_places(places: &mut [usize], partners: &[usize], first: usize)
     }
 }
 
-// A low goal of two, where 0 is none.
-fn goal_low(a: i64, b: i64) -> i64
-    ensures { λ r. ⌜ r ≡ goalOf Pairs.smaller a b ⌝ }
+// A goal of two, where 0 is none, and `both` is what is made of two that are set.
+fn goal_of(a: i64, b: i64, both: i64) -> i64
+    ensures { λ r. ⌜ r ≡ goalBy a b both ⌝ }
 {
     if magnitude(a) == 0 {
         return b;
@@ -79,20 +78,7 @@ fn goal_low(a: i64, b: i64) -> i64
     if magnitude(b) == 0 {
         return a;
     }
-    smaller(a, b)
-}
-
-// A high goal of two, where 0 is none.
-fn goal_high(a: i64, b: i64) -> i64
-    ensures { λ r. ⌜ r ≡ goalOf Pairs.larger a b ⌝ }
-{
-    if magnitude(a) == 0 {
-        return b;
-    }
-    if magnitude(b) == 0 {
-        return a;
-    }
-    larger(a, b)
+    both
 }
 
 // The first mark of two that is set.
@@ -112,8 +98,8 @@ fn combined(rule: Rule, a: i64, b: i64) -> i64
     match rule {
         Rule::Lower => larger(a, b),
         Rule::Upper => smaller(a, b),
-        Rule::Low => goal_low(a, b),
-        Rule::High => goal_high(a, b),
+        Rule::Low => goal_of(a, b, smaller(a, b)),
+        Rule::High => goal_of(a, b, larger(a, b)),
         Rule::Given => first_mark(a, b),
     }
 }

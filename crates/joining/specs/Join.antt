@@ -5,8 +5,9 @@
 --   roomCause p B         1 and 2 of the joined problem p and the lent lists B
 --   joinCause P Q ps B    the first cause that turns a join back, in the order of the request; B are the lent lists
 --   Left                  what a join answers (Joining is declared in src/), and what is left in the lent lists; `left` makes one
---   join P Q ps B         both: with a refusal "buffers as before"
---   outcome P Q ps B s    the problem that a join leaves that is made, of the sizes s
+--   leftBy c J B          what is left of the joined problem J and the lent lists B, by what the check c finds
+--   join P Q ps B         the whole: with a refusal "buffers as before"
+--   outcome P Q ps B s    where a join is made, of the sizes s, the problem that it leaves
 -- Assumes nothing.
 use mathlib.Core.List.{List}
 use Prim.Native.Nat.{ℕ, _+_, _%_}

@@ -4,7 +4,7 @@
 --   joinedOf a        the joinedLength numbers that tell of a: n and m of the joined problem; 0s with a refusal
 --   JoinCalled        what the call returns, and what the joined problem's lists and the sizes then hold; `joinReturned` makes one of the three
 --   joinTold d        of a join that has left d
---   joinUntold B z    where the sizes z have a wrong length: refusal 2, "nothing changed"
+--   joinUntold B z    where the sizes z have a wrong length: refusal 2, and nothing is changed
 --   joinCalled P Q ps B z   either, by the length of z; P and Q are the parts, ps the pairs, B the lent lists
 -- Assumes nothing.
 use mathlib.Core.Bool.{cond}

@@ -8,7 +8,7 @@ use pairing::Sizes;
 use problem::Refusal;
 
 // How many numbers tell the sizes of a joined problem: n and m.
-const SIZES: usize = 2;
+const JOINED: usize = 2;
 
 fn sizes_of(n: usize, m: usize) -> Sizes
     ensures { λ r. ⌜ r ≡ sizesOf n m ⌝ }
@@ -94,7 +94,7 @@ pub extern "C" fn koralimbu_join(
         (now (ideals .entry)))
         (now (sizes .entry)) ⌝ }
 {
-    if sizes.len() != SIZES {
+    if sizes.len() != JOINED {
         return Refusal::Length.number();
     }
     let first = sizes_of(n1, m1);

@@ -1,5 +1,5 @@
 -- Laws of the larger and the smaller of two numbers.
---   le-trans                   the order as a test
+--   le-trans, lt-le, no-lt     the order as a test
 --   larger-is, smaller-is      what holds of both numbers holds of the larger and of the smaller
 --   larger-le, smaller-ge      "the larger lower and the smaller upper bound": a number keeps both exactly when it keeps each
 --   le-larger, smaller-le      each number is at most the larger and at least the smaller

@@ -7,7 +7,7 @@
 --   ready-set, ready-append   it holds still with a column of L changed that is no partner, and with one more behind
 --   ready-pair        one more pair
 --   Partners P Q R    R has a number for each column of Q, and is ready
---   passed-next       a test that a check has passed, and the rest of the check
+--   passed-next       a test that a check has passed, and the rest of the check; on-pair, a pair that has passed, and the pairs behind it
 --   pairs-ready       so it is of the partners that the pairs leave
 -- Assumes nothing.
 use mathlib.Core.Path.{_≡_, refl, sym, _∙_, ap, subst}

@@ -1,7 +1,7 @@
 -- Document 02, (vi): "a list of pairs (column of the first, column of the second)", looked at in its order.
 --   larger, smaller       of two numbers
 --   leave lo hi lo′ hi′   of two pairs of bounds: "bounds of a pair that leave nothing" does not hold
---   Bounds, boundsOf      a part's lower and upper bounds; it has as many columns as lower bounds
+--   Bounds, bounds, boundsOf   a part's lower and upper bounds, made of two lists, and of a part; it has as many columns as lower bounds
 --   leaves X Y i j        so for column i of the first and j of the second, counted from 0
 --   partners              a number for each column of the second part: its partner in the first, counted from 1, or 0 for an unshared one
 --   unpaired n            before the first pair: none is shared

@@ -3,7 +3,7 @@ ghost use mathlib.Core.Path.{_≡_};
 ghost use Prim.Native.Nat.{_<_};
 ghost use lib.ListN.{length};
 ghost use Rattle.pairing.specs.Pairs as Pairs;
-ghost use Rattle.pairing.specs.Pairs.{bounds, isColumn, leave, matched, pairUp};
+ghost use Rattle.pairing.specs.Pairs.{bounds, isColumn, matched, pairUp};
 use problem::Check;
 use problem::Refusal;
 use whole::less;
@@ -23,8 +23,8 @@ pub fn smaller(a: i64, b: i64) -> i64
 }
 
 // Whether two columns' bounds leave a number that lies in both.
-fn leaves(lower: i64, upper: i64, lower2: i64, upper2: i64) -> bool
-    ensures { λ r. ⌜ r ≡ leave lower upper lower2 upper2 ⌝ }
+fn leave(lower: i64, upper: i64, lower2: i64, upper2: i64) -> bool
+    ensures { λ r. ⌜ r ≡ Pairs.leave lower upper lower2 upper2 ⌝ }
 {
     !less(smaller(upper, upper2), larger(lower, lower2))
 }
@@ -71,19 +71,12 @@ fn is_free(n: usize, k: usize, partners: &[usize], a: usize, b: usize) -> bool
 }
 
 // Whether the bounds of the columns i and j, counted from 0, leave something.
-fn bounds_leave(
-    lower: &[i64],
-    upper: &[i64],
-    lower2: &[i64],
-    upper2: &[i64],
-    i: usize,
-    j: usize,
-) -> bool
+fn leaves(lower: &[i64], upper: &[i64], lower2: &[i64], upper2: &[i64], i: usize, j: usize) -> bool
     requires { ⌜ (length (now upper) ≡ length (now lower)) × (length (now upper2) ≡ length (now lower2)) ⌝ }
     requires { ⌜ (i < length (now lower)) × (j < length (now lower2)) ⌝ }
     ensures { λ r. ⌜ r ≡ Pairs.leaves (bounds (now (lower .entry)) (now (upper .entry))) (bounds (now (lower2 .entry)) (now (upper2 .entry))) i j ⌝ }
 {
-    leaves(lower[i], upper[i], lower2[j], upper2[j])
+    leave(lower[i], upper[i], lower2[j], upper2[j])
 }
 
 // All pairs in order, 14 first within a pair: each leaves its partner at the second's column. The first that is refused leaves those before it.
@@ -108,7 +101,7 @@ pub fn pair_up(
         if !is_free(lower.len(), lower2.len(), partners, a, b) {
             return Check::Failed(Refusal::Pair);
         }
-        if !bounds_leave(lower, upper, lower2, upper2, a - 1, b - 1) {
+        if !leaves(lower, upper, lower2, upper2, a - 1, b - 1) {
             return Check::Failed(Refusal::PairBounds);
         }
         partners[b - 1] = a;

@@ -15,7 +15,7 @@ use problem::checks::ideal_lengths_fit;
 use problem::checks::row_lengths_fit;
 use problem::checks::sizes_fit;
 
-// The sizes as a problem's numbers. No check here looks at the limit.
+// The sizes as a problem's numbers. The limit 0 is no cause.
 pub fn as_problem(s: Sizes) -> Problem
     ensures { λ r. ⌜ r ≡ sized (s .columns) (s .rows) 0 ⌝ }
 {

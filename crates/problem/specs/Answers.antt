@@ -17,7 +17,7 @@ use Rattle.problem.specs.declared.Answer.the-variants.{Fitted, Outside, 
 abbrev pub refusalNumber : Refusal → ℕ
 -- "n or m outside"; document 02, (iii): "a count of paths that makes a 49th row"; (vi): "a joined size beyond 48"
 refusalNumber Size = 1
--- "a lent length not exactly what n and m need"
+-- "a lent length not exactly what n and m need"; document 02, (vi): "a pair list of odd length"
 refusalNumber Length = 2
 -- "coefficient, right side or least half outside"
 refusalNumber Coefficient = 3

@@ -1,7 +1,7 @@
 -- `joining::join` meets its contract: each test that fails names its cause, and past them each list is filled as the definition has it.
 -- Assumes nothing.
-use mathlib.Core.Path.{_≡_, refl, sym, _∙_, ap, ap₂, subst}
-use mathlib.Core.Bool.{true, false}
+use mathlib.Core.Path.{_≡_, sym, _∙_, ap, ap₂, subst}
+use mathlib.Core.Bool.{true}
 use mathlib.Core.List.{List, [], _++_}
 use Prim.Native.Nat.{ℕ, _+_, _*_, _%_, _≤_}
 use native.Mathlib.Omega.{arith}
@@ -16,12 +16,12 @@ use Rattle.whole.proofs.Tests.{passed, failed}
 use Rattle.problem.specs.Limits.{maxColumns, maxRows}
 use Rattle.problem.specs.Checks.{sizesFit}
 use Rattle.problem.specs.declared.Problem.{Problem}
-use Rattle.problem.specs.declared.Check.the-variants.{Passed, Failed}
+use Rattle.problem.specs.declared.Check.the-variants.{Passed}
 use Rattle.pairing.specs.Parts.{Lists, Part, lists, partOf, sized, listsFit, partCause}
-use Rattle.pairing.specs.Pairs.{bounds, matched, unpaired, pairUp}
+use Rattle.pairing.specs.Pairs.{bounds, matched, pairUp}
 use Rattle.joined.specs.Columns.{placesFrom, places, unshared, joinedCount}
 use Rattle.joined.specs.Filling.{AllBelow}
-use Rattle.joined.proofs.Passing.{PartPasses, PartFits, part-passes, part-fits}
+use Rattle.joined.proofs.Passing.{PartFits, part-passes, part-fits}
 use Rattle.joined.proofs.SpreadRows.{places-below}
 use Rattle.joining.specs.Join.{pairing, partners, joinedSizes, joinCause, Left, left, join}
 use Rattle.joining.specs.declared.Joining.the-variants.{Made}
@@ -460,7 +460,11 @@ join-rows-requires : tie.Need-join-rows-requires
 join-rows-requires c κs =
     let p = c .before .before .before .before in (
       (x p .coefficients-long, y p .coefficients-long, long-lent p _),
-      (l p .coefficients ∙ ap (λ (m : ℕ). (by p .args .first .rows + by p .args .second .rows) * m) (sym (is-N p)), omega arith, below p (N p) _ (is-N p)),
+      (
+        l p .coefficients ∙ ap (λ (m : ℕ). (by p .args .first .rows + by p .args .second .rows) * m) (sym (is-N p)),
+        omega arith,
+        below p (N p) _ (is-N p),
+      ),
     )
 
 join-rights-requires : tie.Need-join-rights-requires

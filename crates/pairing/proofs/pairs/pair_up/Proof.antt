@@ -72,14 +72,14 @@ inside c =
     free-columns (length (s .args .lower .now)) (length (s .args .lower2 .now)) (c .before .before .before .before .before .before .loop .partners)
     (getD (s .args .pairs .now) (k * 2) 0) (getD (s .args .pairs .now) (k * 2 + 1) 0) (passed (c .before .is-free .ensures) (c .if1 .left))
 
-sub-bounds-leave : tie.Need-sub-bounds-leave Inv-loop μ-loop
-sub-bounds-leave c = inside c .0
+sub-leaves : tie.Need-sub-leaves Inv-loop μ-loop
+sub-leaves c = inside c .0
 
-sub-bounds-leave-2 : tie.Need-sub-bounds-leave-2 Inv-loop μ-loop
-sub-bounds-leave-2 c = inside c .2
+sub-leaves-2 : tie.Need-sub-leaves-2 Inv-loop μ-loop
+sub-leaves-2 c = inside c .2
 
-bounds-leave-requires : tie.Need-bounds-leave-requires Inv-loop μ-loop
-bounds-leave-requires c κs = (
+leaves-requires : tie.Need-leaves-requires Inv-loop μ-loop
+leaves-requires c κs = (
   c .before .before .before .before .before .before .before .before .before .pre .0,
   (omega (arith, inside c .0, inside c .1), omega (arith, inside c .2, inside c .3)),
 )
@@ -95,7 +95,7 @@ returns-2 c =
     (s .args .pairs .now) (w .loop .partners) (w .loop .k)
     (c .before .before .before .before .before .before .before .loop-test .taken)
     (passed (c .before .before .before .is-free .ensures) (c .before .before .if1 .left))
-    (failed (c .before .bounds-leave .ensures) (c .if2 .taken))) ∙ w .loop .inv .3
+    (failed (c .before .leaves .ensures) (c .if2 .taken))) ∙ w .loop .inv .3
 
 sub-partners : tie.Need-sub-partners Inv-loop μ-loop
 sub-partners c = inside (c .before .before) .2
@@ -128,7 +128,7 @@ loop-again c =
           (s .args .pairs .now) (w .loop .partners) (w .loop .k)
           (c .before .before .before .before .before .before .before .loop-test .taken)
           (passed (c .before .before .before .is-free .ensures) (c .before .before .if1 .left))
-          (passed (c .before .bounds-leave .ensures) (c .if2 .left))) ∙ w .loop .inv .3,
+          (passed (c .before .leaves .ensures) (c .if2 .left))) ∙ w .loop .inv .3,
     )
 
 same-length-3 : tie.Need-same-length-3 Inv-loop μ-loop
@@ -158,9 +158,9 @@ pair-up-spec =
     is-free-requires
     same-length
     returns
-    sub-bounds-leave
-    sub-bounds-leave-2
-    bounds-leave-requires
+    sub-leaves
+    sub-leaves-2
+    leaves-requires
     same-length-2
     returns-2
     sub-partners
