@@ -4,4 +4,5 @@ pub mod Made
 pub mod Filled
 pub mod Shares
 pub mod Meeting
+pub mod Counts
 pub mod Cases

@@ -1,4 +1,4 @@
--- What a join that is made promises.
+-- What a join promises.
 --   PartCauses          the causes that turn a part back are those of a call's problem, where the call's own buffers and its limit are right
 --   JoinShares          "A list satisfies the joined rows and bounds exactly when its two shares satisfy their own."
 --   JoinFits            the joined problem is ready for a call: of the causes 1 to 6 none is left but 2 for the call's own buffers, and 6
@@ -9,8 +9,9 @@
 --   JoinAlone           a column of the second has the partner 0 exactly when it stands in no pair
 --   JoinBehind          "the first's columns, then the second's unshared ones in order": the number of a column that stands in no pair comes
 --                       behind those of the first's columns and of the unshared ones before it
--- The theorems are `part-causes`, `join-shares` and `join-fits`, in proofs/Shares, and `join-within`, `join-meets`, `join-alone` and `join-behind`,
--- in proofs/Meeting.
+--   JoinCounts          how large the joined problem is: n is the first's n and the second's, less the pairs; m is the first's m and the second's
+-- The theorems are `part-causes`, `join-shares` and `join-fits`, in proofs/Shares, `join-within`, `join-meets`, `join-alone` and `join-behind`, in
+-- proofs/Meeting, and `join-counts`, in proofs/Counts.
 -- Assumes nothing.
 use mathlib.Core.Path.{_≡_}
 use mathlib.Core.Bool.{true}
@@ -74,3 +75,8 @@ abbrev pub JoinBehind : Type 0
 JoinBehind = (P Q : Part) (ps : List ℕ) (B : Lists) (s : Sizes) → join P Q ps B .answer ≡ Made s
     → (j : ℕ) → j < Q .columns → Alone ps j → (x : List ℤ)
     → entry j (secondShare (places P (partners P Q ps)) x) ≡ entry (P .columns + unshared (take j (partners P Q ps))) x
+
+-- a pair is two numbers of ps
+abbrev pub JoinCounts : Type 0
+JoinCounts = (P Q : Part) (ps : List ℕ) (B : Lists) (s : Sizes) → join P Q ps B .answer ≡ Made s
+    → (s .columns * 2 + length ps ≡ (P .columns + Q .columns) * 2) × (s .rows ≡ P .rows + Q .rows)
