@@ -58,6 +58,6 @@ join-counts P Q ps B s e =
     let k : Makes P Q ps B = d .makes in
     let n : s .columns ≡ P .columns + unshared (partners P Q ps) = ap (λ (J : Part). J .columns) (d .left) in
     let u : unshared (partners P Q ps) * 2 + length ps ≡ unshared (unpaired (Q .columns)) * 2 =
-        unshared-pairs (boundsOf P) (boundsOf Q) ps (unpaired (Q .columns)) (partners P Q ps)
-        (length-replicate (Q .columns) 0 ∙ sym (part-fits Q (k .second) .lower-long)) (eqb-true (length ps % 2) 0 (k .even)) (passes P Q ps B s e) in
+    unshared-pairs (boundsOf P) (boundsOf Q) ps (unpaired (Q .columns)) (partners P Q ps)
+    (length-replicate (Q .columns) 0 ∙ sym (part-fits Q (k .second) .lower-long)) (eqb-true (length ps % 2) 0 (k .even)) (passes P Q ps B s e) in
     (omega (arith, n, u, unshared-none (Q .columns)), ap (λ (J : Part). J .rows) (d .left))
