@@ -5,4 +5,5 @@ pub mod Filled
 pub mod Shares
 pub mod Meeting
 pub mod Counts
+pub mod SharedColumns
 pub mod Cases

@@ -7,6 +7,7 @@
 --   alone-stays                 a column that stands in no pair is left as it was
 --   place-paired, place-alone   the place of a column with a partner, and of one without
 --   entry-second                a number of the second share
+--   passes, stands              of a join that is made: its pairs pass, and each stands in the partners
 --   join-within, join-meets     the columns of a pair are columns of their parts; they are one
 --   join-alone, join-behind     a column has the partner 0 exactly when it stands in no pair; it comes behind
 -- Assumes nothing.
@@ -46,12 +47,12 @@ free-unset n m R a b e =
     let y = both-true (not (uses R a)) (isColumn m b && eqb (getD R (b - 1) 0) 0) (x .1) in
     eqb-true (getD R (b - 1) 0) 0 (both-true (isColumn m b) (eqb (getD R (b - 1) 0) 0) (y .1) .1)
 
-record Stands (n m : ℕ) (S : List ℕ) (a b : ℕ) : Type 0 where
-  first-low : 1 ≤ a
-  first-high : a ≤ n
-  second-low : 1 ≤ b
-  second-high : b ≤ m
-  partner : getD S (b - 1) 0 ≡ a
+pub record Stands (n m : ℕ) (S : List ℕ) (a b : ℕ) : Type 0 where
+  pub first-low : 1 ≤ a
+  pub first-high : a ≤ n
+  pub second-low : 1 ≤ b
+  pub second-high : b ≤ m
+  pub partner : getD S (b - 1) 0 ≡ a
 
 -- ---- all pairs
 module _ (X Y : Bounds) where
@@ -141,7 +142,7 @@ module _ (P Q : Part) (ps : List ℕ) (B : Lists) (s : Sizes) (e : join P Q ps B
   unfolding pairing
   passes = λ i. matched (makes .found i) (partners P Q ps)
 
-  stands : (k : ℕ) → k * 2 + 1 < length ps → Stands (P .columns) (Q .columns) R (firstOf ps k) (secondOf ps k)
+  pub stands : (k : ℕ) → k * 2 + 1 < length ps → Stands (P .columns) (Q .columns) R (firstOf ps k) (secondOf ps k)
   stands k h =
       rw (part-fits P (makes .first) .lower-long, part-fits Q (makes .second) .lower-long) at
       (pair-stands (boundsOf P) (boundsOf Q) ps (unpaired (Q .columns)) R k
