@@ -1,5 +1,6 @@
 -- Document 02, (vi): "A list satisfies the joined rows and bounds exactly when its two shares satisfy their own."
 --   joined-wide, joined-rows, joined-long   the joined rows' lengths, how many there are, and how many columns
+--   column-joined                           what the joined lists say of a column
 --   joined-shares                           the sentence, of parts that pass and partners that are ready
 -- Assumes nothing.
 use mathlib.Core.Path.{_≡_, sym, _∙_, ap, ap₂, subst}
@@ -67,7 +68,7 @@ module _ (P Q : Part) (R : List ℕ) (p : PartPasses P) (q : PartPasses Q) (r : 
   pub joined-long : length (joinedColumns P Q R) ≡ joinedCount P R
   joined-long = length-absorb (columns P) R (columns Q) long-pairs ∙ ap (λ (n : ℕ). n + unshared R) (length-columns P)
 
-  column-joined : (j : ℕ) → columnIn (joined P Q R .lists) j ≡ at (joinedColumns P Q R) j
+  pub column-joined : (j : ℕ) → columnIn (joined P Q R .lists) j ≡ at (joinedColumns P Q R) j
   unfolding joined
   column-joined j =
       let C : List PartColumn = joinedColumns P Q R in

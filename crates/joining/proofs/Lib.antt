@@ -4,4 +4,6 @@ pub mod Made
 pub mod Filled
 pub mod Shares
 pub mod Meeting
+pub mod Counts
+pub mod SharedColumns
 pub mod Cases

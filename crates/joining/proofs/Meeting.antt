@@ -5,8 +5,9 @@
 --   stays                       a partner stays, whatever pairs come behind
 --   pair-stands                 each pair stands in the partners that are left
 --   alone-stays                 a column that stands in no pair is left as it was
---   place-shared, place-alone   the place of a column with a partner, and of one without
+--   place-paired, place-alone   the place of a column with a partner, and of one without
 --   entry-second                a number of the second share
+--   passes, stands              of a join that is made: its pairs pass, and each stands in the partners
 --   join-within, join-meets     the columns of a pair are columns of their parts; they are one
 --   join-alone, join-behind     a column has the partner 0 exactly when it stands in no pair; it comes behind
 -- Assumes nothing.
@@ -40,22 +41,22 @@ use Rattle.joining.specs.declared.Joining.the-variants.{Made}
 use Rattle.joining.proofs.Made.{Makes, join-makes}
 
 -- ---- one pair
-free-unset : (n m : ℕ) (R : List ℕ) (a b : ℕ) → isFree n m R a b ≡ true → getD R (b - 1) 0 ≡ 0
+pub free-unset : (n m : ℕ) (R : List ℕ) (a b : ℕ) → isFree n m R a b ≡ true → getD R (b - 1) 0 ≡ 0
 free-unset n m R a b e =
     let x = both-true (isColumn n a) (not (uses R a) && (isColumn m b && eqb (getD R (b - 1) 0) 0)) e in
     let y = both-true (not (uses R a)) (isColumn m b && eqb (getD R (b - 1) 0) 0) (x .1) in
     eqb-true (getD R (b - 1) 0) 0 (both-true (isColumn m b) (eqb (getD R (b - 1) 0) 0) (y .1) .1)
 
-record Stands (n m : ℕ) (S : List ℕ) (a b : ℕ) : Type 0 where
-  first-low : 1 ≤ a
-  first-high : a ≤ n
-  second-low : 1 ≤ b
-  second-high : b ≤ m
-  partner : getD S (b - 1) 0 ≡ a
+pub record Stands (n m : ℕ) (S : List ℕ) (a b : ℕ) : Type 0 where
+  pub first-low : 1 ≤ a
+  pub first-high : a ≤ n
+  pub second-low : 1 ≤ b
+  pub second-high : b ≤ m
+  pub partner : getD S (b - 1) 0 ≡ a
 
 -- ---- all pairs
 module _ (X Y : Bounds) where
-  passed-pair : (R : List ℕ) (a b : ℕ) (ps S : List ℕ) → pairUp X Y (a ∷ b ∷ ps) R ≡ matched Passed S
+  pub passed-pair : (R : List ℕ) (a b : ℕ) (ps S : List ℕ) → pairUp X Y (a ∷ b ∷ ps) R ≡ matched Passed S
       → (isFree (length (X .lower)) (length (Y .lower)) R a b ≡ true) × (pairUp X Y ps (set R (b - 1) a) ≡ matched Passed S)
   unfolding pairUp pairCheck
   passed-pair R a b ps S e =
@@ -108,13 +109,13 @@ module _ (X Y : Bounds) where
       next k = let q : suc k * 2 + 1 ≡ suc (suc (k * 2 + 1)) = omega arith in rw q
 
 -- ---- the places
-place-shared : (k : ℕ) (R : List ℕ) (j i : ℕ) → getD R j 0 ≡ suc i → getD (placesFrom k R) j 0 ≡ i
+place-paired : (k : ℕ) (R : List ℕ) (j i : ℕ) → getD R j 0 ≡ suc i → getD (placesFrom k R) j 0 ≡ i
 unfolding placesFrom
-place-shared k [] j i e = absurd (omega (arith, e))
-place-shared k (zero ∷ R) zero i e = absurd (omega (arith, e))
-place-shared k (zero ∷ R) (suc j) i e = place-shared (suc k) R j i e
-place-shared k (suc p ∷ R) zero i e = omega (arith, e)
-place-shared k (suc p ∷ R) (suc j) i e = place-shared k R j i e
+place-paired k [] j i e = absurd (omega (arith, e))
+place-paired k (zero ∷ R) zero i e = absurd (omega (arith, e))
+place-paired k (zero ∷ R) (suc j) i e = place-paired (suc k) R j i e
+place-paired k (suc p ∷ R) zero i e = omega (arith, e)
+place-paired k (suc p ∷ R) (suc j) i e = place-paired k R j i e
 
 place-alone : (k : ℕ) (R : List ℕ) (j : ℕ) → j < length R → getD R j 0 ≡ 0 → getD (placesFrom k R) j 0 ≡ k + unshared (take j R)
 unfolding placesFrom unshared
@@ -134,14 +135,14 @@ module _ (P Q : Part) (ps : List ℕ) (B : Lists) (s : Sizes) (e : join P Q ps B
   makes : Makes P Q ps B
   makes = join-makes P Q ps B s e .makes
 
-  R : List ℕ
+  abbrev R : List ℕ
   R = partners P Q ps
 
-  passes : pairUp (boundsOf P) (boundsOf Q) ps (unpaired (Q .columns)) ≡ matched Passed R
-  unfolding R pairing
+  pub passes : pairUp (boundsOf P) (boundsOf Q) ps (unpaired (Q .columns)) ≡ matched Passed (partners P Q ps)
+  unfolding pairing
   passes = λ i. matched (makes .found i) (partners P Q ps)
 
-  stands : (k : ℕ) → k * 2 + 1 < length ps → Stands (P .columns) (Q .columns) R (firstOf ps k) (secondOf ps k)
+  pub stands : (k : ℕ) → k * 2 + 1 < length ps → Stands (P .columns) (Q .columns) R (firstOf ps k) (secondOf ps k)
   stands k h =
       rw (part-fits P (makes .first) .lower-long, part-fits Q (makes .second) .lower-long) at
       (pair-stands (boundsOf P) (boundsOf Q) ps (unpaired (Q .columns)) R k
@@ -151,7 +152,6 @@ module _ (P Q : Part) (ps : List ℕ) (B : Lists) (s : Sizes) (e : join P Q ps B
   alone j h a = alone-stays (boundsOf P) (boundsOf Q) ps (unpaired (Q .columns)) R j passes a ∙ getD-replicate (Q .columns) j 0 0 h
 
   second : (j i : ℕ) (x : List ℤ) → j < Q .columns → getD (places P R) j 0 ≡ i → entry j (secondShare (places P R) x) ≡ entry i x
-  unfolding R
   second j i x h p =
       entry-second (places P R) x j (omega (arith, h, length-places (P .columns) R, makes .ready .long)) ∙ ap (λ (z : ℕ). entry z x) p
 
@@ -161,18 +161,16 @@ join-within P Q ps B s e k h =
     (t .first-low, t .first-high, t .second-low, t .second-high)
 
 pub join-meets : JoinMeets
-unfolding R
 join-meets P Q ps B s e k h x =
     let t = stands P Q ps B s e k h in
     let a : ℕ = firstOf ps k in
     let b : ℕ = secondOf ps k in
     let p : suc (a - 1) ≡ a = omega (arith, t .first-low) in
     second P Q ps B s e (b - 1) (a - 1) x (omega (arith, t .second-low, t .second-high))
-    (place-shared (P .columns) (partners P Q ps) (b - 1) (a - 1) (t .partner ∙ sym p))
+    (place-paired (P .columns) (partners P Q ps) (b - 1) (a - 1) (t .partner ∙ sym p))
     ∙ sym (getD-take (P .columns) x (a - 1) (pos 0) (omega (arith, t .first-low, t .first-high)))
 
 pub join-alone : JoinAlone
-unfolding R
 join-alone P Q ps B s e j h = (
   (λ z k l q.
       let t = stands P Q ps B s e k l in
@@ -183,7 +181,6 @@ join-alone P Q ps B s e j h = (
 )
 
 pub join-behind : JoinBehind
-unfolding R
 join-behind P Q ps B s e j h a x =
     second P Q ps B s e j (P .columns + unshared (take j (partners P Q ps))) x h
     (place-alone (P .columns) (partners P Q ps) j (omega (arith, h, join-makes P Q ps B s e .makes .ready .long)) (alone P Q ps B s e j h a))

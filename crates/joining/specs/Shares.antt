@@ -1,4 +1,4 @@
--- What a join that is made promises.
+-- What a join promises.
 --   PartCauses          the causes that turn a part back are those of a call's problem, where the call's own buffers and its limit are right
 --   JoinShares          "A list satisfies the joined rows and bounds exactly when its two shares satisfy their own."
 --   JoinFits            the joined problem is ready for a call: of the causes 1 to 6 none is left but 2 for the call's own buffers, and 6
@@ -9,8 +9,13 @@
 --   JoinAlone           a column of the second has the partner 0 exactly when it stands in no pair
 --   JoinBehind          "the first's columns, then the second's unshared ones in order": the number of a column that stands in no pair comes
 --                       behind those of the first's columns and of the unshared ones before it
--- The theorems are `part-causes`, `join-shares` and `join-fits`, in proofs/Shares, and `join-within`, `join-meets`, `join-alone` and `join-behind`,
--- in proofs/Meeting.
+--   JoinCounts          how large the joined problem is: n is the first's n and the second's, less the pairs; m is the first's m and the second's
+--   FirstAlone ps i     the column i of the first part, counted from 0, stands in no pair
+--   ColumnsOf P Q ps l  the lists l say of each column what the parts say of it: of a pair's, what `shared` makes of both; of one that stands in no
+--                       pair, what its part says, at its place
+--   JoinColumns         so it is of the joined problem's lists
+-- The theorems are `part-causes`, `join-shares` and `join-fits`, in proofs/Shares, `join-within`, `join-meets`, `join-alone` and `join-behind`, in
+-- proofs/Meeting, `join-counts`, in proofs/Counts, and `join-columns`, in proofs/SharedColumns.
 -- Assumes nothing.
 use mathlib.Core.Path.{_≡_}
 use mathlib.Core.Bool.{true}
@@ -26,8 +31,8 @@ use Rattle.problem.specs.declared.Lent.{Lent}
 use Rattle.problem.specs.declared.Refusal.the-variants.{Length, Limit}
 use Rattle.problem.specs.declared.Check.the-variants.{Passed}
 use Rattle.pairing.specs.declared.Sizes.{Sizes}
-use Rattle.pairing.specs.Parts.{Lists, Part, sized, asPosed, partCause, Fulfils}
-use Rattle.joined.specs.Columns.{places, unshared}
+use Rattle.pairing.specs.Parts.{Lists, Part, columnIn, sized, asPosed, partCause, Fulfils}
+use Rattle.joined.specs.Columns.{shared, places, unshared}
 use Rattle.joined.specs.Joined.{firstShare, secondShare}
 use Rattle.joining.specs.Join.{partners, join, outcome}
 use Rattle.joining.specs.declared.Joining.the-variants.{Made}
@@ -74,3 +79,22 @@ abbrev pub JoinBehind : Type 0
 JoinBehind = (P Q : Part) (ps : List ℕ) (B : Lists) (s : Sizes) → join P Q ps B .answer ≡ Made s
     → (j : ℕ) → j < Q .columns → Alone ps j → (x : List ℤ)
     → entry j (secondShare (places P (partners P Q ps)) x) ≡ entry (P .columns + unshared (take j (partners P Q ps))) x
+
+-- a pair is two numbers of ps
+abbrev pub JoinCounts : Type 0
+JoinCounts = (P Q : Part) (ps : List ℕ) (B : Lists) (s : Sizes) → join P Q ps B .answer ≡ Made s
+    → (s .columns * 2 + length ps ≡ (P .columns + Q .columns) * 2) × (s .rows ≡ P .rows + Q .rows)
+
+-- ---- the columns
+abbrev pub FirstAlone : List ℕ → ℕ → Type 0
+FirstAlone ps i = (k : ℕ) → k * 2 + 1 < length ps → firstOf ps k ≡ i + 1 → ⊥
+
+pub record ColumnsOf (P Q : Part) (ps : List ℕ) (l : Lists) : Type 0 where
+  pub pair : (k : ℕ) → k * 2 + 1 < length ps
+      → columnIn l (firstOf ps k - 1) ≡ shared (columnIn (P .lists) (firstOf ps k - 1)) (columnIn (Q .lists) (secondOf ps k - 1))
+  pub first : (i : ℕ) → i < P .columns → FirstAlone ps i → columnIn l i ≡ columnIn (P .lists) i
+  pub second : (j : ℕ) → j < Q .columns → Alone ps j
+      → columnIn l (P .columns + unshared (take j (partners P Q ps))) ≡ columnIn (Q .lists) j
+
+abbrev pub JoinColumns : Type 0
+JoinColumns = (P Q : Part) (ps : List ℕ) (B : Lists) (s : Sizes) → join P Q ps B .answer ≡ Made s → ColumnsOf P Q ps (outcome P Q ps B s .lists)
