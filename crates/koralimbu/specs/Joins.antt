@@ -1,5 +1,5 @@
 -- A join as C calls it: what it returns and what it leaves in each lent buffer.
---   sizesOf n m       a part's sizes as one value
+--   partSizes n m     a part's sizes as one value
 --   joiningNumber a   0 for a join that is made, or the refusal's number
 --   joinedOf a        the joinedLength numbers that tell of a: n and m of the joined problem; 0s with a refusal
 --   JoinCalled        what the call returns, and what the joined problem's lists and the sizes then hold; `joinReturned` makes one of the three
@@ -20,8 +20,8 @@ use Rattle.joining.specs.Join.{Left, join}
 use Rattle.joining.specs.declared.Joining.{Joining}
 use Rattle.joining.specs.declared.Joining.the-variants.{Refused, Made}
 
-abbrev pub sizesOf : ℕ → ℕ → Sizes
-sizesOf n m = record { columns = n; rows = m }
+abbrev pub partSizes : ℕ → ℕ → Sizes
+partSizes n m = record { columns = n; rows = m }
 
 abbrev pub joiningNumber : Joining → ℕ
 joiningNumber (Refused why) = refusalNumber why

@@ -2,7 +2,7 @@
 ghost use mathlib.Core.Path.{_≡_};
 ghost use lib.ListN.{length};
 ghost use Rattle.pairing.specs.Parts.{lists, partOf};
-ghost use Rattle.koralimbu.specs.Joins.{joiningNumber, joinedOf, joinedLength, sizesOf, joinReturned, joinCalled};
+ghost use Rattle.koralimbu.specs.Joins.{joiningNumber, joinedOf, joinedLength, partSizes, joinReturned, joinCalled};
 use joining::Joining;
 use pairing::Sizes;
 use problem::Refusal;
@@ -10,8 +10,8 @@ use problem::Refusal;
 // How many numbers tell the sizes of a joined problem: n and m.
 const JOINED: usize = 2;
 
-fn sizes_of(n: usize, m: usize) -> Sizes
-    ensures { λ r. ⌜ r ≡ sizesOf n m ⌝ }
+fn part_sizes(n: usize, m: usize) -> Sizes
+    ensures { λ r. ⌜ r ≡ partSizes n m ⌝ }
 {
     Sizes {
         columns: n,
@@ -85,9 +85,9 @@ pub extern "C" fn koralimbu_join(
         (now (ideals .exit)))
         (now (sizes .exit))
         ≡ joinCalled
-        (partOf (sizesOf n1 m1) (lists (now (a1 .entry)) (now (b1 .entry)) (now (lo1 .entry)) (now (hi1 .entry))
+        (partOf (partSizes n1 m1) (lists (now (a1 .entry)) (now (b1 .entry)) (now (lo1 .entry)) (now (hi1 .entry))
         (now (low1 .entry)) (now (high1 .entry)) (now (given1 .entry)) (now (ideals1 .entry))))
-        (partOf (sizesOf n2 m2) (lists (now (a2 .entry)) (now (b2 .entry)) (now (lo2 .entry)) (now (hi2 .entry))
+        (partOf (partSizes n2 m2) (lists (now (a2 .entry)) (now (b2 .entry)) (now (lo2 .entry)) (now (hi2 .entry))
         (now (low2 .entry)) (now (high2 .entry)) (now (given2 .entry)) (now (ideals2 .entry))))
         (now (pairs .entry))
         (lists (now (a .entry)) (now (b .entry)) (now (lo .entry)) (now (hi .entry)) (now (low .entry)) (now (high .entry)) (now (given .entry))
@@ -97,8 +97,8 @@ pub extern "C" fn koralimbu_join(
     if sizes.len() != JOINED {
         return Refusal::Length.number();
     }
-    let first = sizes_of(n1, m1);
-    let second = sizes_of(n2, m2);
+    let first = part_sizes(n1, m1);
+    let second = part_sizes(n2, m2);
     let joining = joining::join(
         first,
         a1,

@@ -120,7 +120,7 @@ pub enum Answer {
     Refused(Refusal),
 }
 
-// What the checks of causes 1 to 6 find.
+// What checks find: those of causes 1 to 6, and those of a join's pairs.
 pub enum Check {
     Passed,
     Failed(Refusal),

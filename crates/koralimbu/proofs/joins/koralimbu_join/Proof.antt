@@ -6,7 +6,7 @@ use borrow.Author.Needs.{needs}
 use Rattle.pairing.specs.Parts.{Lists, Part, lists, partOf}
 use Rattle.pairing.specs.declared.Sizes.{Sizes}
 use Rattle.joining.specs.Join.{join}
-use Rattle.koralimbu.specs.Joins.{sizesOf}
+use Rattle.koralimbu.specs.Joins.{partSizes}
 use Rattle.koralimbu.proofs.JoinLaws.{is-join-told, is-join-untold}
 use Rattle.koralimbu.proofs.joins.koralimbu_join.Statement.{statement}
 use Rattle.koralimbu.proofs.joins.koralimbu_join.Tie as tie
@@ -17,14 +17,14 @@ module _ (s : tie.Start) where
       (s .args .low1 .now) (s .args .high1 .now) (s .args .given1 .now) (s .args .ideals1 .now))
 
   abbrev P : Part
-  P = firstOf (sizesOf (s .args .n1) (s .args .m1))
+  P = firstOf (partSizes (s .args .n1) (s .args .m1))
 
   abbrev secondOf : Sizes → Part
   secondOf z = partOf z (lists (s .args .a2 .now) (s .args .b2 .now) (s .args .lo2 .now) (s .args .hi2 .now)
       (s .args .low2 .now) (s .args .high2 .now) (s .args .given2 .now) (s .args .ideals2 .now))
 
   abbrev Q : Part
-  Q = secondOf (sizesOf (s .args .n2) (s .args .m2))
+  Q = secondOf (partSizes (s .args .n2) (s .args .m2))
 
   abbrev ps : List ℕ
   ps = s .args .pairs .now
@@ -49,11 +49,11 @@ returns c =
     let s = c .before .before .before .before in
     is-join-untold (P s) (Q s) (ps s) (B s) (s .args .sizes .now) _ (c .before .if1 .taken) (c .number .ensures)
 
-sizes-of-requires : tie.Need-sizes-of-requires
-sizes-of-requires c κs = search needs
+part-sizes-requires : tie.Need-part-sizes-requires
+part-sizes-requires c κs = search needs
 
-sizes-of-requires-2 : tie.Need-sizes-of-requires-2
-sizes-of-requires-2 c κs = search needs
+part-sizes-requires-2 : tie.Need-part-sizes-requires-2
+part-sizes-requires-2 c κs = search needs
 
 join-requires : tie.Need-join-requires
 join-requires c κs = search needs
@@ -114,7 +114,7 @@ returns-2 c =
     let s = from j in
     let second = j .before .before .before .before .before .before .before .before .before in
     is-join-told (P s) (Q s) (ps s) (B s) (s .args .sizes .now) (j .join .result) _ _ _ (at j .if1 .left)
-    (j .join .ensures ∙ (λ i. join (firstOf s (second .before .sizes-of .ensures i)) (secondOf s (second .sizes-of2 .ensures i)) (ps s) (B s)))
+    (j .join .ensures ∙ (λ i. join (firstOf s (second .before .part-sizes .ensures i)) (secondOf s (second .part-sizes2 .ensures i)) (ps s) (B s)))
     (t .tell-joined .ensures) (c .joining-number .ensures)
 
 pub koralimbu-join-spec : {M : Type 1} → statement M
@@ -123,8 +123,8 @@ koralimbu-join-spec =
     (tie.spec
     number-requires
     returns
-    sizes-of-requires
-    sizes-of-requires-2
+    part-sizes-requires
+    part-sizes-requires-2
     join-requires
     tell-joined-requires
     joining-number-requires
