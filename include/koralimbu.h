@@ -430,9 +430,9 @@ uint32_t koralimbu_read(const uint8_t *text, size_t text_count,
  *                            lower bound is above the smaller upper bound
  *
  * The first cause that holds is returned, in this order: 1 to 5 of the first part, with 2 for the counts of its lists; 1 to 5 of the second; 2
- * for an odd count of pairs; then pair by pair 14, then 15, of which pair is not told; 1 for n or m; 2 for the counts of the joined lists. A sizes whose count is not
- * JOINED_COUNT is refused with REFUSED_LENGTH before anything else is looked at, and every buffer is left as it was, sizes too. There is no
- * step limit, and nothing is solved: parts that no whole numbers satisfy are joined too.
+ * for an odd count of pairs; then pair by pair 14, then 15; 1 for n or m; 2 for the counts of the joined lists. Which pair it was is not told.
+ * A sizes whose count is not JOINED_COUNT is refused with REFUSED_LENGTH before anything else is looked at, and every buffer is left as it was,
+ * sizes too. There is no step limit, and nothing is solved: parts that no whole numbers satisfy are joined too.
  *
  * Decks. Parts may be decks as koralimbu_read left them, of each list the first numbers as its n and m need. The columns behind the curves, which
  * rows added, are columns like any other: they may be paired, and need not be. The reader's ideals come along. They are made in each deck by

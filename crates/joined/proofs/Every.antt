@@ -1,5 +1,5 @@
 -- Laws of what holds of every member of a list.
---   all-place, all-places   at a place; and from the places
+--   all-places              from the places; at a place it is lattice's `all-at`
 --   all-set, all-zeros      of a list with a member set; of zeros
 --   all-chop, all-flat      of a list cut into rows; of rows put end to end
 -- Assumes nothing.
@@ -12,11 +12,6 @@ use Rattle.whole.specs.Lists.{zeros}
 use Rattle.lattice.specs.Rows.{flat, chop}
 use Rattle.lattice.specs.Span.{All}
 use Rattle.lattice.proofs.Span.{all-append}
-
-pub all-place : {A : Type 0} (Q : A → Type 0) (l : List A) (j : ℕ) (d : A) → All Q l → j < length l → Q (getD l j d)
-all-place Q [] j d e h = absurd (omega arith)
-all-place Q (x ∷ l) zero d e h = e .0
-all-place Q (x ∷ l) (suc j) d e h = all-place Q l j d (e .1) (omega arith)
 
 pub all-places : {A : Type 0} (Q : A → Type 0) (l : List A) (d : A) → ((j : ℕ) → j < length l → Q (getD l j d)) → All Q l
 all-places Q [] d f = tt

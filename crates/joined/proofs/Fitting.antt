@@ -23,7 +23,7 @@ use Rattle.whole.proofs.Tests.{both-true, all-true}
 use Rattle.whole.proofs.Counted.{every-at, every-all}
 use Rattle.lattice.specs.Rows.{flat}
 use Rattle.lattice.specs.Span.{All}
-use Rattle.lattice.proofs.Span.{all-append, all-end}
+use Rattle.lattice.proofs.Span.{all-append, all-end, all-at}
 use Rattle.lattice.proofs.FlatLaws.{length-flat}
 use Rattle.problem.specs.Limits.{maxColumns, maxRows, maxCoefficient, maxRight, maxBound}
 use Rattle.problem.specs.Checks.{sizesFit, allSpan, boundFits, boundsFit, goalInside, bothOrNone, goalFits, goalsFit}
@@ -34,7 +34,7 @@ use Rattle.pairing.proofs.Partners.{length-columns, at-columns, Leaves, Ready, 
 use Rattle.joined.specs.Columns.{goalOf, shared, absorb, places, unshared, joinedCount, joinedColumns}
 use Rattle.joined.specs.Joined.{padded, spreadFrom, spread, joinedMatrix, joined}
 use Rattle.joined.proofs.Passing.{PartPasses, part-fits, room-right}
-use Rattle.joined.proofs.Every.{all-place, all-places, all-set, all-zeros, all-chop, all-flat}
+use Rattle.joined.proofs.Every.{all-places, all-set, all-zeros, all-chop, all-flat}
 use Rattle.joined.proofs.Shares.{joined-wide, joined-rows, joined-long}
 
 -- ---- rows
@@ -45,7 +45,7 @@ span-all : (k : ℕ) (l : List ℤ) → allSpan k l ≡ true → All (Spans k) l
 span-all k l e = all-places (Spans k) l (pos 0) (λ j h. every-at (length l) (λ i. spans k (entry i l)) j e h)
 
 all-span : (k : ℕ) (l : List ℤ) → All (Spans k) l → allSpan k l ≡ true
-all-span k l e = every-all (length l) (λ i. spans k (entry i l)) (λ j h. all-place (Spans k) l j (pos 0) e h)
+all-span k l e = every-all (length l) (λ i. spans k (entry i l)) (λ j h. all-at (Spans k) l j (pos 0) h e)
 
 -- a row spread over zeros has no other numbers
 spread-all : (Q : ℤ → Type 0) (r : List ℤ) (S : List ℕ) (a : List ℤ) → All Q r → All Q a → All Q (spreadFrom r S a)
@@ -163,7 +163,7 @@ absorb-all Q f L (zero ∷ R) (c ∷ C) r e g =
     absorb-all Q f (L ++ (c ∷ [])) R C (ready-append L R C (c ∷ []) r) (all-end Q L c e (g .0)) (g .1)
 absorb-all Q f L (suc i ∷ R) (c ∷ C) r e g =
     absorb-all Q f (set L i (shared (at L i) c)) R C (ready-set L R C i (shared (at L i) c) (r .2) (r .3))
-    (all-set Q L i (shared (at L i) c) e (f (at L i) c (r .1) (all-place Q L i noColumn e (r .0)) (g .0))) (g .1)
+    (all-set Q L i (shared (at L i) c) e (f (at L i) c (r .1) (all-at Q L i noColumn (r .0) e) (g .0))) (g .1)
 
 part-all : (P : Part) (Q : PartColumn → Type 0) → ((j : ℕ) → j < P .columns → Q (columnIn (P .lists) j)) → All Q (columns P)
 part-all P Q f =
@@ -190,7 +190,7 @@ module _ (C : List PartColumn) where
       every-all (length (map (λ c. c .lower) C)) (λ j. boundFits (entry j (map (λ c. c .lower) C)) (entry j (map (λ c. c .upper) C)))
       (λ j h.
       rw (List·getD-map (λ (c : PartColumn). c .lower) C j noColumn, List·getD-map (λ (c : PartColumn). c .upper) C j noColumn)
-      (all-place BoundsFit C j noColumn e (omega (arith, h, long))))
+      (all-at BoundsFit C j noColumn (omega (arith, h, long)) e))
 
   goals-listed : All GoalsFit C → goalsFit (map (λ c. c .lower) C) (map (λ c. c .low) C) (map (λ c. c .high) C) ≡ true
   goals-listed e =
@@ -202,7 +202,7 @@ module _ (C : List PartColumn) where
         List·getD-map (λ (c : PartColumn). c .low) C j noColumn,
         List·getD-map (λ (c : PartColumn). c .high) C j noColumn,
       )
-      (all-place GoalsFit C j noColumn e (omega (arith, h, long))))
+      (all-at GoalsFit C j noColumn (omega (arith, h, long)) e))
 
 -- ---- the joined problem
 module _ (P Q : Part) (R : List ℕ) (p : PartPasses P) (q : PartPasses Q) (r : Partners P Q R) where

@@ -39,7 +39,7 @@ all-append Q (r ∷ T) U = (
 pub all-end : {A : Type 0} (Q : A → Type 0) (T : List A) (r : A) → All Q T → Q r → All Q (T ++ (r ∷ []))
 all-end Q T r a q = all-append Q T (r ∷ []) .1 (a, (q, tt))
 
-pub all-at : (Q : List ℤ → Type 0) (T : List (List ℤ)) (j : ℕ) (d : List ℤ) → j < length T → All Q T → Q (getD T j d)
+pub all-at : {A : Type 0} (Q : A → Type 0) (T : List A) (j : ℕ) (d : A) → j < length T → All Q T → Q (getD T j d)
 all-at Q [] j d h a = absurd (omega arith)
 all-at Q (r ∷ T) zero d h a = a .0
 all-at Q (r ∷ T) (suc j) d h a = all-at Q T j d (omega arith) (a .1)
