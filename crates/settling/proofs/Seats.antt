@@ -1,7 +1,6 @@
 -- How large the numbers of seating are, and how seating goes from vector to vector.
 --   ideal-small             an ideal lies in bounds
---   gap-small, quotient-small, product-small   how large a gap is, how often a row is then added, and what that adds
---   twice-above             a lead above 0 is so when doubled
+--   gap-small, product-small   how large a gap is, and what an addition adds
 --   seat-end, -far, -on     seating from vector s on: no vector is left; an addition leaves a value beyond ±M; it does not
 --   placeable, row-..       the lists, and each row of the basis, can be used for an addition; `still-seatable` and again after it
 --   none-beyond             where none is found beyond ±M, each number lies within
@@ -48,48 +47,6 @@ ideal-small lo hi w x a b = go (wished w x)
         pick true t e f = a
         pick false true e f = b
         pick false false e f = between maxBound lo hi y a b e f
-
--- for a whole part k of e by twice p, and d
-above-small : (d p k : ℕ) → 0 < p → k * (2 * p) ≤ 2 * d + p → k ≤ d + 1
-above-small d p k h e = go (ltb (d + 1) k) refl
-  where
-    go : (t : Bool) → ltb (d + 1) k ≡ t → k ≤ d + 1
-    go true f =
-        let l : d + 2 ≤ k = omega (arith, ltb-true (d + 1) k f) in
-        let m : (d + 2) * (2 * p) ≤ k * (2 * p) = mul-le-mul l (omega arith) in
-        let n : d * 1 ≤ d * p = mul-le-mul-left d h in
-        absurd (omega arith)
-    go false f = ltb-false (d + 1) k f
-
-below-small : (d p k : ℕ) → 0 < p → k * (2 * p) < 2 * d → k < d
-below-small d p k h e = let n : k * 1 ≤ k * p = mul-le-mul-left k h in omega arith
-
--- a sum below 0 of a number and one that is not below 0
-under : (n b a : ℕ) (x y z : ℤ) → x ≡ 0 ⊖ suc n → y ≡ b ⊖ 0 → z ≡ 0 ⊖ suc a → x +ℤ y ≡ z → suc a ≤ suc n
-under n b a x y z ex ey ez = rw (ex, ey, ez) (simp diff-rel (omega arith))
-
-sum-under : (x : ℤ) (b a : ℕ) → x +ℤ pos b ≡ negsuc a → suc a ≤ natAbs x
-sum-under (pos n) b a e = never (cc)
-sum-under (negsuc n) b a e = under n b a (negsuc n) (pos b) (negsuc a) (⊖-negsuc n) (⊖-pos b) (⊖-negsuc a) e
-
-pub quotient-small : (d p : ℤ) → pos 0 <ℤ p → natAbs (nearestQuotient d p) ≤ natAbs d + 1
-quotient-small d (negsuc p) h = absurd (h .lt)
-quotient-small d (pos zero) h = absurd (h .lt)
-quotient-small d (pos (suc p)) h = go (pos 2 *ℤ d +ℤ pos (suc p)) refl
-  where
-    go : (e : ℤ) → pos 2 *ℤ d +ℤ pos (suc p) ≡ e → natAbs (floorQuotient e (pos (2 * suc p))) ≤ natAbs d + 1
-    go (pos a) f =
-        above-small (natAbs d) (suc p) (a / (2 * suc p)) (omega arith)
-        (omega (arith, div-mul-le-self a (2 * suc p), ap natAbs f, abs-add (pos 2 *ℤ d) (pos (suc p)), abs-mul (pos 2) d))
-    go (negsuc a) f =
-        omega (
-          arith,
-          below-small (natAbs d) (suc p) (a / (2 * suc p)) (omega arith)
-              (omega (arith, div-mul-le-self a (2 * suc p), sum-under (pos 2 *ℤ d) (suc p) a f, abs-mul (pos 2) d)),
-        )
-
-pub twice-above : (p : ℤ) → pos 0 <ℤ p → pos 0 <ℤ (pos 2 *ℤ p)
-twice-above p = rw (rep p) (simp diff-rel (omega arith))
 
 pub gap-small : (C : Columns) (v : List ℤ) (c : ℕ) → FitColumn (C .column c) → natAbs (entry c v) ≤ M → natAbs (gapAt C v c) ≤ M + maxBound
 gap-small C v c f h =

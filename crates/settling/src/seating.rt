@@ -1,10 +1,8 @@
 ghost use mathlib.Core.Path.{_≡_};
 ghost use mathlib.Core.Bool.{cond};
 ghost use Prim.Native.Nat.{_+_, _*_, _<_, _≤_};
-ghost use lib.IntN.{pos, natAbs, _+ℤ_, _*ℤ_};
+ghost use lib.IntN.{natAbs, _+ℤ_, _*ℤ_};
 ghost use lib.ListN.{length};
-ghost use lib.Signed.{_<ℤ_};
-ghost use Rattle.whole.specs.Quotient.{nearestQuotient};
 ghost use Rattle.lattice.specs.Rows.{plus, lead};
 ghost use Rattle.problem.specs.Limits.{M, maxBound};
 ghost use Rattle.settling.specs.Columns.{columnsIn};
@@ -19,16 +17,8 @@ use goals::ideal;
 use lattice::lead_from;
 use problem::Problem;
 use whole::buffers::copy;
-use whole::floor_quotient;
 use whole::magnitude;
-
-// d by p to the nearest, a half upwards.
-fn nearest_quotient(d: i64, p: i64) -> i64
-    requires { ⌜ (natAbs d ≤ M + maxBound) × (natAbs p ≤ M) × (pos 0 <ℤ p) ⌝ }
-    ensures { λ r. ⌜ r ≡ nearestQuotient d p ⌝ }
-{
-    floor_quotient(2 * d + p, 2 * p)
-}
+use whole::nearest_quotient;
 
 // x + q y.
 pub(crate) fn plus_product(x: i64, q: i64, y: i64) -> i64

@@ -1,19 +1,27 @@
--- Document 01, "The tableau": the steps that bring a table into its Hermite form, over unbounded whole numbers.
+-- Document 01, "The tableau": the steps that bring a table into its Hermite form, over unbounded whole numbers. Of the quotient that gathering
+-- takes, `quotient`, document 02, (vii), says: "Gathering takes the nearest quotient, floor((2 × entry + p) / 2p), in place of the rounded-down one;
+-- the rows above are reduced as now." So the steps are said of any quotient, and then taken with the nearest.
 --   Left             a row after a subtraction, and whether that left a number beyond ±M in it
 --   subtract q r s, kept s       q times r taken from s; no subtraction
---   lowered c r s, reduced c r s   the row r taken from a row s by their entries at c: from a lower row, and from a row above
+--   reduced c r s    the row r taken from a row s above it, by their entries at c
 --   Run              a table after the steps, and whether a subtraction of theirs left a number beyond ±M
 --   each f B         the step f of each row in turn, top first
 --   Choice           the row that gathering chooses, counted from row k, with its magnitude; `none` where all entries are 0
 --   choose c B       that of the rows B at column c; by `shifted` and `prefer`, from the last row up
 --   Gathered         row k and the rows below it after gathering, and whether a subtraction left a number beyond ±M
---   exchange, signed, clear   what a round does: the chosen row to row k, its sign, the lower rows by it
---   round c b B      one round on row k, which is b, and the rows B below it
---   gather f c z b B   the rounds of one column, f at most; by `onward`, which adds a round's mark to what follows
+--   exchange, signed   what a round begins with: the chosen row to row k, its sign
+--   onward over g    what gathering leaves, with a round's mark added
 --   Passed           the rows above row k and those from it on after a column, and whether a subtraction left a number beyond ±M
---   passColumn       one column c: gathering, then the rows above
---   passColumns      d columns from c on
---   eliminate w T    all w columns of the table T, from left to right
+-- of any quotient:
+--   loweredBy c r s  the row r taken from a lower row s, by their entries at c
+--   clearBy c r B    the lower rows B by the row r
+--   roundBy c b B    one round on row k, which is b, and the rows B below it
+--   gatherBy f c z b B   the rounds of one column, f at most
+--   passColumnBy     one column c: gathering, then the rows above
+--   passColumnsBy    d columns from c on
+--   eliminateBy w T  all w columns of the table T, from left to right
+-- with the nearest:
+--   lowered, clear, round, gather, passColumn, passColumns, eliminate   the same
 -- A subtraction goes on with the number that it left, beyond ±M or not: `over` only remembers it. So the table is that of the rules over
 -- unbounded numbers, and refusal 7 reads the mark.
 -- Rows and columns are counted from 0; the rows above row k are kept in one list, the rows from k on in another.
@@ -26,7 +34,7 @@ use lib.IntN.{ℤ, pos, negsuc, negℤ, natAbs}
 use lib.ListN.{getD, set}
 use Rattle.whole.specs.Lists.{entry}
 use Rattle.whole.specs.Tests.{isZero}
-use Rattle.whole.specs.Quotient.{floorQuotient, gatheringQuotient}
+use Rattle.whole.specs.Quotient.{floorQuotient, nearestQuotient}
 use Rattle.lattice.specs.Rows.{plus, neg}
 use Rattle.problem.specs.Limits.{anyBeyond}
 
@@ -42,10 +50,6 @@ subtract q r s = record { row = plus (negℤ q) r s; over = anyBeyond (plus (neg
 -- no subtraction
 abbrev pub kept : List ℤ → Left
 kept s = record { row = s; over = false }
-
--- "From each lower row with a nonzero entry subtract the quotient (entry by p) times row k; the quotient is rounded down"
-unfoldable pub lowered : ℕ → List ℤ → List ℤ → Left
-lowered c r s = cond (isZero (entry c s)) (kept s) (subtract (gatheringQuotient (entry c s) (entry c r)) r s)
 
 -- "subtract the rounded-down quotient times row k, so that its entry lies in 0 to p − 1"
 unfoldable pub reduced : ℕ → List ℤ → List ℤ → Left
@@ -98,27 +102,9 @@ abbrev pub signed : ℤ → List ℤ → List ℤ
 signed (pos p) r = r
 signed (negsuc p) r = neg r
 
--- the lower rows, by the row r
-unfoldable pub clear : ℕ → List ℤ → List (List ℤ) → Gathered
-clear c r B = record { pivot = r; below = each (lowered c r) B .table; over = each (lowered c r) B .over }
-
-unfoldable pub round : ℕ → List ℤ → List (List ℤ) → Gathered
-round c b B =
-    let x : List ℤ × List (List ℤ) = exchange (choose c (b ∷ B)) b B in
-    clear c (signed (entry c (x .0)) (x .0)) (x .1)
-
 -- what follows on a round
 abbrev pub onward : Bool → Gathered → Gathered
 onward over g = record { pivot = g .pivot; below = g .below; over = over || g .over }
-
--- "Repeat until all lower entries are 0": a round, and more while the lower rows have a choice. The magnitude chosen falls with each round, so that
--- as many rounds as the first one's are enough
-unfoldable pub gather : ℕ → ℕ → Choice → List ℤ → List (List ℤ) → Gathered
-gather zero c z b B = record { pivot = b; below = B; over = false }
-gather (suc f) c none b B = record { pivot = b; below = B; over = false }
-gather (suc f) c (at j p) b B =
-    let x : Gathered = round c b B in
-    onward (x .over) (gather f c (choose c (x .below)) (x .pivot) (x .below))
 
 -- ---- one column, with the rows A above row k and the rows B from k on
 pub record Passed : Type 0 where
@@ -126,24 +112,70 @@ pub record Passed : Type 0 where
   pub below : List (List ℤ)
   pub over : Bool
 
--- "If all entries at c there are 0, go to the next c." Else gathering; "Then from each row above k, top first, subtract"; "Add 1 to k"
-unfoldable pub passColumn : ℕ → List (List ℤ) → List (List ℤ) → Choice → Passed
-passColumn c A B none = record { above = A; below = B; over = false }
-passColumn c A [] (at j p) = record { above = A; below = []; over = false }
-passColumn c A (b ∷ B) (at j p) =
-    let g : Gathered = gather p c (at j p) b B in
-    let a : Run = each (reduced c (g .pivot)) A in
-    record { above = a .table ++ (g .pivot ∷ []); below = g .below; over = g .over || a .over }
+-- ---- the steps, of any quotient
+module _ (quotient : ℤ → ℤ → ℤ) where
+  -- "From each lower row with a nonzero entry subtract the quotient (entry by p) times row k"
+  unfoldable pub loweredBy : ℕ → List ℤ → List ℤ → Left
+  loweredBy c r s = cond (isZero (entry c s)) (kept s) (subtract (quotient (entry c s) (entry c r)) r s)
 
--- "take the table's columns c from left to right while k ≤ n": d columns from c on. Past row n no row is left to choose from, and every further
--- column is passed over
-unfoldable pub passColumns : ℕ → ℕ → List (List ℤ) → List (List ℤ) → Run
-passColumns zero c A B = record { table = A ++ B; over = false }
-passColumns (suc d) c A B =
-    let x : Passed = passColumn c A B (choose c B) in
-    let y : Run = passColumns d (suc c) (x .above) (x .below) in
-    record { table = y .table; over = x .over || y .over }
+  -- the lower rows, by the row r
+  unfoldable pub clearBy : ℕ → List ℤ → List (List ℤ) → Gathered
+  clearBy c r B = record { pivot = r; below = each (loweredBy c r) B .table; over = each (loweredBy c r) B .over }
 
--- "Start with k = 1"
-unfoldable pub eliminate : ℕ → List (List ℤ) → Run
-eliminate w T = passColumns w 0 [] T
+  unfoldable pub roundBy : ℕ → List ℤ → List (List ℤ) → Gathered
+  roundBy c b B =
+      let x : List ℤ × List (List ℤ) = exchange (choose c (b ∷ B)) b B in
+      clearBy c (signed (entry c (x .0)) (x .0)) (x .1)
+
+  -- "Repeat until all lower entries are 0": a round, and more while the lower rows have a choice. The magnitude chosen falls with each round, so
+  -- that as many rounds as the first one's are enough
+  unfoldable pub gatherBy : ℕ → ℕ → Choice → List ℤ → List (List ℤ) → Gathered
+  gatherBy zero c z b B = record { pivot = b; below = B; over = false }
+  gatherBy (suc f) c none b B = record { pivot = b; below = B; over = false }
+  gatherBy (suc f) c (at j p) b B =
+      let x : Gathered = roundBy c b B in
+      onward (x .over) (gatherBy f c (choose c (x .below)) (x .pivot) (x .below))
+
+  -- "If all entries at c there are 0, go to the next c." Else gathering; "Then from each row above k, top first, subtract"; "Add 1 to k"
+  unfoldable pub passColumnBy : ℕ → List (List ℤ) → List (List ℤ) → Choice → Passed
+  passColumnBy c A B none = record { above = A; below = B; over = false }
+  passColumnBy c A [] (at j p) = record { above = A; below = []; over = false }
+  passColumnBy c A (b ∷ B) (at j p) =
+      let g : Gathered = gatherBy p c (at j p) b B in
+      let a : Run = each (reduced c (g .pivot)) A in
+      record { above = a .table ++ (g .pivot ∷ []); below = g .below; over = g .over || a .over }
+
+  -- "take the table's columns c from left to right while k ≤ n": d columns from c on. Past row n no row is left to choose from, and every further
+  -- column is passed over
+  unfoldable pub passColumnsBy : ℕ → ℕ → List (List ℤ) → List (List ℤ) → Run
+  passColumnsBy zero c A B = record { table = A ++ B; over = false }
+  passColumnsBy (suc d) c A B =
+      let x : Passed = passColumnBy c A B (choose c B) in
+      let y : Run = passColumnsBy d (suc c) (x .above) (x .below) in
+      record { table = y .table; over = x .over || y .over }
+
+  -- "Start with k = 1"
+  unfoldable pub eliminateBy : ℕ → List (List ℤ) → Run
+  eliminateBy w T = passColumnsBy w 0 [] T
+
+-- ---- the steps, with the nearest quotient
+abbrev pub lowered : ℕ → List ℤ → List ℤ → Left
+lowered = loweredBy nearestQuotient
+
+abbrev pub clear : ℕ → List ℤ → List (List ℤ) → Gathered
+clear = clearBy nearestQuotient
+
+abbrev pub round : ℕ → List ℤ → List (List ℤ) → Gathered
+round = roundBy nearestQuotient
+
+abbrev pub gather : ℕ → ℕ → Choice → List ℤ → List (List ℤ) → Gathered
+gather = gatherBy nearestQuotient
+
+abbrev pub passColumn : ℕ → List (List ℤ) → List (List ℤ) → Choice → Passed
+passColumn = passColumnBy nearestQuotient
+
+abbrev pub passColumns : ℕ → ℕ → List (List ℤ) → List (List ℤ) → Run
+passColumns = passColumnsBy nearestQuotient
+
+abbrev pub eliminate : ℕ → List (List ℤ) → Run
+eliminate = eliminateBy nearestQuotient

@@ -1,6 +1,7 @@
 -- The root of the definitions.
 pub mod Table
 pub mod Elimination
+pub mod RoundCount
 pub mod RightSide
 pub mod Generators
 pub mod Gathering

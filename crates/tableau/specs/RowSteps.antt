@@ -16,7 +16,7 @@ use Prim.Native.Nat.{ℕ}
 use lib.IntN.{ℤ}
 use lib.ListN.{length}
 use Rattle.whole.specs.Lists.{entry, zeros}
-use Rattle.whole.specs.Quotient.{floorQuotient, gatheringQuotient}
+use Rattle.whole.specs.Quotient.{floorQuotient, nearestQuotient}
 use Rattle.whole.specs.Tests.{Positive}
 use Rattle.lattice.specs.Rows.{ZeroTo, lead, flat, chop}
 use Rattle.tableau.specs.Elimination.{Left, lowered, reduced, Run, each}
@@ -37,7 +37,7 @@ abbrev pub StopsRun : Run → Bool → List ℤ → Type 0
 StopsRun x r t = Stops (x .over) (flat (x .table)) r t
 
 abbrev pub quotientOf : Way → ℤ → ℤ → ℤ
-quotientOf Below e p = gatheringQuotient e p
+quotientOf Below e p = nearestQuotient e p
 quotientOf Above e p = floorQuotient e p
 
 abbrev pub rowStep : Way → ℕ → List ℤ → List ℤ → Left

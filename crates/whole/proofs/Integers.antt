@@ -9,7 +9,6 @@
 --   multiple-..              multiples of a number above 0: which is 0, which two are the same
 --   floorQuotient-low, -high what the floor quotient leaves lies in 0 to p − 1
 --   floorQuotient-left       and has a magnitude below p
---   gatheringQuotient-left   so has what the gathering quotient leaves. Callers use no other law of it
 --   floor-by-machine         the floor quotient is the machine's, which cuts towards 0, less 1 where the remainder is below 0
 -- Assumes nothing.
 use mathlib.Core.Path.{_≡_, refl, _∙_, ap}
@@ -23,7 +22,7 @@ use lib.Dec.{T, ltb, ltb→lt, nltb→le, leb→le, le→leb, lt→ltb}
 use lib.IntN.{ℤ, pos, negsuc, negℤ, natAbs, subℕ, _+ℤ_, _-ℤ_, _*ℤ_}
 use lib.Signed.{_≤ℤ_, _<ℤ_, ltZ, quotZ, remZ}
 use Rattle.whole.specs.Tests.{isZero, Positive, positive}
-use Rattle.whole.specs.Quotient.{floorQuotient, gatheringQuotient}
+use Rattle.whole.specs.Quotient.{floorQuotient}
 
 -- ---- the parts of a number above and below 0, shut
 pub plusPart : ℤ → ℕ
@@ -229,9 +228,6 @@ natAbs-below (negsuc n) m = λ h _. absurd (h .le)
 
 pub floorQuotient-left : {p : ℤ} (x : ℤ) → Positive p → natAbs (x +ℤ negℤ (floorQuotient x p) *ℤ p) < natAbs p
 floorQuotient-left x (positive k) = natAbs-below _ (suc k) (floorQuotient-low x (positive k)) (floorQuotient-high x (positive k))
-
-pub gatheringQuotient-left : {p : ℤ} (x : ℤ) → Positive p → natAbs (x +ℤ negℤ (gatheringQuotient x p) *ℤ p) < natAbs p
-gatheringQuotient-left x h = floorQuotient-left x h
 
 -- −(a + 1) = −(t (k + 1) + r): with no remainder a / (k + 1) is t − 1, and else it is t
 machine-below : (a k t r : ℕ) → t * suc k + r ≡ suc a → r < suc k

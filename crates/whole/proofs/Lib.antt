@@ -7,3 +7,5 @@ pub mod Counted
 pub mod Never
 pub mod Integers
 pub mod Writing
+pub mod Nearest
+pub mod BitLength

@@ -3,3 +3,4 @@ pub mod Lists
 pub mod Tests
 pub mod Quotient
 pub mod Divisor
+pub mod BitLength

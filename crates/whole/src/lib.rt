@@ -1,10 +1,11 @@
 pub mod buffers;
 
 ghost use mathlib.Core.Path.{_≡_};
-ghost use Prim.Native.Nat.{_<_};
+ghost use Prim.Native.Nat.{_<_, _≤_};
 ghost use lib.IntN.{ℤ, pos, natAbs, negℤ, _+ℤ_, _*ℤ_};
 ghost use lib.Signed.{_<ℤ_, ltZ};
-ghost use Rattle.whole.specs.Quotient.{floorQuotient, gatheringQuotient};
+ghost use Rattle.whole.specs.Quotient.{floorQuotient, nearestQuotient};
+ghost use Rattle.whole.specs.BitLength.{bitLength};
 ghost use Rattle.whole.specs.Divisor as Divisor;
 
 // Whether a is below b.
@@ -24,12 +25,12 @@ pub fn floor_quotient(e: i64, p: i64) -> i64
     if rest < 0 { q - 1 } else { q }
 }
 
-// The quotient that gathering takes in the lower rows.
-pub fn gathering_quotient(e: i64, p: i64) -> i64
-    requires { ⌜ pos 0 <ℤ p ⌝ }
-    ensures { λ r. ⌜ r ≡ gatheringQuotient e p ⌝ }
+// The quotient of e by a positive pivot to the nearest, a half upwards.
+pub fn nearest_quotient(e: i64, p: i64) -> i64
+    requires { ⌜ (natAbs e ≤ 4294967296) × (natAbs p ≤ 4294967296) × (pos 0 <ℤ p) ⌝ }
+    ensures { λ r. ⌜ r ≡ nearestQuotient e p ⌝ }
 {
-    floor_quotient(e, p)
+    floor_quotient(2 * e + p, 2 * p)
 }
 
 // −x, of any x but the least i64.
@@ -62,4 +63,11 @@ pub fn divisor(a: u64, b: u64) -> u64
     ensures { λ r. ⌜ r ≡ Divisor.divisor a b ⌝ }
 {
     if b == 0 { a } else { divisor(b, a % b) }
+}
+
+// The bit length of p, the count of its binary digits; 0 has none.
+pub fn bit_length(p: u64) -> u32
+    ensures { λ r. ⌜ r ≡ bitLength p ⌝ }
+{
+    64 - u64::leading_zeros(p)
 }

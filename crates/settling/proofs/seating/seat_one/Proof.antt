@@ -10,12 +10,14 @@ use mir.Val.{toZ, ofZ}
 use Rattle.whole.specs.Lists.{entry}
 use Rattle.whole.specs.Quotient.{nearestQuotient}
 use Rattle.whole.proofs.Signed.{back}
+use Rattle.whole.proofs.Integers.{above-positive}
+use Rattle.whole.proofs.Nearest.{nearest-small}
 use Rattle.lattice.specs.Rows as Rows
 use Rattle.problem.specs.Limits.{M, maxBound}
 use Rattle.settling.specs.Columns.{Columns, columnsIn}
 use Rattle.settling.specs.Seating.{gapAt, seatOne}
 use Rattle.settling.specs.Seats.{within}
-use Rattle.settling.proofs.Seats.{gap-small, quotient-small}
+use Rattle.settling.proofs.Seats.{gap-small}
 use Rattle.settling.proofs.seating.seat_one.Statement.{statement}
 use Rattle.settling.proofs.seating.seat_one.Tie as tie
 
@@ -68,12 +70,12 @@ shared-slice-copy-out-nearest-quotient c = let s = c .before .before in omega (a
 
 nearest-quotient-requires : tie.Need-nearest-quotient-requires
 nearest-quotient-requires c κs =
-    let s = c .before .before .before in rw (read-gap (c .before), read-pivot c) (small s, s .pre .1 .row-small (k s), s .pre .2 .above)
+    let s = c .before .before .before in rw (read-gap (c .before), read-pivot c) (omega (arith, small s), omega (arith, s .pre .1 .row-small (k s)), s .pre .2 .above)
 
 add-row-requires : tie.Need-add-row-requires
 add-row-requires c κs =
     let s = c .before .before .before .before .before in
-    (s .pre .1, rw (factor (c .before)) (omega (arith, quotient-small (gap s) (pivot s) (s .pre .2 .above), small s)), s .pre .3)
+    (s .pre .1, rw (factor (c .before)) (omega (arith, nearest-small (gap s) (above-positive (pivot s) (s .pre .2 .above)), small s)), s .pre .3)
 
 same-length : tie.Need-same-length
 same-length c = search needs
