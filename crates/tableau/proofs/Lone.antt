@@ -13,6 +13,7 @@ use Rattle.whole.specs.Lists.{entry}
 use Rattle.lattice.specs.Rows.{chop}
 use Rattle.lattice.specs.Span.{All}
 use Rattle.lattice.proofs.FlatLaws.{flat-chop, chop-next, chop-row}
+use Rattle.tableau.specs.Elimination.{clearBy, loweredBy}
 use Rattle.tableau.specs.Elimination.{Left, kept, lowered, Run, each, Choice, none, at, prefer, choose, Gathered, exchange, clear}
 use Rattle.tableau.proofs.GatherLaws.{chosen-stands}
 use Rattle.tableau.specs.Choices.{counted, nonzeros}
@@ -34,7 +35,7 @@ no-others c (s ∷ B) e = (uncounted (natAbs (entry c s)) (omega arith), no-othe
     uncounted (suc k) e = absurd (omega arith)
 
 each-keeps : (c : ℕ) (r : List ℤ) (B : List (List ℤ)) → All (Idle c) B → each (lowered c r) B ≡ record { table = B; over = false }
-unfolding each lowered Idle
+unfolding each loweredBy Idle
 each-keeps c r [] a = refl
 each-keeps c r (s ∷ B) a =
     ap₂ (λ (x : Left) (y : Run). record { table = x .row ∷ y .table; over = x .over || y .over }) (keeps (a .0)) (each-keeps c r B (a .1))
@@ -89,7 +90,7 @@ module _ {k w c j : ℕ} {t p u : List ℤ} (h : Tail k w c t) (g : Picked k w c
       up (suc m) q = refl
 
   round-here : roundOf k w c t ≡ record { pivot = liftedRow w c j t; below = others; over = false }
-  unfolding clear
+  unfolding clearBy
   round-here =
       round-is h g
       ∙ ap (λ (y : Run). record { pivot = liftedRow w c j t; below = y .table; over = y .over }) (each-keeps c (liftedRow w c j t) others idle)

@@ -20,14 +20,16 @@ use lib.IntN.{ℤ, pos}
 use lib.ListN.{length, take, drop, length-append, length-drop}
 use lib.Seq.{length-take-le}
 use Rattle.whole.specs.Lists.{entry}
+use Rattle.whole.specs.Quotient.{nearestQuotient}
 use Rattle.lattice.specs.Rows.{ZeroTo, flat, chop}
 use Rattle.lattice.proofs.RowLaws.{ZeroTo-next, ZeroTo-plus, ZeroTo-neg}
 use Rattle.lattice.specs.Span.{All, Len}
 use Rattle.lattice.proofs.Span.{all-both, all-append, steps-count, steps-length, steps-all}
 use Rattle.lattice.proofs.FlatLaws.{flat-append, flat-chop, chop-next, chop-rows, chop-take, chop-split, length-chop, front-rows, front-rest}
+use Rattle.tableau.specs.Elimination.{eliminateBy, passColumnBy, passColumnsBy}
 use Rattle.tableau.specs.Elimination.{Run, each, reduced, Choice, none, at, choose, Gathered, Passed, passColumn, passColumns, eliminate}
 use Rattle.tableau.specs.Gathering.{Alone}
-use Rattle.tableau.proofs.GatherLaws.{Stands, choose-stands, gather-steps, gather-alone, gathering-first}
+use Rattle.tableau.proofs.GatherLaws.{nearest-shrinks, Stands, choose-stands, gather-steps, gather-alone, gathering-first}
 use Rattle.tableau.specs.Within.{Within}
 use Rattle.whole.proofs.Tests.{neither}
 use Rattle.tableau.proofs.Within.{within-append, within-take, within-drop}
@@ -43,7 +45,7 @@ after : ℕ → ℕ → Passed → Run
 after d c x = let y : Run = passColumns d c (x .above) (x .below) in record { table = y .table; over = x .over || y .over }
 
 next-column : (d c : ℕ) (A B : List (List ℤ)) → 0 < d → passColumns d c A B ≡ after (d - 1) (c + 1) (passColumn c A B (choose c B))
-unfolding passColumns after
+unfolding passColumnsBy after
 next-column zero c A B h = absurd (omega arith)
 next-column (suc d) c A B h = let e : suc d - 1 ≡ d = omega arith in rw (e, add-one)
 
@@ -64,15 +66,15 @@ module _ (d c : ℕ) (A B : List (List ℤ)) where
       ∙ ap (λ (b : Bool). after (d - 1) (c + 1) (record { above = found .above; below = found .below; over = b })) e
 
   pub columns-skip : 0 < d → choose c B ≡ none → passColumns d c A B ≡ passColumns (d - 1) (c + 1) A B
-  unfolding passColumn after
+  unfolding passColumnBy after
   columns-skip h e = next-column d c A B h ∙ ap (λ (z : Choice). after (d - 1) (c + 1) (passColumn c A B z)) e
 
 columns-end : (d c : ℕ) (A B : List (List ℤ)) → d ≡ 0 → passColumns d c A B ≡ record { table = A ++ B; over = false }
-unfolding passColumns
+unfolding passColumnsBy
 columns-end d c A B e = rw e
 
 columns-none : (d c : ℕ) (A : List (List ℤ)) → passColumns d c A [] ≡ record { table = A ++ []; over = false }
-unfolding passColumns passColumn choose
+unfolding passColumnsBy passColumnBy choose
 columns-none zero c A = refl
 columns-none (suc d) c A = columns-none d (suc c) A
 
@@ -106,10 +108,10 @@ gathered {k} {w} {c} {j} {t} h g =
     let p : ℕ = g .size in
     let e : chop k w t ≡ b ∷ B = chop-next k w t (g .some) in
     subst (Gathering k w c) (sym (gathering-first (g .is))) (record {
-      wide = steps-length w (gather-steps p c (at j p) b B) (g .is .wide);
-      front = steps-all (ZeroTo c) (ZeroTo-neg c) (ZeroTo-plus c) (gather-steps p c (at j p) b B) (subst (All (ZeroTo c)) e (h .front));
-      alone = gather-alone (g .is) p j p (omega arith);
-      count = omega (arith, steps-count (gather-steps p c (at j p) b B), length-chop (k - 1) w (drop w t));
+      wide = steps-length w (gather-steps nearestQuotient p c (at j p) b B) (g .is .wide);
+      front = steps-all (ZeroTo c) (ZeroTo-neg c) (ZeroTo-plus c) (gather-steps nearestQuotient p c (at j p) b B) (subst (All (ZeroTo c)) e (h .front));
+      alone = gather-alone nearest-shrinks (g .is) p j p (omega arith);
+      count = omega (arith, steps-count (gather-steps nearestQuotient p c (at j p) b B), length-chop (k - 1) w (drop w t));
       small = gather-all p c (at j p) b B (subst (All Within) e (all-flat (chop k w t) (rw (flat-chop k w t (h .wide)) (h .small))));
     })
 
@@ -128,7 +130,7 @@ module _ {n w c k j : ℕ} {t : List ℤ} (h : Standing n w c k t) (l : c < w) (
   rows-of = gathered (tail-of h l) g
 
   passed-is : passedOf n w c k t ≡ record { above = A .table ++ (G .pivot ∷ []); below = G .below; over = G .over || A .over }
-  unfolding passColumn
+  unfolding passColumnBy
   passed-is =
       let b : List ℤ = take w (drop (k * w) t) in
       let B : List (List ℤ) = chop (n - k - 1) w (drop w (drop (k * w) t)) in
@@ -256,7 +258,7 @@ starts {n} {w} {t} l s = record { wide = l; most = omega arith; small = s; front
     none-yet (r ∷ T) = (tt, none-yet T)
 
 pub starts-all : (n w : ℕ) (t : List ℤ) → passColumns (w - 0) 0 (aboveOf w 0 t) (belowOf n w 0 t) ≡ eliminate w (chop n w t)
-unfolding eliminate
+unfolding eliminateBy
 starts-all n w t =
     let a : w - 0 ≡ w = omega arith in
     let b : n - 0 ≡ n = omega arith in

@@ -18,12 +18,14 @@ use lib.ListN.{length, take, drop, length-append, length-drop}
 use lib.Seq.{length-take-le, take-at, drop-at, drop-drop}
 use Rattle.whole.specs.Lists.{entry}
 use Rattle.whole.specs.Tests.{Positive}
+use Rattle.whole.specs.Quotient.{nearestQuotient}
 use Rattle.whole.proofs.Integers.{positive-of}
 use Rattle.lattice.specs.Rows.{ZeroTo, flat, chop}
 use Rattle.lattice.proofs.RowLaws.{length-neg, ZeroTo-neg}
 use Rattle.lattice.specs.Span.{All}
 use Rattle.lattice.proofs.Span.{all-at}
 use Rattle.lattice.proofs.FlatLaws.{one-less, chop-next, chop-row, chop-set, length-chop, row-in-table, first-wide}
+use Rattle.tableau.specs.Elimination.{clearBy, roundBy}
 use Rattle.tableau.specs.Elimination.{Gathered, Choice, at, exchange, signed, clear, round}
 use Rattle.tableau.proofs.GatherLaws.{chosen-stands, round-lead}
 use Rattle.tableau.specs.Within.{Within}
@@ -92,17 +94,17 @@ module _ {k w c j : ℕ} {t : List ℤ} (h : Tail k w c t) (g : Picked k w c t j
   lift-asks = ((h .column, ends-inside), ((subst (All (ZeroTo c)) (chop-next k w t (g .some)) (h .front) .0, row-front), h .small))
 
   pub round-is : roundOf k w c t ≡ clear c (liftedRow w c j t) (chop (k - 1) w (drop w (lowerFirst w j t)))
-  unfolding round
+  unfolding roundBy
   round-is =
       ap (λ (x : List ℤ × List (List ℤ)). clear c (signed (entry c (x .0)) (x .0)) (x .1))
       (ap (λ (z : Choice). exchange z (take w t) (chop (k - 1) w (drop w t))) (g .is .choice)
       ∙ swapped k w j (g .size) t (h .wide) chosen-low)
 
   lifted-lead : Positive (entry c (liftedRow w c j t))
-  unfolding clear
+  unfolding clearBy
   lifted-lead =
       subst (λ (x : ℤ). Positive x)
-      (sym (ap (λ (x : Gathered). entry c (x .pivot)) (sym round-is) ∙ round-lead (g .is)))
+      (sym (ap (λ (x : Gathered). entry c (x .pivot)) (sym round-is) ∙ round-lead (g .is) nearestQuotient))
       (positive-of (g .size) (chosen-stands (g .is) .0))
 
   lifted-pivot : Pivot w c (liftedRow w c j t)
@@ -163,7 +165,7 @@ module _ {k w c j : ℕ} {t p u : List ℤ} (h : Tail k w c t) (g : Picked k w c
       (ap₂ (λ (n : ℕ) (v : List ℤ). chop (k - 1) n v) (sym pivot-wide) (sym below-is))
 
   pub round-stops : (b : Bool) (v : List ℤ) → StopsRun (eachOf Below c p (k - 1) (drop w u)) b v → Gathers (roundOf k w c t) b (take w u ++ v) p
-  unfolding clear
+  unfolding clearBy
   round-stops b v s = record {
     answer = s .answer ∙ ap (λ (x : Gathered). x .over) (sym same-rows);
     left = λ e. ap₂ (λ (x y : List ℤ). x ++ y) top-is (s .left e) ∙ ap (λ (x : Gathered). flat (x .pivot ∷ x .below)) (sym same-rows);

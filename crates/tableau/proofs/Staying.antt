@@ -16,6 +16,7 @@ use Rattle.lattice.specs.Span.{All}
 use Rattle.lattice.proofs.Span.{all-append}
 use Rattle.problem.specs.Limits.{anyBeyond}
 use Rattle.tableau.specs.Within.{Within}
+use Rattle.tableau.specs.Elimination.{clearBy, eliminateBy, gatherBy, passColumnBy, passColumnsBy, roundBy}
 use Rattle.tableau.specs.Elimination.{Left, each, reduced, Choice, none, at, choose, Gathered, exchange, signed, clear, round, gather}
 use Rattle.tableau.specs.Elimination.{Passed, passColumn, passColumns, eliminate}
 use Rattle.tableau.proofs.Within.{within-append, within-left, within-right, within-neg}
@@ -60,7 +61,7 @@ signed-all (negsuc n) r h = within-neg r h
 
 pub round-all : (c : ℕ) (b : List ℤ) (B : List (List ℤ)) → All Within (b ∷ B) → round c b B .over ≡ false
     → All Within (round c b B .pivot ∷ round c b B .below)
-unfolding round clear
+unfolding roundBy clearBy
 round-all c b B a e =
     let z : Choice = choose c (b ∷ B) in
     let x : List ℤ × List (List ℤ) = exchange z b B in
@@ -69,7 +70,7 @@ round-all c b B a e =
 
 pub gather-all : (f c : ℕ) (z : Choice) (b : List ℤ) (B : List (List ℤ)) → All Within (b ∷ B) → gather f c z b B .over ≡ false
     → All Within (gather f c z b B .pivot ∷ gather f c z b B .below)
-unfolding gather
+unfolding gatherBy
 gather-all zero c z b B a e = a
 gather-all (suc f) c none b B a e = a
 gather-all (suc f) c (at j p) b B a e =
@@ -81,7 +82,7 @@ gather-all (suc f) c (at j p) b B a e =
 -- ---- columns
 column-all : (c : ℕ) (A B : List (List ℤ)) (z : Choice) → All Within A → All Within B → passColumn c A B z .over ≡ false
     → All Within (passColumn c A B z .above) × All Within (passColumn c A B z .below)
-unfolding passColumn
+unfolding passColumnBy
 column-all c A B none a b e = (a, b)
 column-all c A [] (at j p) a b e = (a, tt)
 column-all c A (r ∷ B) (at j p) a b e =
@@ -93,7 +94,7 @@ column-all c A (r ∷ B) (at j p) a b e =
 
 columns-all : (d c : ℕ) (A B : List (List ℤ)) → All Within A → All Within B → passColumns d c A B .over ≡ false
     → All Within (passColumns d c A B .table)
-unfolding passColumns
+unfolding passColumnsBy
 columns-all zero c A B a b e = all-append Within A B .1 (a, b)
 columns-all (suc d) c A B a b e =
     let x : Passed = passColumn c A B (choose c B) in
@@ -103,5 +104,5 @@ columns-all (suc d) c A B a b e =
     columns-all d (suc c) (x .above) (x .below) (s .0) (s .1) (h .1)
 
 pub eliminate-all : (w : ℕ) (T : List (List ℤ)) → All Within T → eliminate w T .over ≡ false → All Within (eliminate w T .table)
-unfolding eliminate
+unfolding eliminateBy
 eliminate-all w T a e = columns-all w 0 [] T tt a e

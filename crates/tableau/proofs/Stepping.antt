@@ -18,14 +18,16 @@ use lib.Dec.{ltb}
 use lib.IntN.{ℤ, pos, negsuc, negℤ, natAbs, _+ℤ_, _*ℤ_}
 use lib.ListN.{length, take, drop, take-append-drop, List·getD-eq-default}
 use Rattle.whole.specs.Lists.{entry, zeros}
-use Rattle.whole.specs.Quotient.{floorQuotient, gatheringQuotient}
+use Rattle.whole.specs.Quotient.{floorQuotient, nearestQuotient}
 use Rattle.whole.specs.Tests.{positive, Positive}
-use Rattle.whole.proofs.Integers.{rep, diff-rel, positive-nonzero, natAbs-zero, floorQuotient-left, gatheringQuotient-left, add-none}
+use Rattle.whole.proofs.Integers.{rep, diff-rel, positive-nonzero, natAbs-zero, floorQuotient-left, add-none}
+use Rattle.whole.proofs.Nearest.{nearest-left, nearest-small}
 use Rattle.whole.proofs.Signed.{abs-add, abs-mul, abs-neg}
 use Rattle.lattice.specs.Rows.{plus, ZeroTo}
 use Rattle.lattice.proofs.RowLaws.{plus-none}
 use Rattle.problem.specs.Limits.{anyBeyond}
 use Rattle.tableau.specs.Within.{Within}
+use Rattle.tableau.specs.Elimination.{loweredBy}
 use Rattle.tableau.specs.Elimination.{Left, subtract, kept, lowered, reduced}
 use Rattle.tableau.proofs.Within.{within-take, beyond-append}
 use Rattle.tableau.specs.RowSteps.{Stops, quotientOf, rowStep, Pivot, leftAfter}
@@ -57,7 +59,7 @@ by-rest x q (positive k) h =
     (omega (arith, abs-mul q (pos (suc k)), ap natAbs (part x q (pos (suc k))), abs-add x (negℤ y), abs-neg y))
 
 pub quotient-small : {p : ℤ} (way : Way) (x : ℤ) → Positive p → natAbs (quotientOf way x p) ≤ natAbs x
-quotient-small {p} Below x h = by-rest x (gatheringQuotient x p) h (gatheringQuotient-left x h)
+quotient-small {p} Below x h = by-rest x (nearestQuotient x p) h (nearest-left x h)
 quotient-small {p} Above x h = by-rest x (floorQuotient x p) h (floorQuotient-left x h)
 
 by-one : (x : ℤ) → floorQuotient x (pos 1) ≡ x
@@ -65,7 +67,7 @@ by-one (pos n) = ap pos (div-one n)
 by-one (negsuc n) = ap negsuc (div-one n)
 
 pub quotient-one : {p : ℤ} (way : Way) (x : ℤ) → p ≡ pos 1 → quotientOf way x p ≡ x
-quotient-one Below x e = ap (gatheringQuotient x) e ∙ by-one x
+quotient-one Below x e = ap (nearestQuotient x) e ∙ by-one x
 quotient-one Above x e = ap (floorQuotient x) e ∙ by-one x
 
 -- ---- rows that stay
@@ -76,7 +78,7 @@ zero-quotient : {p : ℤ} → Positive p → floorQuotient (pos 0) p ≡ pos 0
 zero-quotient (positive k) = ap pos (zero-div (suc k))
 
 pub step-none : (way : Way) (c : ℕ) (r s : List ℤ) → Positive (entry c r) → Within s → natAbs (entry c s) ≡ 0 → rowStep way c r s ≡ kept s
-unfolding lowered reduced
+unfolding loweredBy reduced
 step-none Below c r s p h e = rw (eq-eqb (natAbs (entry c s)) 0 e)
 step-none Above c r s p h e =
     ap (λ (q : ℤ). subtract q r s) (ap (λ (x : ℤ). floorQuotient x (entry c r)) (natAbs-zero (entry c s) e) ∙ zero-quotient p) ∙ nothing r s h
@@ -84,7 +86,7 @@ step-none Above c r s p h e =
 -- a row with another number there
 step-is : (way : Way) (c : ℕ) (r s : List ℤ) → (natAbs (entry c s) ≡ 0 → ⊥)
     → rowStep way c r s ≡ subtract (quotientOf way (entry c s) (entry c r)) r s
-unfolding lowered reduced
+unfolding loweredBy reduced
 step-is Below c r s e = rw (ne-eqb (natAbs (entry c s)) 0 e)
 step-is Above c r s e = refl
 

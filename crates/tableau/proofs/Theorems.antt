@@ -8,6 +8,7 @@ use native.Mathlib.Omega.{arith}
 use lib.IntN.{ℤ, negsuc}
 use lib.ListN.{length}
 use Rattle.whole.specs.Lists.{zeros}
+use Rattle.whole.specs.Quotient.{nearestQuotient}
 use Rattle.lattice.specs.Rows.{minus, neg}
 use Rattle.lattice.proofs.RowLaws.{length-plus, length-zeros}
 use Rattle.lattice.specs.Sums.{Satisfies}
@@ -18,10 +19,10 @@ use Rattle.lattice.specs.Hermite.{Echelon, width, rows, Led, Rising, Hermite}
 use Rattle.lattice.proofs.Hermite.{past, rows-led, rows-rising, past-width, past-hermite}
 use Rattle.lattice.specs.Coset.{Describes}
 use Rattle.tableau.specs.Table.{tableau}
-use Rattle.tableau.specs.Elimination.{eliminate}
+use Rattle.tableau.specs.Elimination.{eliminateBy, eliminate}
 use Rattle.tableau.specs.RightSide.{rightSide, form, solve}
 use Rattle.tableau.specs.Generators.{Reaches, Tells}
-use Rattle.tableau.proofs.GatherLaws.{gather-alone, gather-fuel}
+use Rattle.tableau.proofs.GatherLaws.{nearest-shrinks, gather-alone, gather-fuel}
 use Rattle.tableau.proofs.FormLaws.{eliminated, passColumns-steps}
 use Rattle.tableau.proofs.TableLaws.{tableau-count, tableau-length, tableau-independent, tableau-generators, tableau-reaches}
 use Rattle.tableau.proofs.FoundLaws.{tells-same, tells-none, tells-unique}
@@ -32,10 +33,11 @@ use Rattle.tableau.specs.Theorems.{SolveTells, SolveSome, SolveNone, Sol
 
 -- ---- elimination
 pub gathering-ends : GatheringEnds
-gathering-ends n c b B j p h f l = (gather-alone h p j p (omega arith), gather-fuel h f p j p j p l (omega arith))
+gathering-ends n c b B j p h f l = 
+    (gather-alone nearest-shrinks h p j p (omega arith), gather-fuel nearest-shrinks h f p j p j p l (omega arith))
 
 pub elimination-form : EliminationForm
-elimination-form n T l i = eliminated n T l i
+elimination-form n T l i = eliminated nearest-shrinks n T l i
 
 -- ---- uniqueness
 pub form-unique : FormUnique
@@ -44,16 +46,19 @@ form-unique = Forms.hermite-unique
 pub reduced-unique : ReducedUnique
 reduced-unique = Forms.reduced-unique
 
+-- two tables of one span have one form
+pub forms-same : {n : ℕ} {T U F G : List (List ℤ)} → Eliminated n T F → Eliminated n U G → Same n T U → F ≡ G
+forms-same {n} {T} {U} {F} {G} t u s =
+    let w : Same n F G = record { both = λ v l. Iff·trans (Iff·symm (t .keeps .both v l)) (Iff·trans (s .both v l) (u .keeps .both v l)) } in
+    t .is
+    ∙ ap rows (form-unique (t .form) (u .form) (t .wide ∙ sym (u .wide)) (t .hermite) (u .hermite) (rw (t .wide, ← (t .is), ← (u .is)) w))
+    ∙ sym (u .is)
+
 pub elimination-unique : EliminationUnique
 elimination-unique n T U lt it lu iu =
-    let t : Eliminated n T = eliminated n T lt it in
-    let u : Eliminated n U = eliminated n U lu iu in (
-      (λ s.
-          let w : Same n (eliminate n T .table) (eliminate n U .table) =
-          record { both = λ v l. Iff·trans (Iff·symm (t .keeps .both v l)) (Iff·trans (s .both v l) (u .keeps .both v l)) } in
-          t .is
-          ∙ ap rows (form-unique (t .form) (u .form) (t .wide ∙ sym (u .wide)) (t .hermite) (u .hermite) (rw (t .wide, ← (t .is), ← (u .is)) w))
-          ∙ sym (u .is)),
+    let t : Eliminated n T (eliminate n T .table) = elimination-form n T lt it in
+    let u : Eliminated n U (eliminate n U .table) = elimination-form n U lu iu in (
+      forms-same t u,
       (λ e. record {
         both = λ v l. Iff·trans (t .keeps .both v l) (Iff·trans (rw e Iff·rfl) (Iff·symm (u .keeps .both v l)));
       }),
@@ -62,7 +67,7 @@ elimination-unique n T U lt it lu iu =
 -- ---- generator rows, of any problem or none
 pub reached-tells : ReachedTells
 reached-tells n m T over v g =
-    let t : Eliminated (m + n) T = eliminated (m + n) T (g .wide) (g .independent) in
+    let t : Eliminated (m + n) T (eliminate (m + n) T .table) = elimination-form (m + n) T (g .wide) (g .independent) in
     let F : List (List ℤ) = eliminate (m + n) T .table in
     tells-same n (λ (x : List ℤ). Span F (minus (zeros m ++ x) v)) (Reaches n m T v) (rightSide m F over v .found)
     (λ x l.
@@ -76,25 +81,26 @@ reached-same n m m′ T T′ over over′ v v′ g g′ =
     (reached-tells n m T over v g) (reached-tells n m′ T′ over′ v′ g′)
 
 pub problem-form : ProblemForm
-problem-form n A = eliminated (length A + n) (tableau n A) (tableau-length n A) (tableau-independent n A)
+unfolding form
+problem-form n A = elimination-form (length A + n) (tableau n A) (tableau-length n A) (tableau-independent n A)
 
 pub problem-count : ProblemCount
-unfolding form eliminate
-problem-count n A = sym (steps-count (passColumns-steps (length A + n) 0 [] (tableau n A))) ∙ tableau-count n A
+unfolding form eliminateBy
+problem-count n A = sym (steps-count (passColumns-steps nearestQuotient (length A + n) 0 [] (tableau n A))) ∙ tableau-count n A
 
 pub problem-wide : ProblemWide
-unfolding form eliminate
-problem-wide n A = steps-length (length A + n) (passColumns-steps (length A + n) 0 [] (tableau n A)) (tableau-length n A)
+unfolding form eliminateBy
+problem-wide n A = steps-length (length A + n) (passColumns-steps nearestQuotient (length A + n) 0 [] (tableau n A)) (tableau-length n A)
 
 pub problem-rising : ProblemRising
 unfolding form
 problem-rising n A =
-    let t : Eliminated (length A + n) (tableau n A) = problem-form n A in subst (Rising 0) (sym (t .is)) (rows-rising (t .form) (t .hermite))
+    let t : Eliminated (length A + n) (tableau n A) (form n A .table) = problem-form n A in subst (Rising 0) (sym (t .is)) (rows-rising (t .form) (t .hermite))
 
 pub problem-basis : ProblemBasis
 unfolding form
 problem-basis n A =
-    let t : Eliminated (length A + n) (tableau n A) = problem-form n A in
+    let t : Eliminated (length A + n) (tableau n A) (form n A .table) = problem-form n A in
     let K : Echelon = past (length A) (t .form) in
     let w : width K ≡ n = past-width (length A) n (t .form) (t .wide) in
     rw (t .is, basis-past (length A) (t .form) (t .hermite))
@@ -103,7 +109,7 @@ problem-basis n A =
 pub basis-rising : BasisRising
 unfolding form
 basis-rising n A =
-    let t : Eliminated (length A + n) (tableau n A) = problem-form n A in
+    let t : Eliminated (length A + n) (tableau n A) (form n A .table) = problem-form n A in
     rw (t .is, basis-past (length A) (t .form) (t .hermite))
     (rows-rising (past (length A) (t .form)) (past-hermite (length A) (t .form) (t .hermite)))
 

@@ -16,14 +16,16 @@ use lib.IntN.{ℤ, natAbs}
 use lib.ListN.{length, take, drop}
 use lib.Seq.{take-at, drop-at}
 use Rattle.whole.specs.Lists.{entry}
+use Rattle.whole.specs.Quotient.{nearestQuotient}
 use Rattle.lattice.specs.Rows.{ZeroTo, flat, chop}
 use Rattle.lattice.proofs.RowLaws.{ZeroTo-plus, ZeroTo-neg}
 use Rattle.lattice.specs.Span.{All, Len}
 use Rattle.lattice.proofs.Span.{steps-length, steps-all}
 use Rattle.lattice.proofs.FlatLaws.{chop-next, chop-flat, flat-chop, length-chop}
+use Rattle.tableau.specs.Elimination.{clearBy}
 use Rattle.tableau.specs.Elimination.{Gathered, Choice, none, at, choose, clear, onward}
 use Rattle.tableau.specs.Gathering.{Chosen, gathering}
-use Rattle.tableau.proofs.GatherLaws.{chosen-stands, round-steps, round-lead, round-next, following, gathering-round}
+use Rattle.tableau.proofs.GatherLaws.{nearest-shrinks, chosen-stands, round-steps, round-lead, round-next, following, gathering-round}
 use Rattle.tableau.specs.Within.{Within}
 use Rattle.tableau.specs.Tails.{Tail, Picked, lowerFirst, roundOf, gatheringOf}
 use Rattle.tableau.proofs.Walking.{each-count}
@@ -46,15 +48,15 @@ module _ {k w c j : ℕ} {t : List ℤ} (h : Tail k w c t) (g : Picked k w c t j
 
   pub last-one : natAbs (entry c (x .pivot)) ≡ 1 → choose c (x .below) ≡ none
   last-one e =
-      round-next (g .is) (λ (z : Choice). z ≡ none) (λ _. refl)
-      (λ i p l h′. absurd (omega (arith, chosen-stands h′ .0, ap natAbs (round-lead (g .is)))))
+      round-next (g .is) nearest-shrinks (λ (z : Choice). z ≡ none) (λ _. refl)
+      (λ i p l h′. absurd (omega (arith, chosen-stands h′ .0, ap natAbs (round-lead (g .is) nearestQuotient))))
 
   -- ---- what the round leaves
   rows-wide : All (Len w) (x .pivot ∷ x .below)
-  rows-wide = steps-length w (round-steps c (take w t) (chop (k - 1) w (drop w t))) (g .is .wide)
+  rows-wide = steps-length w (round-steps nearestQuotient c (take w t) (chop (k - 1) w (drop w t))) (g .is .wide)
 
   count : length (x .below) ≡ k - 1
-  unfolding clear
+  unfolding clearBy
   count =
       ap (λ (y : Gathered). length (y .below)) (round-is h g)
       ∙ each-count _ (chop (k - 1) w (drop w (lowerFirst w j t)))
@@ -68,7 +70,7 @@ module _ {k w c j : ℕ} {t : List ℤ} (h : Tail k w c t) (g : Picked k w c t j
 
   front : All (ZeroTo c) (x .pivot ∷ x .below)
   front =
-      steps-all (ZeroTo c) (ZeroTo-neg c) (ZeroTo-plus c) (round-steps c (take w t) (chop (k - 1) w (drop w t)))
+      steps-all (ZeroTo c) (ZeroTo-neg c) (ZeroTo-plus c) (round-steps nearestQuotient c (take w t) (chop (k - 1) w (drop w t)))
       (subst (All (ZeroTo c)) (chop-next k w t (g .some)) (h .front))
 
   module _ {u : List ℤ} (o : x .over ≡ false) (s : u ≡ flat (x .pivot ∷ x .below)) (l : length u ≡ length t) where
@@ -99,7 +101,7 @@ module _ {k w c j : ℕ} {t : List ℤ} (h : Tail k w c t) (g : Picked k w c t j
         × Chosen w c (take w u) (chop (k - 1) w (drop w u)) (i + 1) p
     going-on i p e =
         let n : (p < g .size) × Chosen w c (x .pivot) (x .below) (suc i) p =
-        round-next (g .is) (λ (z : Choice). z ≡ at i p → (p < g .size) × Chosen w c (x .pivot) (x .below) (suc i) p)
+        round-next (g .is) nearest-shrinks (λ (z : Choice). z ≡ at i p → (p < g .size) × Chosen w c (x .pivot) (x .below) (suc i) p)
         (λ _ f. absurd (never f))
         (λ i′ p′ l′ h′ f.
         let a : i′ ≡ i = cc in

@@ -18,12 +18,13 @@ use lib.ListN.{length, take, drop, length-append, length-drop}
 use lib.Seq.{length-take-le, take-all}
 use Rattle.whole.specs.Lists.{entry}
 use Rattle.whole.specs.Tests.{isZero}
-use Rattle.whole.specs.Quotient.{gatheringQuotient}
+use Rattle.whole.specs.Quotient.{nearestQuotient}
 use Rattle.lattice.specs.Rows.{flat, chop}
 use Rattle.lattice.proofs.RowLaws.{length-plus}
 use Rattle.lattice.specs.Span.{All, Len}
 use Rattle.lattice.proofs.FlatLaws.{put-take, put-drop}
 use Rattle.lattice.proofs.RowsAhead.{RowsAhead, ahead, row, row-wide, rows, apart, behind}
+use Rattle.tableau.specs.Elimination.{loweredBy}
 use Rattle.tableau.specs.Elimination.{Left, kept, subtract, lowered, reduced, Run, each}
 use Rattle.tableau.specs.Within.{Within}
 use Rattle.tableau.proofs.Within.{within-append, within-take, within-drop}
@@ -127,10 +128,10 @@ ends {f} {w} {k} {t₀} {t} {at} {left} h e =
 
 -- ---- the step by a pivot
 lowered-step : (c : ℕ) (r : List ℤ) → Step (lowered c r)
-unfolding lowered
+unfolding loweredBy
 lowered-step c r = record {
-  wide = λ s. go (isZero (entry c s)) s (gatheringQuotient (entry c s) (entry c r));
-  holds = λ s. go-2 (isZero (entry c s)) s (gatheringQuotient (entry c s) (entry c r));
+  wide = λ s. go (isZero (entry c s)) s (nearestQuotient (entry c s) (entry c r));
+  holds = λ s. go-2 (isZero (entry c s)) s (nearestQuotient (entry c s) (entry c r));
 }
   where
     go : (b : Bool) (s : List ℤ) (q : ℤ) → length (cond b (kept s) (subtract q r s) .row) ≡ length s

@@ -3,12 +3,15 @@
 --   matrixOf p a     the matrix, its rows one after the other in the coefficients
 --   formOf p a       the form of the tableau
 --   formAfter x t    what the buffer t of a table holds after the steps x
---   Outcome          what is answered, whether a number beyond ±M was left, and what the lent table holds then
---   outcome x t      that of the steps x on the table that lay in t
---   eliminatedOf k w t   the elimination of the k rows of w numbers in t
+--   Tally            whether a number beyond ±M was left, and the rounds (declared in src/)
+--   tallyOf x k      that of the steps x, which take k rounds. Document 02, (vii): "A refusal returns 0 rounds."
+--   formTally p a    that of the form
+--   Outcome          what is answered, and what the lent table holds then
+--   outcome x k t    that of the steps x, which take k rounds, on the table that lay in t
+--   eliminatedOf k w t, roundsOf k w t   the elimination of the k rows of w numbers in t, and its rounds
 -- Assumes nothing.
 use mathlib.Core.Path.{_≡_}
-use mathlib.Core.Bool.{Bool, true, cond}
+use mathlib.Core.Bool.{true, cond}
 use mathlib.Core.List.{List}
 use Prim.Native.Nat.{ℕ, _+_, _*_, _≤_}
 use lib.IntN.{ℤ}
@@ -19,7 +22,9 @@ use Rattle.problem.specs.Limits.{groupRows, groupColumns, maxCoefficient}
 use Rattle.problem.specs.Checks.{allSpan}
 use Rattle.problem.specs.declared.Problem.{Problem}
 use Rattle.tableau.specs.Elimination.{Run, eliminate}
+use Rattle.tableau.specs.RoundCount.{rounds, formRounds, refusedNone}
 use Rattle.tableau.specs.RightSide.{form}
+use Rattle.tableau.specs.declared.Tally.{Tally}
 
 pub record Formable (p : Problem) (t a : List ℤ) : Type 0 where
   pub columns : p .columns ≤ groupColumns
@@ -37,12 +42,21 @@ formOf p a = form (p .columns) (matrixOf p a)
 abbrev pub formAfter : Run → List ℤ → List ℤ
 formAfter x t = cond (x .over) (zeros (length t)) (flat (x .table))
 
+abbrev pub tallyOf : Run → ℕ → Tally
+tallyOf x k = record { over = x .over; rounds = refusedNone (x .over) k }
+
+abbrev pub formTally : Problem → List ℤ → Tally
+formTally p a = tallyOf (formOf p a) (formRounds (p .columns) (matrixOf p a))
+
 pub record Outcome : Type 0 where
-  pub over : Bool
+  pub tally : Tally
   pub left : List ℤ
 
-abbrev pub outcome : Run → List ℤ → Outcome
-outcome x t = record { over = x .over; left = formAfter x t }
+abbrev pub outcome : Run → ℕ → List ℤ → Outcome
+outcome x k t = record { tally = tallyOf x k; left = formAfter x t }
 
 abbrev pub eliminatedOf : ℕ → ℕ → List ℤ → Run
 eliminatedOf k w t = eliminate w (chop k w t)
+
+abbrev pub roundsOf : ℕ → ℕ → List ℤ → ℕ
+roundsOf k w t = rounds w (chop k w t)

@@ -6,7 +6,7 @@
 --   liftedRow w c j t  row j, negated if its entry is negative
 --   Lifted             the row that is brought to the top, and the tail then
 --   Gathers            what a function that gathers, and stops at a number beyond ±M, answers and leaves
---   roundOf, gatheringOf   a round, and gathering, of a tail
+--   roundOf, gatheringOf   a round, and gathering, of a tail; gatheringRoundsOf, its rounds
 -- Assumes nothing.
 use mathlib.Core.Path.{_≡_}
 use mathlib.Core.Bool.{Bool, false}
@@ -18,7 +18,7 @@ use Rattle.whole.specs.Lists.{entry}
 use Rattle.lattice.specs.Rows.{ZeroTo, flat, chop}
 use Rattle.lattice.specs.Span.{All}
 use Rattle.tableau.specs.Elimination.{Gathered, signed, round}
-use Rattle.tableau.specs.Gathering.{Chosen, gathering}
+use Rattle.tableau.specs.Gathering.{Chosen, gathering, gatheringRounds}
 use Rattle.tableau.specs.Within.{Within}
 
 pub record Tail (k w c : ℕ) (t : List ℤ) : Type 0 where
@@ -57,3 +57,6 @@ roundOf k w c t = round c (take w t) (chop (k - 1) w (drop w t))
 
 abbrev pub gatheringOf : ℕ → ℕ → ℕ → List ℤ → Gathered
 gatheringOf k w c t = gathering c (take w t) (chop (k - 1) w (drop w t))
+
+abbrev pub gatheringRoundsOf : ℕ → ℕ → ℕ → List ℤ → ℕ
+gatheringRoundsOf k w c t = gatheringRounds c (take w t) (chop (k - 1) w (drop w t))

@@ -1,5 +1,5 @@
 -- The theorems on the tableau and the right side, over unbounded whole numbers.
---   Eliminated n T      what elimination leaves of a table of n columns: a Hermite form with the table's span
+--   Eliminated n T F    F is what elimination leaves of a table T of n columns: a Hermite form with the table's span
 --   GatheringEnds       the rounds of a column end
 --   EliminationForm     elimination keeps the row span and leaves a Hermite form
 --   FormUnique          a span has one Hermite form
@@ -37,12 +37,12 @@ use Rattle.tableau.specs.RightSide.{basis, none, some, rightSide, form, 
 use Rattle.tableau.specs.Generators.{Generators, Reaches, Tells, Sized}
 use Rattle.tableau.specs.Gathering.{Chosen, Alone}
 
-pub record Eliminated (n : ℕ) (T : List (List ℤ)) : Type 0 where
+pub record Eliminated (n : ℕ) (T F : List (List ℤ)) : Type 0 where
   pub form : Echelon
   pub wide : width form ≡ n
   pub hermite : Hermite form
-  pub is : eliminate n T .table ≡ rows form
-  pub keeps : Same n T (eliminate n T .table)
+  pub is : F ≡ rows form
+  pub keeps : Same n T F
 
 -- ---- elimination
 -- As many rounds as the first magnitude chosen leave the pivot's entry above 0 and every lower entry 0. More rounds leave the same, and the same
@@ -56,7 +56,7 @@ GatheringEnds =
 -- same lists of n numbers as the table did (`keeps`). That it ends is `GatheringEnds`: every other step is once for each row or column.
 abbrev pub EliminationForm : Type 0
 EliminationForm =
-    (n : ℕ) (T : List (List ℤ)) → All (Len n) T → Independent n T → Eliminated n T
+    (n : ℕ) (T : List (List ℤ)) → All (Len n) T → Independent n T → Eliminated n T (eliminate n T .table)
 
 -- ---- uniqueness
 -- Two Hermite forms of one span are the same.
@@ -95,7 +95,7 @@ ReachedSame =
 -- A problem's tableau has independent rows, so that its form is a Hermite form
 abbrev pub ProblemForm : Type 0
 ProblemForm =
-    (n : ℕ) (A : List (List ℤ)) → Eliminated (length A + n) (tableau n A)
+    (n : ℕ) (A : List (List ℤ)) → Eliminated (length A + n) (tableau n A) (form n A .table)
 
 abbrev pub ProblemCount : Type 0
 ProblemCount =

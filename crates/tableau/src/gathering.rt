@@ -4,12 +4,15 @@ ghost use lib.ListN.{length, take, drop};
 ghost use Rattle.whole.specs.Lists.{entry};
 ghost use Rattle.lattice.specs.Rows.{ZeroTo, chop};
 ghost use Rattle.tableau.specs.Elimination as Elimination;
-ghost use Rattle.tableau.specs.Choices.{choiceOf, below, counted, nonzeros, Chooses};
-ghost use Rattle.tableau.specs.Tails.{Tail, Picked, brought, Lifted, Gathers, roundOf, gatheringOf};
+ghost use Rattle.tableau.specs.Choices.{choiceOf, below, counted, Chooses};
+ghost use Rattle.tableau.specs.RoundCount.{refusedNone};
+ghost use Rattle.tableau.specs.Tails.{Tail, Picked, brought, Lifted, Gathers, roundOf, gatheringOf, gatheringRoundsOf};
 ghost use Rattle.tableau.specs.Within.{Within};
+use crate::Tally;
 use crate::rows::Way;
 use crate::rows::negate;
 use crate::tables::each;
+use whole::bit_length;
 use whole::buffers::copy;
 use whole::less;
 use whole::magnitude;
@@ -117,39 +120,58 @@ fn round(t: &mut [i64], rows: usize, pivot: &mut [i64], c: usize, j: usize) -> b
     each(&mut t[w..], rows - 1, pivot, c, Way::Below)
 }
 
-// The rounds of one column, from the chosen row on, until the rows below the first have only 0 there. A pivot of 1 leaves nothing else.
-fn rounds(t: &mut [i64], rows: usize, pivot: &mut [i64], c: usize, chosen: usize) -> bool
+// The rounds of one column, from the choice z on, until the rows below the first have only 0 there. Each at least halves the magnitude chosen, so
+// that there are no more of them than the first one has binary digits: after so many nothing is left to look for.
+fn rounds(t: &mut [i64], rows: usize, pivot: &mut [i64], c: usize, z: Choice) -> Tally
     requires { ⌜ Tail rows (length (now pivot)) c (now t) ⌝ }
-    requires { ⌜ Picked rows (length (now pivot)) c (now t) chosen ⌝ }
-    ensures { λ r. ⌜ Gathers (gatheringOf rows (length (now (pivot .entry))) c (now (t .entry))) r (now (t .exit)) (now (pivot .exit)) ⌝ }
+    requires { ⌜ Picked rows (length (now pivot)) c (now t) (z .row) ⌝ }
+    requires { ⌜ Chooses c (chop rows (length (now pivot)) (now t)) z ⌝ }
+    ensures { λ r. ⌜ Gathers (gatheringOf rows (length (now (pivot .entry))) c (now (t .entry))) (r .over) (now (t .exit)) (now (pivot .exit)) ⌝ }
+    ensures { λ r. ⌜ r .rounds ≡ refusedNone (r .over) (gatheringRoundsOf rows (length (now (pivot .entry))) c (now (t .entry))) ⌝ }
 {
     let w = pivot.len();
-    let mut j = chosen;
+    let most = bit_length(z.size);
+    let mut j = z.row;
+    let mut count = 0;
     loop {
         if round(t, rows, pivot, c, j) {
-            return true;
+            return Tally {
+                over: true,
+                rounds: 0,
+            };
         }
-        if magnitude(pivot[c]) == 1 {
-            return false;
+        count += 1;
+        if count == most {
+            return Tally {
+                over: false,
+                rounds: count,
+            };
         }
-        let z = choose(&t[w..], rows - 1, w, c);
-        if z.count == 0 {
-            return false;
+        let next = choose(&t[w..], rows - 1, w, c);
+        if next.count == 0 {
+            return Tally {
+                over: false,
+                rounds: count,
+            };
         }
-        j = z.row + 1;
+        j = next.row + 1;
     }
 }
 
 // Gathers one column, from the choice z on. A lone entry leaves nothing to take away. The first row is then in the pivot too.
-pub(crate) fn gather(t: &mut [i64], rows: usize, pivot: &mut [i64], c: usize, z: Choice) -> bool
+pub(crate) fn gather(t: &mut [i64], rows: usize, pivot: &mut [i64], c: usize, z: Choice) -> Tally
     requires { ⌜ Tail rows (length (now pivot)) c (now t) ⌝ }
     requires { ⌜ Picked rows (length (now pivot)) c (now t) (z .row) ⌝ }
-    requires { ⌜ z .count ≡ nonzeros c (chop rows (length (now pivot)) (now t)) ⌝ }
-    ensures { λ r. ⌜ Gathers (gatheringOf rows (length (now (pivot .entry))) c (now (t .entry))) r (now (t .exit)) (now (pivot .exit)) ⌝ }
+    requires { ⌜ Chooses c (chop rows (length (now pivot)) (now t)) z ⌝ }
+    ensures { λ r. ⌜ Gathers (gatheringOf rows (length (now (pivot .entry))) c (now (t .entry))) (r .over) (now (t .exit)) (now (pivot .exit)) ⌝ }
+    ensures { λ r. ⌜ r .rounds ≡ refusedNone (r .over) (gatheringRoundsOf rows (length (now (pivot .entry))) c (now (t .entry))) ⌝ }
 {
     if z.count == 1 {
         lift(t, pivot, c, z.row);
-        return false;
+        return Tally {
+            over: false,
+            rounds: 1,
+        };
     }
-    rounds(t, rows, pivot, c, z.row)
+    rounds(t, rows, pivot, c, z)
 }

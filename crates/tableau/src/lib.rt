@@ -6,7 +6,7 @@ ghost use Rattle.tableau.specs.Table.{maxWidth};
 ghost use Rattle.tableau.specs.Elimination.{reduced};
 ghost use Rattle.tableau.specs.RowSteps.{Pivot, leftAfter};
 ghost use Rattle.tableau.specs.Within.{Within};
-ghost use Rattle.tableau.specs.LentTable.{Formable, formOf, formAfter, outcome, eliminatedOf};
+ghost use Rattle.tableau.specs.LentTable.{Formable, formOf, formAfter, formTally, outcome, eliminatedOf, roundsOf};
 
 mod elimination;
 mod filling;
@@ -25,6 +25,12 @@ use whole::buffers::wipe;
 // The most numbers that a row of a table can have.
 pub const MAX_WIDTH: usize = Group::MAX_ROWS + Group::MAX_COLUMNS;
 
+// What elimination tells: whether a number beyond M was left, and how many rounds it took; 0 where one was left.
+pub struct Tally {
+    pub over: bool,
+    pub rounds: u32,
+}
+
 // Takes the pivot, whose first number other than 0 is at c, from a row, so that its number there is reduced. Where a number beyond M is
 // left, the answer is true and the row is all 0.
 pub fn reduce(row: &mut [i64], pivot: &[i64], c: usize) -> bool
@@ -40,24 +46,25 @@ pub fn reduce(row: &mut [i64], pivot: &[i64], c: usize) -> bool
     false
 }
 
-// The Hermite form of a table of rows of w numbers. Where a number beyond M is left, the answer is true and the table is all 0.
-pub fn eliminate(t: &mut [i64], rows: usize, w: usize) -> bool
+// The Hermite form of a table of rows of w numbers. Where a number beyond M is left, the table is all 0.
+pub fn eliminate(t: &mut [i64], rows: usize, w: usize) -> Tally
     requires { ⌜ (length (now t) ≡ rows * w) × (w ≤ maxWidth) ⌝ }
     requires { ⌜ Within (now t) ⌝ }
-    ensures { λ r. ⌜ record { over = r; left = now (t .exit) } ≡ outcome (eliminatedOf rows w (now (t .entry))) (now (t .entry)) ⌝ }
+    ensures { λ r. ⌜ record { tally = r; left = now (t .exit) }
+        ≡ outcome (eliminatedOf rows w (now (t .entry))) (roundsOf rows w (now (t .entry))) (now (t .entry)) ⌝ }
 {
     let mut pivot = [0i64; MAX_WIDTH];
-    if pass_all(t, rows, &mut pivot[..w]) {
+    let tally = pass_all(t, rows, &mut pivot[..w]);
+    if tally.over {
         wipe(t);
-        return true;
     }
-    false
+    tally
 }
 
-// The form of a problem's tableau in t. Where it is past the elimination limit, the answer is true and t is all 0.
-pub fn form(t: &mut [i64], p: Problem, coefficients: &[i64]) -> bool
+// The form of a problem's tableau in t. Where it is past the elimination limit, t is all 0.
+pub fn form(t: &mut [i64], p: Problem, coefficients: &[i64]) -> Tally
     requires { ⌜ Formable p (now t) (now coefficients) ⌝ }
-    ensures { λ r. ⌜ r ≡ formOf p (now (coefficients .entry)) .over ⌝ }
+    ensures { λ r. ⌜ r ≡ formTally p (now (coefficients .entry)) ⌝ }
     ensures { λ _. ⌜ now (t .exit) ≡ formAfter (formOf p (now (coefficients .entry))) (now (t .entry)) ⌝ }
 {
     fill(t, p, coefficients);

@@ -77,14 +77,14 @@ fn subtract(row: &mut [i64], pivot: &[i64], q: i64) -> bool
 
 // How often the pivot goes into the entry e, by the rule of these rows. Most pivots are 1, and need no division.
 fn quotient(e: i64, p: i64, way: Way) -> i64
-    requires { ⌜ pos 0 <ℤ p ⌝ }
+    requires { ⌜ (natAbs e ≤ M) × (natAbs p ≤ M) × (pos 0 <ℤ p) ⌝ }
     ensures { λ r. ⌜ r ≡ quotientOf way e p ⌝ }
 {
     if p == 1 {
         return e;
     }
     match way {
-        Way::Below => whole::gathering_quotient(e, p),
+        Way::Below => whole::nearest_quotient(e, p),
         Way::Above => whole::floor_quotient(e, p),
     }
 }
