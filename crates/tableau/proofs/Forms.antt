@@ -34,7 +34,9 @@ use Rattle.tableau.specs.RightSide.{form}
 use Rattle.tableau.proofs.TableLaws.{tableau-count, tableau-length}
 use Rattle.tableau.proofs.Theorems.{problem-form, problem-count, problem-wide}
 use Rattle.tableau.specs.RowSteps.{Leads}
-use Rattle.tableau.specs.LentTable.{Formable, matrixOf, formOf, formAfter, Outcome, outcome, eliminatedOf}
+use Rattle.tableau.specs.LentTable.{Formable, matrixOf, formOf, formAfter, tallyOf, Outcome, outcome, eliminatedOf, roundsOf}
+use Rattle.tableau.specs.RoundCount.{rounds, formRounds, refusedNone}
+use Rattle.tableau.specs.declared.Tally.{Tally}
 use Rattle.tableau.proofs.Staying.{flat-all, all-flat, eliminate-all}
 use Rattle.tableau.proofs.Tableaus.{tableau-within}
 
@@ -52,11 +54,11 @@ hermite-leads : (H : Echelon) → Hermite H → All Leads (rows H)
 hermite-leads H h = all-map (Led (width H)) Leads (λ r l. l .above) (rows H) (rows-led H h)
 
 -- ---- the form
-abbrev by-length : Run → ℕ → Outcome
-by-length x i = record { over = x .over; left = cond (x .over) (zeros i) (flat (x .table)) }
+abbrev by-length : Run → ℕ → ℕ → Outcome
+by-length x k i = record { tally = tallyOf x k; left = cond (x .over) (zeros i) (flat (x .table)) }
 
-abbrev told : Bool → List ℤ → Outcome
-told r u = record { over = r; left = u }
+abbrev told : Tally → List ℤ → Outcome
+told r u = record { tally = r; left = u }
 
 pub record Formed (p : Problem) (F : Run) (t : List ℤ) : Type 0 where
   pub rows : chop (p .columns) (p .rows + p .columns) t ≡ F .table
@@ -93,8 +95,15 @@ module _ {p : Problem} {t a : List ℤ} (h : Formable p t a) where
   unfolding form
   form-is = ap (λ (i : ℕ). eliminate (i + n) (tableau n A)) (sym count)
 
-  pub form-outcome : {u : List ℤ} → u ≡ flat (tableau n A) → length u ≡ length t → outcome (eliminatedOf n w u) u ≡ outcome (formOf p a) t
-  form-outcome {u} e l = ap₂ by-length (ap (eliminatedOf n w) e ∙ ap (eliminate w) table-rows ∙ form-is) l
+  rounds-is : rounds w (tableau n A) ≡ formRounds n A
+  unfolding formRounds
+  rounds-is = ap (λ (i : ℕ). rounds (i + n) (tableau n A)) (sym count)
+
+  pub form-outcome : {u : List ℤ} → u ≡ flat (tableau n A) → length u ≡ length t
+      → outcome (eliminatedOf n w u) (roundsOf n w u) u ≡ outcome (formOf p a) (formRounds n A) t
+  form-outcome {u} e l =
+      let T : chop n w u ≡ tableau n A = ap (chop n w) e ∙ table-rows in
+      λ i. by-length ((ap (eliminate w) T ∙ form-is) i) ((ap (rounds w) T ∙ rounds-is) i) (l i)
 
   form-rows : formOf p a .table ≡ rows (problem-form n A .form)
   unfolding form
@@ -118,9 +127,11 @@ module _ {p : Problem} {t a : List ℤ} (h : Formable p t a) where
       }
 
 -- ---- the buffer
-pub outcome-by : (x : Run) (t : List ℤ) {r : Bool} {u : List ℤ} → r ≡ x .over → u ≡ cond r (zeros (length t)) (flat (x .table))
-    → told r u ≡ outcome x t
-outcome-by x t e f = ap₂ told e (f ∙ ap (λ (o : Bool). cond o (zeros (length t)) (flat (x .table))) e)
+pub outcome-by : (x : Run) (k : ℕ) (t : List ℤ) {r : Tally} {u : List ℤ} → r .over ≡ x .over → r .rounds ≡ refusedNone (r .over) k
+    → u ≡ cond (r .over) (zeros (length t)) (flat (x .table)) → told r u ≡ outcome x k t
+outcome-by x k t e c f =
+    ap₂ told (λ i. record { over = e i; rounds = (c ∙ ap (λ (o : Bool). refusedNone o k) e) i })
+    (f ∙ ap (λ (o : Bool). cond o (zeros (length t)) (flat (x .table))) e)
 
 pub form-over : (p : Problem) (a t : List ℤ) → formOf p a .over ≡ true → formAfter (formOf p a) t ≡ zeros (length t)
 form-over p a t e = ap (λ (o : Bool). cond o (zeros (length t)) (flat (formOf p a .table))) e

@@ -21,7 +21,8 @@ use Rattle.whole.specs.Lists.{entry, zeros}
 use Rattle.whole.specs.Quotient.{floorQuotient, nearestQuotient}
 use Rattle.whole.specs.Tests.{positive, Positive}
 use Rattle.whole.proofs.Integers.{rep, diff-rel, positive-nonzero, natAbs-zero, floorQuotient-left, add-none}
-use Rattle.whole.proofs.Nearest.{nearest-left, nearest-small}
+use Rattle.whole.proofs.Nearest as Nearest
+use Rattle.whole.proofs.Nearest.{nearest-small, nearest-one}
 use Rattle.whole.proofs.Signed.{abs-add, abs-mul, abs-neg}
 use Rattle.lattice.specs.Rows.{plus, ZeroTo}
 use Rattle.lattice.proofs.RowLaws.{plus-none}
@@ -42,32 +43,16 @@ inside {w} {c} {r} h = go (ltb c (length r)) refl
     go false e = absurd (positive-nonzero (h .lead) (List·getD-eq-default r (pos 0) {n = c} (ltb-false c (length r) e)))
 
 -- ---- the quotient's size
-part : (x q p : ℤ) → q *ℤ p ≡ x +ℤ negℤ (x +ℤ negℤ q *ℤ p)
-part x q p = rw (rep x, rep q, rep p) (simp diff-rel (omega arith))
-
-small : (a b k : ℕ) → a * suc k < b + suc k → a ≤ b
-small a b k h = go (ltb b a) refl
-  where
-    go : (t : Bool) → ltb b a ≡ t → a ≤ b
-    go true e = let l : suc b * suc k ≤ a * suc k = mul-le-mul-right (suc k) (ltb-true b a e) in absurd (omega arith)
-    go false e = ltb-false b a e
-
-by-rest : {p : ℤ} (x q : ℤ) → Positive p → natAbs (x +ℤ negℤ q *ℤ p) < natAbs p → natAbs q ≤ natAbs x
-by-rest x q (positive k) h =
-    let y : ℤ = x +ℤ negℤ q *ℤ pos (suc k) in
-    small (natAbs q) (natAbs x) k
-    (omega (arith, abs-mul q (pos (suc k)), ap natAbs (part x q (pos (suc k))), abs-add x (negℤ y), abs-neg y))
-
 pub quotient-small : {p : ℤ} (way : Way) (x : ℤ) → Positive p → natAbs (quotientOf way x p) ≤ natAbs x
-quotient-small {p} Below x h = by-rest x (nearestQuotient x p) h (nearest-left x h)
-quotient-small {p} Above x h = by-rest x (floorQuotient x p) h (floorQuotient-left x h)
+quotient-small {p} Below x h = nearest-small x h
+quotient-small {p} Above x h = Nearest.quotient-small x (floorQuotient x p) h (floorQuotient-left x h)
 
 by-one : (x : ℤ) → floorQuotient x (pos 1) ≡ x
 by-one (pos n) = ap pos (div-one n)
 by-one (negsuc n) = ap negsuc (div-one n)
 
 pub quotient-one : {p : ℤ} (way : Way) (x : ℤ) → p ≡ pos 1 → quotientOf way x p ≡ x
-quotient-one Below x e = ap (nearestQuotient x) e ∙ by-one x
+quotient-one Below x e = ap (nearestQuotient x) e ∙ nearest-one x
 quotient-one Above x e = ap (floorQuotient x) e ∙ by-one x
 
 -- ---- rows that stay

@@ -3,7 +3,9 @@
 --   nearest-low, -high   twice what it leaves lies in −p to p − 1: a half is rounded upwards
 --   nearest-half         so that twice the magnitude of what it leaves is at most p
 --   nearest-left         and that magnitude is below p, which is all that the steps of elimination ask of a quotient
---   nearest-small        the quotient is no larger than the entry
+--   quotient-small       a quotient that leaves less than p is no larger than the entry
+--   nearest-small        so is the nearest
+--   nearest-one          by 1 it is the entry
 -- Assumes nothing.
 use mathlib.Core.Path.{_≡_, ap}
 use Prim.Native.Nat.{ℕ, suc, _+_, _*_, _≤_, _<_}
@@ -13,7 +15,7 @@ use lib.IntN.{ℤ, pos, negsuc, negℤ, natAbs, _+ℤ_, _*ℤ_}
 use lib.Signed.{_≤ℤ_, _<ℤ_}
 use Rattle.whole.specs.Quotient.{nearestQuotient}
 use Rattle.whole.specs.Tests.{Positive, positive}
-use Rattle.whole.proofs.Integers.{positive-of, _⊖_, ⊖-pos, ⊖-negsuc, rep, diff-rel, floorQuotient-low, floorQuotient-high}
+use Rattle.whole.proofs.Integers.{natAbs-zero, positive-of, _⊖_, ⊖-pos, ⊖-negsuc, rep, diff-rel, floorQuotient-low, floorQuotient-high}
 use Rattle.whole.proofs.Signed.{abs-add, abs-mul, abs-neg}
 
 abbrev pub nearestLeft : ℤ → ℤ → ℤ
@@ -57,27 +59,25 @@ nearest-half e (positive k) = half-abs (nearestLeft e (pos (suc k))) (suc k) (ne
 pub nearest-left : {p : ℤ} (e : ℤ) → Positive p → natAbs (nearestLeft e p) < natAbs p
 nearest-left e (positive k) = omega (arith, nearest-half e (positive k))
 
--- q p is e less what is left
-product-is : (e q p : ℤ) → q *ℤ p ≡ e +ℤ negℤ (e +ℤ negℤ q *ℤ p)
-product-is e q p = rw (rep e, rep q, rep p) (simp diff-rel (omega arith))
+-- ---- how large a quotient is that leaves less than p
+part : (x q p : ℤ) → q *ℤ p ≡ x +ℤ negℤ (x +ℤ negℤ q *ℤ p)
+part x q p = rw (rep x, rep q, rep p) (simp diff-rel (omega arith))
 
-product-abs : (e q p : ℤ) → natAbs q * natAbs p ≤ natAbs e + natAbs (e +ℤ negℤ q *ℤ p)
-product-abs e q p =
-    omega (
-      arith,
-      abs-mul q p,
-      ap natAbs (product-is e q p),
-      abs-add e (negℤ (e +ℤ negℤ q *ℤ p)),
-      abs-neg (e +ℤ negℤ q *ℤ p),
-    )
+small : (a b k : ℕ) → a * suc k < b + suc k → a ≤ b
+small a b k h = le-of-suc-le-suc (lt-of-not-le (λ (g : b < a). omega (arith, mul-le-mul-right (suc k) g)))
 
--- a quotient beyond a would have a product beyond a and half a pivot
-small-from : (a d q k : ℕ) → q * suc k ≤ a + d → 2 * d ≤ suc k → q ≤ a
-small-from a d q k h l =
-    le-of-suc-le-suc (lt-of-not-le (λ (g : a < q). omega (arith, mul-le-mul-right (suc k) g)))
+pub quotient-small : {p : ℤ} (x q : ℤ) → Positive p → natAbs (x +ℤ negℤ q *ℤ p) < natAbs p → natAbs q ≤ natAbs x
+quotient-small x q (positive k) h =
+    let y : ℤ = x +ℤ negℤ q *ℤ pos (suc k) in
+    small (natAbs q) (natAbs x) k
+    (omega (arith, abs-mul q (pos (suc k)), ap natAbs (part x q (pos (suc k))), abs-add x (negℤ y), abs-neg y))
 
 pub nearest-small : {p : ℤ} (e : ℤ) → Positive p → natAbs (nearestQuotient e p) ≤ natAbs e
-nearest-small e (positive k) =
-    small-from (natAbs e) (natAbs (nearestLeft e (pos (suc k)))) (natAbs (nearestQuotient e (pos (suc k)))) k
-    (product-abs e (nearestQuotient e (pos (suc k))) (pos (suc k)))
-    (nearest-half e (positive k))
+nearest-small {p} e h = quotient-small e (nearestQuotient e p) h (nearest-left e h)
+
+-- ---- by 1
+whole : (x q : ℤ) → x +ℤ negℤ q *ℤ pos 1 ≡ pos 0 → q ≡ x
+whole x q = rw (rep x, rep q) (simp diff-rel (omega arith))
+
+pub nearest-one : (x : ℤ) → nearestQuotient x (pos 1) ≡ x
+nearest-one x = whole x (nearestQuotient x (pos 1)) (natAbs-zero _ (omega (arith, nearest-half x (positive 0))))

@@ -30,7 +30,7 @@ returns c =
     let after-fill = c .before .before .before .before .before in
     let start = after-fill .before .before in
     let e = c .before .eliminate .ensures ∙ form-outcome (start .pre) (after-fill .fill .ensures) (after-fill .fill .kept .0) in
-    (ap (λ (x : Outcome). x .over) e, ap (λ (x : Outcome). x .left) e)
+    (ap (λ (x : Outcome). x .tally) e, ap (λ (x : Outcome). x .left) e)
 
 pub form-spec : {M : Type 1} → statement M
 form-spec = tie.close (tie.spec fill-requires add-w eliminate-requires same-length returns)

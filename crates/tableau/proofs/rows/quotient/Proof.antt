@@ -1,5 +1,6 @@
 -- `tableau::rows::quotient` meets its contract: by 1 the quotient is the entry, else each way has its own. Assumes nothing.
 use mathlib.Core.Path.{sym, _∙_, ap}
+use native.Mathlib.Omega.{arith}
 use mir.Syntax.{w64}
 use mir.Val.{toZ}
 use mir.Facts.{toZ-ofZ}
@@ -17,19 +18,21 @@ returns c =
 enum-told : tie.Need-enum-told
 enum-told c = search needs
 
-gathering-quotient-requires : tie.Need-gathering-quotient-requires
-gathering-quotient-requires c κs = search needs
+nearest-quotient-requires : tie.Need-nearest-quotient-requires
+nearest-quotient-requires c κs =
+    let s = c .before .before .before in
+    rw (toZ-ofZ (s .fits .e), toZ-ofZ (s .fits .p)) (omega (arith, s .pre .0), omega (arith, s .pre .1), s .pre .2)
 
 enum-told-2 : tie.Need-enum-told-2
 enum-told-2 c = search needs
 
 floor-quotient-requires : tie.Need-floor-quotient-requires
-floor-quotient-requires c κs = search needs
+floor-quotient-requires c κs = let s = c .before .before .before in rw (toZ-ofZ (s .fits .p)) (s .pre .2)
 
 returns-2 : tie.Need-returns-2
 returns-2 c =
     let s = c .before .before .before .before in
-    cc (back (c .gathering-quotient .result) (c .gathering-quotient .ok), toZ-ofZ (s .fits .e), toZ-ofZ (s .fits .p))
+    cc (back (c .nearest-quotient .result) (c .nearest-quotient .ok), toZ-ofZ (s .fits .e), toZ-ofZ (s .fits .p))
 
 returns-3 : tie.Need-returns-3
 returns-3 c =
@@ -42,7 +45,7 @@ quotient-spec =
     (tie.spec
     returns
     enum-told
-    gathering-quotient-requires
+    nearest-quotient-requires
     enum-told-2
     floor-quotient-requires
     returns-2

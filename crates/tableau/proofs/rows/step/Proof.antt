@@ -72,7 +72,12 @@ shared-slice-copy-out-quotient : tie.Need-shared-slice-copy-out-quotient
 shared-slice-copy-out-quotient c = omega (arith, inside (c .before .before .before .pre .0), c .before .before .before .pre .0 .wide)
 
 quotient-requires : tie.Need-quotient-requires
-quotient-requires c κs = rw (back _ (c .quotient-arg .given)) (positive-above (c .before .before .before .before .pre .0 .lead))
+quotient-requires c κs =
+    let m = c .before .before .before in
+    let a = m .before .args in
+    let h = m .before .pre in
+    rw (back _ (m .e .given), back _ (c .quotient-arg .given))
+    (within-entry (a .row .now) (a .c) (h .1), within-entry (a .pivot .now) (a .c) (h .0 .small), positive-above (h .0 .lead))
 
 magnitude-requires-2 : tie.Need-magnitude-requires-2
 magnitude-requires-2 c κs = search needs
