@@ -2,21 +2,23 @@
 --   next-tail      u is such a tail again
 --   next-top, -below   its first row and the others are the round's
 --   marked         a number beyond ±M in the round is one in gathering
---   last-one       a pivot of 1 leaves only 0 below
---   finished       where the rows below have only 0 at c, gathering is done
---   going-on       else it goes on with a smaller choice, among the rows below
+--   last-round     where the choice has one binary digit, the rows below have only 0 at c then
+--   finished       where they have, gathering is done, with one round
+--   going-on       else it goes on with a choice of at most half, among the rows below, and has one round more
 -- Assumes nothing.
 use mathlib.Core.Path.{_≡_, refl, sym, _∙_, ap, ap₂, subst}
 use mathlib.Core.Bool.{Bool, true, false, _||_}
 use mathlib.Core.List.{List, _∷_}
-use Prim.Native.Nat.{ℕ, suc, _+_, _-_, _<_}
+use Prim.Native.Nat.{ℕ, suc, _+_, _*_, _-_, _<_, _≤_}
 use native.Mathlib.Numerals.{add-one}
 use native.Mathlib.Omega.{arith}
-use lib.IntN.{ℤ, natAbs}
+use lib.IntN.{ℤ}
 use lib.ListN.{length, take, drop}
 use lib.Seq.{take-at, drop-at}
 use Rattle.whole.specs.Lists.{entry}
 use Rattle.whole.specs.Quotient.{nearestQuotient}
+use Rattle.whole.specs.BitLength.{bitLength}
+use Rattle.whole.proofs.BitLength.{bits-some, bits-half}
 use Rattle.lattice.specs.Rows.{ZeroTo, flat, chop}
 use Rattle.lattice.proofs.RowLaws.{ZeroTo-plus, ZeroTo-neg}
 use Rattle.lattice.specs.Span.{All, Len}
@@ -24,10 +26,11 @@ use Rattle.lattice.proofs.Span.{steps-length, steps-all}
 use Rattle.lattice.proofs.FlatLaws.{chop-next, chop-flat, flat-chop, length-chop}
 use Rattle.tableau.specs.Elimination.{clearBy}
 use Rattle.tableau.specs.Elimination.{Gathered, Choice, none, at, choose, clear, onward}
-use Rattle.tableau.specs.Gathering.{Chosen, gathering}
-use Rattle.tableau.proofs.GatherLaws.{nearest-shrinks, chosen-stands, round-steps, round-lead, round-next, following, gathering-round}
+use Rattle.tableau.specs.Gathering.{Chosen, magnitude, gathering, gatheringRounds}
+use Rattle.tableau.proofs.GatherLaws.{nearest-shrinks, chosen-stands, round-steps, round-next, round-half, following, gathering-round}
+use Rattle.tableau.proofs.RoundLaws.{followingRounds, gatheringRounds-round}
 use Rattle.tableau.specs.Within.{Within}
-use Rattle.tableau.specs.Tails.{Tail, Picked, lowerFirst, roundOf, gatheringOf}
+use Rattle.tableau.specs.Tails.{Tail, Picked, lowerFirst, roundOf, gatheringOf, gatheringRoundsOf}
 use Rattle.tableau.proofs.Walking.{each-count}
 use Rattle.tableau.proofs.Staying.{flat-all, all-flat, round-all}
 use Rattle.tableau.proofs.Rounds.{round-is}
@@ -46,10 +49,15 @@ module _ {k w c j : ℕ} {t : List ℤ} (h : Tail k w c t) (g : Picked k w c t j
   pub finished : choose c (x .below) ≡ none → gatheringOf k w c t ≡ x
   finished e = gathering-round (g .is) ∙ ap (λ (z : Choice). following c z x) e
 
-  pub last-one : natAbs (entry c (x .pivot)) ≡ 1 → choose c (x .below) ≡ none
-  last-one e =
-      round-next (g .is) nearest-shrinks (λ (z : Choice). z ≡ none) (λ _. refl)
-      (λ i p l h′. absurd (omega (arith, chosen-stands h′ .0, ap natAbs (round-lead (g .is) nearestQuotient))))
+  pub finished-rounds : choose c (x .below) ≡ none → gatheringRoundsOf k w c t ≡ 1
+  finished-rounds e = gatheringRounds-round (g .is) ∙ ap (λ (z : Choice). suc (followingRounds c z x)) e
+
+  pub last-round : bitLength (g .size) ≤ 1 → choose c (x .below) ≡ none
+  last-round l =
+      round-next (g .is) nearest-shrinks (λ (z : Choice). 2 * magnitude z ≤ g .size → z ≡ none) (λ _ _. refl)
+      (λ i p _ h′ q.
+      absurd (omega (arith, bits-some p (chosen-stands h′ .0), bits-half p (g .size) (chosen-stands (g .is) .0) q)))
+      (round-half (g .is))
 
   -- ---- what the round leaves
   rows-wide : All (Len w) (x .pivot ∷ x .below)
@@ -95,9 +103,13 @@ module _ {k w c j : ℕ} {t : List ℤ} (h : Tail k w c t) (g : Picked k w c t j
     same : gatheringOf k w c u ≡ gathering c (x .pivot) (x .below)
     same = ap₂ (gathering c) next-top next-below
 
+    same-rounds : gatheringRoundsOf k w c u ≡ gatheringRounds c (x .pivot) (x .below)
+    same-rounds = ap₂ (gatheringRounds c) next-top next-below
+
     pub going-on : (i p : ℕ) → choose c (x .below) ≡ at i p
         → (gatheringOf k w c u ≡ gatheringOf k w c t)
-        × (p < g .size)
+        × (suc (gatheringRoundsOf k w c u) ≡ gatheringRoundsOf k w c t)
+        × (2 * p ≤ g .size)
         × Chosen w c (take w u) (chop (k - 1) w (drop w u)) (i + 1) p
     going-on i p e =
         let n : (p < g .size) × Chosen w c (x .pivot) (x .below) (suc i) p =
@@ -114,7 +126,8 @@ module _ {k w c j : ℕ} {t : List ℤ} (h : Tail k w c t) (g : Picked k w c t j
               (gathering-round (g .is)
               ∙ ap (λ (z : Choice). following c z x) e
               ∙ ap (λ (b : Bool). onward b (gathering c (x .pivot) (x .below))) o),
-          n .0,
+          ap suc same-rounds ∙ sym (gatheringRounds-round (g .is) ∙ ap (λ (z : Choice). suc (followingRounds c z x)) e),
+          subst (λ (z : Choice). 2 * magnitude z ≤ g .size) e (round-half (g .is)),
           subst (λ (m : ℕ). Chosen w c (take w u) (chop (k - 1) w (drop w u)) m p) (sym (add-one i)) (rw (next-top, next-below) (n .1)),
         )
       where
