@@ -12,6 +12,7 @@ pub mod Passing
 pub mod Tableaus
 pub mod Forms
 pub mod GatherLaws
+pub mod RoundLaws
 pub mod FormLaws
 pub mod FoundLaws
 pub mod RightLaws

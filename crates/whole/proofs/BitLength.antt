@@ -4,6 +4,8 @@
 --   length-below       2 ^ (bitLength n − 1) ≤ n, for n above 0
 --   length-least       no fewer digits hold n: n < 2 ^ j gives bitLength n ≤ j
 --   length-reach       and the other way round, 2 ^ j ≤ n gives j < bitLength n
+--   bits-some          a number above 0 has a digit
+--   bits-half          a number of at most half of another has fewer digits
 --   length-leading     the form of the machine: 64 less the count of leading zeros
 -- Assumes nothing.
 use mathlib.Core.Path.{_≡_, refl}
@@ -53,6 +55,16 @@ length-least j (suc n) h =
     le-of-suc-le-suc (lt-of-not-le (λ (g : j < bitLength (suc n)).
     let l : j ≤ bitLength (suc n) - 1 = omega arith in
     omega (arith, pow-mono l, length-below (suc n) (omega arith))))
+
+pub bits-some : (p : ℕ) → 0 < p → 0 < bitLength p
+bits-some p h = length-reach 0 p (omega arith)
+
+pub bits-half : (k p : ℕ) → 0 < p → 2 * k ≤ p → bitLength k < bitLength p
+unfolding bitLength bitsBy
+bits-half zero p h l = bits-some p h
+bits-half (suc k) p h l =
+    let b : ℕ = bitsBy k (suc k / 2) in
+    length-reach (suc b) p (omega (arith, pow-suc 2 b, below (suc k) (suc k) (omega arith)))
 
 pub length-leading : (n : ℕ) → n < 2 ^ 64 → 64 - leadingZeros 64 n ≡ bitLength n
 unfolding bitLength
