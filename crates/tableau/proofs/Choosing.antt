@@ -4,6 +4,7 @@
 --   counted-up     and the count then
 --   no-rows        no rows
 --   next-row       one row more, at the code's numbers
+--   chosen-size    the size that it holds is that of the choice
 --   few            there are no more entries other than 0 than rows
 -- Assumes nothing.
 use mathlib.Core.Path.{_≡_, refl, sym, _∙_, ap, ap₂}
@@ -20,6 +21,7 @@ use Rattle.lattice.specs.Rows.{chop}
 use Rattle.lattice.proofs.FlatLaws.{chop-split, chop-next, row-number, length-chop}
 use Rattle.tableau.specs.Elimination.{Choice, none, at, shifted, prefer, choose}
 use Rattle.tableau.specs.Choices.{sighted, choiceOf, below, counted, nonzeros, Chooses}
+use Rattle.tableau.specs.Tails.{Picked}
 use Rattle.tableau.specs.declared.gathering.Choice as code
 
 pub sighted-none : {n : ℕ} (j p : ℕ) → n ≡ 0 → sighted n j p ≡ none
@@ -28,6 +30,14 @@ sighted-none j p e = ap (λ (n : ℕ). sighted n j p) e
 pub sighted-some : (n j p : ℕ) → (n ≡ 0 → ⊥) → sighted n j p ≡ at j p
 sighted-some zero j p e = absurd (e refl)
 sighted-some (suc n) j p e = refl
+
+sighted-size : (n j p i q : ℕ) → sighted n j p ≡ at i q → p ≡ q
+sighted-size zero j p i q e = let z : _≡_ {A = ℕ} 0 1 = cc in absurd (omega arith)
+sighted-size (suc n) j p i q e = cc
+
+pub chosen-size : {k w c i : ℕ} {t : List ℤ} {z : code.Choice} (g : Picked k w c t i) → Chooses c (chop k w t) z → z .size ≡ g .size
+chosen-size {k} {w} {c} {i} {t} {z} g h =
+    sighted-size (z .count) (z .row) (z .size) i (g .size) (h .is ∙ ap (choose c) (chop-next k w t (g .some)) ∙ g .is .choice)
 
 -- ---- an entry below
 pub counted-up : (n k : ℕ) → (k ≡ 0 → ⊥) → n + 1 ≡ n + counted k

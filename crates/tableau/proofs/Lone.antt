@@ -1,5 +1,6 @@
 -- Laws of a lone entry, the only one other than 0 in its column.
 --   lone-stops   once its row is at the top, gathering is done
+--   lone-round   with one round
 -- Assumes nothing.
 use mathlib.Core.Path.{_≡_, refl, sym, _∙_, ap, ap₂, subst}
 use mathlib.Core.Bool.{false, _||_}
@@ -17,9 +18,9 @@ use Rattle.tableau.specs.Elimination.{clearBy, loweredBy}
 use Rattle.tableau.specs.Elimination.{Left, kept, lowered, Run, each, Choice, none, at, prefer, choose, Gathered, exchange, clear}
 use Rattle.tableau.proofs.GatherLaws.{chosen-stands}
 use Rattle.tableau.specs.Choices.{counted, nonzeros}
-use Rattle.tableau.specs.Tails.{Tail, Picked, lowerFirst, liftedRow, Lifted, Gathers, roundOf, gatheringOf}
+use Rattle.tableau.specs.Tails.{Tail, Picked, lowerFirst, liftedRow, Lifted, Gathers, roundOf, gatheringOf, gatheringRoundsOf}
 use Rattle.tableau.proofs.Rounds.{swapped, chosen-low, round-is, below-wide}
-use Rattle.tableau.proofs.Turns.{finished}
+use Rattle.tableau.proofs.Turns.{finished, finished-rounds}
 
 -- ---- rows with 0 at c
 Idle : ℕ → List ℤ → Type 0
@@ -95,10 +96,16 @@ module _ {k w c j : ℕ} {t p u : List ℤ} (h : Tail k w c t) (g : Picked k w c
       round-is h g
       ∙ ap (λ (y : Run). record { pivot = liftedRow w c j t; below = y .table; over = y .over }) (each-keeps c (liftedRow w c j t) others idle)
 
+  none-below : choose c (roundOf k w c t .below) ≡ none
+  none-below = ap (λ (y : Gathered). choose c (y .below)) round-here ∙ choose-idle c others idle
+
+  pub lone-round : gatheringRoundsOf k w c t ≡ 1
+  lone-round = finished-rounds h g none-below
+
   pub lone-stops : Gathers (gatheringOf k w c t) false u p
   lone-stops =
       subst (λ (y : Gathered). Gathers y false u p)
-      (sym (finished h g (ap (λ (y : Gathered). choose c (y .below)) round-here ∙ choose-idle c others idle) ∙ round-here)) (record {
+      (sym (finished h g none-below ∙ round-here)) (record {
         answer = refl;
         left = λ _. l .tail ∙ ap₂ (λ (x y : List ℤ). x ++ y) (l .pivot) (sym (flat-chop (k - 1) w (drop w (lowerFirst w j t)) (below-wide h g)));
         row = λ _. l .pivot;

@@ -112,14 +112,13 @@ module _ {k w c j : ℕ} {t : List ℤ} (h : Tail k w c t) (g : Picked k w c t j
         × (2 * p ≤ g .size)
         × Chosen w c (take w u) (chop (k - 1) w (drop w u)) (i + 1) p
     going-on i p e =
-        let n : (p < g .size) × Chosen w c (x .pivot) (x .below) (suc i) p =
-        round-next (g .is) nearest-shrinks (λ (z : Choice). z ≡ at i p → (p < g .size) × Chosen w c (x .pivot) (x .below) (suc i) p)
+        let n : Chosen w c (x .pivot) (x .below) (suc i) p =
+        round-next (g .is) nearest-shrinks (λ (z : Choice). z ≡ at i p → Chosen w c (x .pivot) (x .below) (suc i) p)
         (λ _ f. absurd (never f))
-        (λ i′ p′ l′ h′ f.
+        (λ i′ p′ _ h′ f.
         let a : i′ ≡ i = cc in
         let b : p′ ≡ p = cc in
-        subst (λ (m : ℕ). (p < g .size) × Chosen w c (x .pivot) (x .below) (suc m) p) a
-        (subst (λ (m : ℕ). (m < g .size) × Chosen w c (x .pivot) (x .below) (suc i′) m) b (l′, h′)))
+        subst (λ (m : ℕ). Chosen w c (x .pivot) (x .below) (suc m) p) a (subst (Chosen w c (x .pivot) (x .below) (suc i′)) b h′))
         e in (
           same
               ∙ sym
@@ -128,7 +127,7 @@ module _ {k w c j : ℕ} {t : List ℤ} (h : Tail k w c t) (g : Picked k w c t j
               ∙ ap (λ (b : Bool). onward b (gathering c (x .pivot) (x .below))) o),
           ap suc same-rounds ∙ sym (gatheringRounds-round (g .is) ∙ ap (λ (z : Choice). suc (followingRounds c z x)) e),
           subst (λ (z : Choice). 2 * magnitude z ≤ g .size) e (round-half (g .is)),
-          subst (λ (m : ℕ). Chosen w c (take w u) (chop (k - 1) w (drop w u)) m p) (sym (add-one i)) (rw (next-top, next-below) (n .1)),
+          subst (λ (m : ℕ). Chosen w c (take w u) (chop (k - 1) w (drop w u)) m p) (sym (add-one i)) (rw (next-top, next-below) n),
         )
       where
         never : none ≡ at i p → ⊥

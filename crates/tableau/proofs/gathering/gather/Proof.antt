@@ -1,7 +1,7 @@
 -- `tableau::gathering::gather` meets its contract: a lone entry's row is only brought to the top, else there are rounds. Assumes nothing.
 use mathlib.Core.Path.{sym, _∙_}
 use Rattle.tableau.proofs.Rounds.{lift-asks}
-use Rattle.tableau.proofs.Lone.{lone-stops}
+use Rattle.tableau.proofs.Lone.{lone-stops, lone-round}
 use borrow.Author.Needs.{needs}
 use Rattle.tableau.proofs.gathering.gather.Statement.{statement}
 use Rattle.tableau.proofs.gathering.gather.Tie as tie
@@ -19,7 +19,8 @@ returns : tie.Need-returns
 returns c =
     let d = c .before .before .before .before .before in
     let p = d .before .before .pre in
-    lone-stops (p .0) (p .1 .0) (c .before .before .lift .ensures) (sym (p .1 .1) ∙ d .if1 .taken)
+    let e = sym (p .1 .1 .count) ∙ d .if1 .taken in
+    (lone-stops (p .0) (p .1 .0) (c .before .before .lift .ensures) e, sym (lone-round (p .0) (p .1 .0) (c .before .before .lift .ensures) e))
 
 rounds-requires : tie.Need-rounds-requires
 rounds-requires c κs = search needs
