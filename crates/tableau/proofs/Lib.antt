@@ -19,3 +19,4 @@ pub mod RightLaws
 pub mod TableLaws
 pub mod Within
 pub mod Theorems
+pub mod RoundedDown

@@ -23,6 +23,7 @@ use Rattle.tableau.specs.Elimination.{eliminateBy, eliminate}
 use Rattle.tableau.specs.RightSide.{rightSide, form, solve}
 use Rattle.tableau.specs.Generators.{Reaches, Tells}
 use Rattle.tableau.proofs.GatherLaws.{nearest-shrinks, gather-alone, gather-fuel}
+use Rattle.tableau.proofs.RoundLaws as Counts
 use Rattle.tableau.proofs.FormLaws.{eliminated, passColumns-steps}
 use Rattle.tableau.proofs.TableLaws.{tableau-count, tableau-length, tableau-independent, tableau-generators, tableau-reaches}
 use Rattle.tableau.proofs.FoundLaws.{tells-same, tells-none, tells-unique}
@@ -30,10 +31,11 @@ use Rattle.tableau.proofs.RightLaws.{basis-past, right-tells}
 use Rattle.tableau.specs.Theorems.{Eliminated, GatheringEnds, EliminationForm, FormUnique, ReducedUnique, EliminationUnique}
 use Rattle.tableau.specs.Theorems.{ReachedTells, ReachedSame, ProblemForm, ProblemCount, ProblemWide, ProblemRising, ProblemBasis, BasisRising}
 use Rattle.tableau.specs.Theorems.{SolveTells, SolveSome, SolveNone, SolveSame}
+use Rattle.tableau.specs.Theorems.{ColumnRounds, RoundsCeiling, FormRounds, QuotientUnchanged}
 
 -- ---- elimination
 pub gathering-ends : GatheringEnds
-gathering-ends n c b B j p h f l = 
+gathering-ends n c b B j p h f l =
     (gather-alone nearest-shrinks h p j p (omega arith), gather-fuel nearest-shrinks h f p j p j p l (omega arith))
 
 pub elimination-form : EliminationForm
@@ -95,7 +97,8 @@ problem-wide n A = steps-length (length A + n) (passColumns-steps nearestQuotien
 pub problem-rising : ProblemRising
 unfolding form
 problem-rising n A =
-    let t : Eliminated (length A + n) (tableau n A) (form n A .table) = problem-form n A in subst (Rising 0) (sym (t .is)) (rows-rising (t .form) (t .hermite))
+    let t : Eliminated (length A + n) (tableau n A) (form n A .table) = problem-form n A in
+    subst (Rising 0) (sym (t .is)) (rows-rising (t .form) (t .hermite))
 
 pub problem-basis : ProblemBasis
 unfolding form
@@ -132,3 +135,16 @@ pub solve-same : SolveSame
 solve-same n A A′ b b′ z z′ =
     tells-unique n (Satisfies n A b) (Satisfies n A′ b′) (solve n A b .found) (solve n A′ b′ .found) (λ x s. s .wide) (λ x s. s .wide)
     (solve-tells n A b z) (solve-tells n A′ b′ z′)
+
+-- ---- the rounds of elimination
+pub column-rounds : ColumnRounds
+column-rounds = Counts.column-rounds
+
+pub rounds-ceiling : RoundsCeiling
+rounds-ceiling = Counts.eliminate-rounds
+
+pub form-rounds : FormRounds
+form-rounds = Counts.form-rounds
+
+pub quotient-unchanged : QuotientUnchanged
+quotient-unchanged q q′ S S′ n T l i = forms-same (eliminated S n T l i) (eliminated S′ n T l i) (record { both = λ v h. Iff·rfl })

@@ -3,6 +3,7 @@ pub mod Table
 pub mod Elimination
 pub mod RoundCount
 pub mod RightSide
+pub mod RoundedDown
 pub mod Generators
 pub mod Gathering
 pub mod Within

@@ -1,6 +1,7 @@
 -- Document 02, (vii): "Each choice of a smallest entry is a round. The rounds are counted and returned". They are counted along the same steps.
 --   gatherRounds f c z b B   the rounds of `gather f c z b B`. A look that finds only 0 chooses nothing and is none; a lone entry is chosen once
 --   columnRounds c B z       those of column c, with the choice z among the rows B from row k on
+--   firstBits z              "the bit length of its first pivot", of a column whose first choice is z; 0 where the column is passed over
 --   roundsFrom d c A B       those of d columns from c on
 --   rounds w T               those of `eliminate w T`
 --   formRounds n A           those of the form of n columns and the matrix A
@@ -11,6 +12,7 @@ use mathlib.Core.List.{List, [], _∷_}
 use Prim.Native.Nat.{ℕ, zero, suc, _+_}
 use lib.IntN.{ℤ}
 use lib.ListN.{length}
+use Rattle.whole.specs.BitLength.{bitLength}
 use Rattle.tableau.specs.Table.{tableau}
 use Rattle.tableau.specs.Elimination.{Choice, none, at, choose, Gathered, round, Passed, passColumn}
 
@@ -25,6 +27,10 @@ unfoldable pub columnRounds : ℕ → List (List ℤ) → Choice → ℕ
 columnRounds c B none = 0
 columnRounds c [] (at j p) = 0
 columnRounds c (b ∷ B) (at j p) = gatherRounds p c (at j p) b B
+
+abbrev pub firstBits : Choice → ℕ
+firstBits none = 0
+firstBits (at j p) = bitLength p
 
 unfoldable pub roundsFrom : ℕ → ℕ → List (List ℤ) → List (List ℤ) → ℕ
 roundsFrom zero c A B = 0

@@ -16,15 +16,19 @@
 --   SolveSome           these lists are the starting list and the whole combinations of the basis added to it
 --   SolveNone           there is no such list exactly when "none" is found
 --   SolveSame           two problems find the same exactly when the same lists satisfy their rows
+--   ColumnRounds        the rounds of a column are at most the bit length of its first pivot
+--   RoundsCeiling       those of a table within ±M at most 31 for each row, where no subtraction leaves a number beyond ±M
+--   FormRounds          those of a problem's tableau at most 31 for each column of the problem
+--   QuotientUnchanged   elimination leaves the same table, whichever quotient gathering takes
 -- The terms: Span, Same, Independent (lattice, Span); Echelon, Led, Rising, Hermite, Reduced (lattice, Hermite); Describes (lattice, Coset);
--- Satisfies (lattice, Sums); Generators, Reaches, Tells, Sized (Generators); Chosen, Alone (Gathering). Each is proved in proofs/Theorems, under its
--- name in small letters, as `gathering-ends`.
+-- Satisfies (lattice, Sums); Generators, Reaches, Tells, Sized (Generators); Chosen, Alone, Shrinks (Gathering). Each is proved in proofs/Theorems, under
+-- its name in small letters, as `gathering-ends`.
 -- Assumes nothing.
 use mathlib.Core.Path.{_≡_}
 use mathlib.Core.Logic.{_↔_}
-use mathlib.Core.Bool.{Bool}
+use mathlib.Core.Bool.{Bool, false}
 use mathlib.Core.List.{List}
-use Prim.Native.Nat.{ℕ, _+_, _≤_}
+use Prim.Native.Nat.{ℕ, _+_, _*_, _<_, _≤_}
 use lib.IntN.{ℤ}
 use lib.ListN.{length}
 use Rattle.lattice.specs.Rows.{minus}
@@ -32,10 +36,12 @@ use Rattle.lattice.specs.Sums.{Satisfies}
 use Rattle.lattice.specs.Span.{All, Len, Span, Same, Independent}
 use Rattle.lattice.specs.Hermite.{Echelon, width, rows, Led, Rising, Reduced, Hermite}
 use Rattle.tableau.specs.Table.{tableau}
-use Rattle.tableau.specs.Elimination.{at, gather, eliminate}
+use Rattle.tableau.specs.Elimination.{at, choose, gather, eliminateBy, eliminate}
+use Rattle.tableau.specs.RoundCount.{columnRounds, firstBits, rounds, formRounds}
+use Rattle.tableau.specs.Within.{Within}
 use Rattle.tableau.specs.RightSide.{basis, none, some, rightSide, form, solve}
 use Rattle.tableau.specs.Generators.{Generators, Reaches, Tells, Sized}
-use Rattle.tableau.specs.Gathering.{Chosen, Alone}
+use Rattle.tableau.specs.Gathering.{Chosen, Alone, Shrinks}
 
 pub record Eliminated (n : ℕ) (T F : List (List ℤ)) : Type 0 where
   pub form : Echelon
@@ -140,3 +146,26 @@ abbrev pub SolveSame : Type 0
 SolveSame =
     (n : ℕ) (A A′ : List (List ℤ)) (b b′ : List ℤ) → Sized n A b → Sized n A′ b′
     → ((x : List ℤ) → Satisfies n A b x ↔ Satisfies n A′ b′ x) ↔ (solve n A b .found ≡ solve n A′ b′ .found)
+
+-- ---- the rounds of elimination, document 02, (vii)
+-- "for each table column they are at most the bit length of its first pivot": of the rows B from row k on, each of n numbers, at column c.
+abbrev pub ColumnRounds : Type 0
+ColumnRounds =
+    (n c : ℕ) (B : List (List ℤ)) → c < n → All (Len n) B → columnRounds c B (choose c B) ≤ firstBits (choose c B)
+
+-- "so at most 31 × n in all": a pivot within ±M has at most 31 digits, and each column that is not passed over uses up one of the table's rows.
+abbrev pub RoundsCeiling : Type 0
+RoundsCeiling =
+    (w : ℕ) (T : List (List ℤ)) → All (Len w) T → All Within T → eliminate w T .over ≡ false → rounds w T ≤ 31 * length T
+
+-- The same of a problem of n columns: its tableau has n rows. A refused one counts none, "A refusal returns 0 rounds.".
+abbrev pub FormRounds : Type 0
+FormRounds =
+    (n : ℕ) (A : List (List ℤ)) → All Within A → form n A .over ≡ false → formRounds n A ≤ 31 * n
+
+-- "Forms and starting lists are unchanged": of two quotients that leave less than the pivot, as the nearest and the rounded-down one do, both lead to
+-- the one Hermite form of the table's span. What that says of a problem is in RoundedDown.
+abbrev pub QuotientUnchanged : Type 0
+QuotientUnchanged =
+    (q q′ : ℤ → ℤ → ℤ) → Shrinks q → Shrinks q′ → (n : ℕ) (T : List (List ℤ)) → All (Len n) T → Independent n T
+    → eliminateBy q n T .table ≡ eliminateBy q′ n T .table
