@@ -9,6 +9,7 @@ pub mod Turns
 pub mod Lone
 pub mod Staying
 pub mod Passing
+pub mod Counting
 pub mod Tableaus
 pub mod Forms
 pub mod GatherLaws

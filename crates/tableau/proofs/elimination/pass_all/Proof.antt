@@ -1,7 +1,7 @@
 -- `tableau::elimination::pass_all` meets its contract: what the columns left make of the present table is what all columns make of the
 -- first. Assumes nothing.
 use mathlib.Core.Path.{_≡_, refl, sym, _∙_, ap, ap₂, subst}
-use mathlib.Core.Bool.{true≢false}
+use mathlib.Core.Bool.{Bool, true≢false}
 use mathlib.Core.List.{List}
 use Prim.Native.Nat.{ℕ, _+_, _-_, _*_, _≤_}
 use native.Mathlib.Omega.{arith}
@@ -13,26 +13,30 @@ use Rattle.lattice.proofs.LentParts.{tail-is}
 use Rattle.tableau.specs.Elimination.{Run, none, choose, passColumns, eliminate}
 use Rattle.tableau.specs.Choices.{Chooses}
 use Rattle.tableau.specs.Tails.{Picked}
-use Rattle.tableau.specs.ColumnPass.{Standing, aboveOf, belowOf, passedOf, rejoined}
+use Rattle.tableau.specs.ColumnPass.{Standing, aboveOf, belowOf, passedOf, passedRounds, rejoined}
+use Rattle.tableau.specs.RoundCount.{roundsFrom, rounds, refusedNone}
 use Rattle.tableau.specs.RowSteps.{StopsRun}
 use Rattle.tableau.proofs.Choosing.{sighted-none, sighted-some}
 use Rattle.tableau.proofs.Passing.{columns-over, columns-on, columns-skip, tail-of, room-of, passed-above, passed-below, passed-on}
 use Rattle.tableau.proofs.Passing.{skipped-on, starts, starts-all, picked-of, ends-columns, ends-rows}
+use Rattle.tableau.proofs.Counting.{rounds-on, rounds-skip, rounds-past, rounds-done, rounds-all, passed-few}
 use Rattle.tableau.proofs.elimination.pass_all.Statement.{statement}
 use Rattle.tableau.proofs.elimination.pass_all.Tie as tie
 
-record Inv (t₀ : List ℤ) (rows w : ℕ) (t pivot : List ℤ) (k c : ℕ) : Type 0 where
+record Inv (t₀ : List ℤ) (rows w : ℕ) (t pivot : List ℤ) (count k c : ℕ) : Type 0 where
   same : length t ≡ length t₀
   wide : length pivot ≡ w
   past : c ≤ w
   stands : Standing rows w c k t
   rest : passColumns (w - c) c (aboveOf w k t) (belowOf rows w k t) ≡ eliminate w (chop rows w t₀)
+  sum : count + roundsFrom (w - c) c (aboveOf w k t) (belowOf rows w k t) ≡ rounds w (chop rows w t₀)
+  few : count ≤ 31 * c
 
 abbrev Inv-loop : tie.InvT-loop
-Inv-loop t₀ rows pivot₀ w k₀ c₀ t pivot k c = Inv t₀ rows w t pivot k c
+Inv-loop t₀ rows pivot₀ w count₀ k₀ c₀ t pivot count k c = Inv t₀ rows w t pivot count k c
 
 abbrev μ-loop : tie.MeasureT-loop
-μ-loop t₀ rows pivot₀ w k₀ c₀ t pivot k c = w - c
+μ-loop t₀ rows pivot₀ w count₀ k₀ c₀ t pivot count k c = w - c
 
 -- the choice in the column
 chosen :
@@ -80,7 +84,9 @@ told :
     (c : tie.After-pass Inv-loop μ-loop) →
     let m = turn c in
     let a = m .before .args in
-    StopsRun (rejoined (passedOf (a .rows) (length (a .pivot .now)) (m .loop .c) (m .loop .k) (m .loop .t))) (c .pass .result) (c .pass .last .0)
+    StopsRun (rejoined (passedOf (a .rows) (length (a .pivot .now)) (m .loop .c) (m .loop .k) (m .loop .t))) (c .pass .result .over) (c .pass .last .0)
+    × (c .pass .result .rounds
+    ≡ refusedNone (c .pass .result .over) (passedRounds (a .rows) (length (a .pivot .now)) (m .loop .c) (m .loop .k) (m .loop .t)))
 told c = rw (turn c .loop .inv .wide) at (c .pass .ensures)
 
 loop-holds : tie.Need-loop-holds Inv-loop μ-loop
@@ -89,8 +95,10 @@ loop-holds c =
       same = refl;
       wide = refl;
       past = omega arith;
-      stands = starts (c .pre .0) (c .pre .1);
+      stands = starts (c .pre .0 .0) (c .pre .1);
       rest = starts-all (c .args .rows) (length (c .args .pivot .now)) (c .args .t .now);
+      sum = omega (arith, rounds-all (c .args .rows) (length (c .args .pivot .now)) (c .args .t .now));
+      few = omega arith;
     }
 
 same-length : tie.Need-same-length Inv-loop μ-loop
@@ -103,7 +111,11 @@ returns : tie.Need-returns Inv-loop μ-loop
 returns c =
     let turn = c .before .before in
     let start = turn .before in
-    ends-rows (length (start .args .pivot .now) - turn .loop .c) (turn .loop .inv .stands) (turn .loop .inv .rest) (c .if1 .taken)
+    let l = turn .loop in
+    let w : ℕ = length (start .args .pivot .now) in (
+      ends-rows (w - l .c) (l .inv .stands) (l .inv .rest) (c .if1 .taken),
+      omega (arith, l .inv .sum, rounds-done (w - l .c) (l .c) w (aboveOf w (l .k) (l .t)) (l .t) (c .if1 .taken)),
+    )
 
 mul-at : tie.Need-mul-at Inv-loop μ-loop
 mul-at c = omega (arith, room-of (c .before .before .loop .inv .stands))
@@ -167,6 +179,14 @@ loop-again c =
       rest =
           rw d
           (sym (columns-skip (w - l .c) (l .c) (aboveOf w (l .k) (l .t)) (belowOf (a .rows) w (l .k) (l .t)) (omega (arith, f)) e) ∙ l .inv .rest);
+      sum =
+          rw d
+          (omega (
+            arith,
+            rounds-skip (w - l .c) (l .c) (aboveOf w (l .k) (l .t)) (belowOf (a .rows) w (l .k) (l .t)) (omega (arith, f)) e,
+            l .inv .sum,
+          ));
+      few = omega (arith, l .inv .few);
     }
 
 pass-requires : tie.Need-pass-requires Inv-loop μ-loop
@@ -174,7 +194,7 @@ pass-requires c κs =
     let after-choose = c .before .before .before .before in
     let d = after-choose .before .before .before .before in
     let i = d .before .loop .inv in
-    rw (i .wide) (i .stands, (d .loop-test .taken, (picked (c .before .before), chosen after-choose .count)))
+    rw (i .wide) (i .stands, (d .loop-test .taken, (picked (c .before .before), chosen after-choose)))
 
 same-length-3 : tie.Need-same-length-3 Inv-loop μ-loop
 same-length-3 c = let n = c .before .before .before in n .pass .kept .0 ∙ turn n .loop .inv .same
@@ -187,32 +207,64 @@ returns-2 c =
     let n = c .before .before .before in
     let a = turn n .before .args in
     let l = turn n .loop in
-    let w : ℕ = length (a .pivot .now) in
-    record {
-      answer =
-          sym
-          (ap (λ (x : Run). x .over) (sym (l .inv .rest))
-          ∙ columns-over (w - l .c) (l .c) (aboveOf w (l .k) (l .t)) (belowOf (a .rows) w (l .k) (l .t)) (omega (arith, tested n .loop-test .taken))
-          (sym (told n .answer) ∙ c .if3 .taken));
-      left = λ e. absurd (true≢false e);
-    }
+    let w : ℕ = length (a .pivot .now) in (
+      record {
+        answer =
+            c .if3 .taken
+            ∙ sym
+            (ap (λ (x : Run). x .over) (sym (l .inv .rest))
+            ∙ columns-over (w - l .c) (l .c) (aboveOf w (l .k) (l .t)) (belowOf (a .rows) w (l .k) (l .t)) (omega (arith, tested n .loop-test .taken))
+            (sym (told n .0 .answer) ∙ c .if3 .taken));
+        left = λ e. absurd (true≢false (sym (c .if3 .taken) ∙ e));
+      },
+      told n .1
+          ∙ ap (λ (o : Bool). refusedNone o (passedRounds (a .rows) w (l .c) (l .k) (l .t))) (c .if3 .taken)
+          ∙ sym (ap (λ (o : Bool). refusedNone o (rounds w (chop (a .rows) w (a .t .now)))) (c .if3 .taken)),
+    )
+
+-- the rounds of a column that is passed
+passed :
+    (c : tie.After-struct-known2 Inv-loop μ-loop) →
+    let n = c .before .before .before .before in
+    let m = turn n in
+    let a = m .before .args in
+    n .pass .result .rounds ≡ passedRounds (a .rows) (length (a .pivot .now)) (m .loop .c) (m .loop .k) (m .loop .t)
+passed c =
+    let n = c .before .before .before .before in
+    let m = turn n in
+    let a = m .before .args in
+    told n .1
+    ∙ ap (λ (o : Bool). refusedNone o (passedRounds (a .rows) (length (a .pivot .now)) (m .loop .c) (m .loop .k) (m .loop .t))) (c .before .if3 .left)
+
+few-more : (c : tie.After-struct-known2 Inv-loop μ-loop) →
+    let n = c .before .before .before .before in
+    n .pass .result .rounds ≤ 31
+few-more c =
+    let n = c .before .before .before .before in
+    omega (arith, passed c, passed-few (turn n .loop .inv .stands) (tested n .loop-test .taken))
+
+add-count : tie.Need-add-count Inv-loop μ-loop
+add-count c =
+    let n = c .before .before .before .before in
+    let m = turn n in
+    omega (arith, m .loop .inv .few, few-more c, tested n .loop-test .taken, m .before .pre .0 .1)
 
 add-k : tie.Need-add-k Inv-loop μ-loop
 add-k c =
-    let after-pass = c .before .before .before in
+    let after-pass = c .before .before .before .before in
     let after-choose = after-pass .before .before .before .before .before in
     let d = after-choose .before .before .before in
     omega (arith, d .before .before .loop .inv .stands .most, d .if1 .left)
 
 add-c-2 : tie.Need-add-c-2 Inv-loop μ-loop
-add-c-2 c = omega (arith, tested (c .before .before .before) .loop-test .taken)
+add-c-2 c = omega (arith, tested (c .before .before .before .before) .loop-test .taken)
 
 loop-less-2 : tie.Need-loop-less-2 Inv-loop μ-loop
-loop-less-2 c = omega (arith, tested (c .before .before .before) .loop-test .taken)
+loop-less-2 c = omega (arith, tested (c .before .before .before .before) .loop-test .taken)
 
 loop-again-2 : tie.Need-loop-again-2 Inv-loop μ-loop
 loop-again-2 c =
-    let n = c .before .before .before in
+    let n = c .before .before .before .before in
     let some-chosen = n .before .before .before in
     let a = turn n .before .args in
     let l = turn n .loop in
@@ -220,8 +272,10 @@ loop-again-2 c =
     let g = picked some-chosen in
     let w : ℕ = length (a .pivot .now) in
     let d : w - (l .c + 1) ≡ w - l .c - 1 = omega arith in
-    let o = sym (told n .answer) ∙ c .if3 .left in
-    let s = told n .left (c .if3 .left) in
+    let o = sym (told n .0 .answer) ∙ c .before .if3 .left in
+    let s = told n .0 .left (c .before .if3 .left) in
+    let A = passed-above (l .inv .stands) f g o s (n .pass .kept .0) in
+    let B = passed-below (l .inv .stands) f g o s (n .pass .kept .0) in
     record {
       same = n .pass .kept .0 ∙ l .inv .same;
       wide = n .pass .kept .1 .1 .0 ∙ l .inv .wide;
@@ -229,10 +283,19 @@ loop-again-2 c =
       stands = passed-on (l .inv .stands) f g o s (n .pass .kept .0);
       rest =
           rw d
-          (ap₂ (passColumns (w - l .c - 1) (l .c + 1))
-          (passed-above (l .inv .stands) f g o s (n .pass .kept .0)) (passed-below (l .inv .stands) f g o s (n .pass .kept .0))
+          (ap₂ (passColumns (w - l .c - 1) (l .c + 1)) A B
           ∙ sym (columns-on (w - l .c) (l .c) (aboveOf w (l .k) (l .t)) (belowOf (a .rows) w (l .k) (l .t)) (omega (arith, f)) o)
           ∙ l .inv .rest);
+      sum =
+          rw d
+          (omega (
+            arith,
+            ap₂ (roundsFrom (w - l .c - 1) (l .c + 1)) A B,
+            rounds-on (w - l .c) (l .c) (aboveOf w (l .k) (l .t)) (belowOf (a .rows) w (l .k) (l .t)) (omega (arith, f)),
+            passed c,
+            l .inv .sum,
+          ));
+      few = omega (arith, l .inv .few, few-more c);
     }
 
 same-length-5 : tie.Need-same-length-5 Inv-loop μ-loop
@@ -244,7 +307,12 @@ same-length-6 c = c .before .loop .inv .wide
 returns-3 : tie.Need-returns-3 Inv-loop μ-loop
 returns-3 c =
     let l = c .before .loop in
-    ends-columns (length (c .before .before .args .pivot .now) - l .c) (l .inv .stands) (l .inv .rest) (omega (arith, c .loop-test .left))
+    let a = c .before .before .args in
+    let w : ℕ = length (a .pivot .now) in
+    let z : w - l .c ≡ 0 = omega (arith, c .loop-test .left) in (
+      ends-columns (w - l .c) (l .inv .stands) (l .inv .rest) z,
+      omega (arith, l .inv .sum, rounds-past (w - l .c) (l .c) (aboveOf w (l .k) (l .t)) (belowOf (a .rows) w (l .k) (l .t)) z),
+    )
 
 pub pass-all-spec : {M : Type 1} → statement M
 pass-all-spec =
@@ -270,6 +338,7 @@ pass-all-spec =
     same-length-3
     same-length-4
     returns-2
+    add-count
     add-k
     add-c-2
     loop-less-2
