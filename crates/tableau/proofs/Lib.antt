@@ -20,3 +20,4 @@ pub mod TableLaws
 pub mod Within
 pub mod Theorems
 pub mod RoundedDown
+pub mod Cases
