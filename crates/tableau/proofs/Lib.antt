@@ -21,3 +21,4 @@ pub mod TableLaws
 pub mod Within
 pub mod Theorems
 pub mod RoundedDown
+pub mod Cases

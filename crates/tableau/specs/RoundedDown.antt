@@ -5,8 +5,8 @@
 --   FormUnchanged       the form is the same
 --   FoundUnchanged      and so is what is found: "none", or the starting list and the basis
 --   SolveUnchanged      where neither way is past the elimination limit, all of it is the same
--- The first two hold over unbounded numbers, past the limit or not: only the marks may differ. Each is proved in proofs/RoundedDown, under its name in
--- small letters.
+-- The first two hold over unbounded numbers, past the limit or not: only the marks may differ. Each is proved in proofs/RoundedDown, under its
+-- name in small letters.
 -- Assumes nothing.
 use mathlib.Core.Path.{_≡_}
 use mathlib.Core.Bool.{false}

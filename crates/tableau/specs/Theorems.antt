@@ -21,8 +21,8 @@
 --   FormRounds          those of a problem's tableau at most 31 for each column of the problem
 --   QuotientUnchanged   elimination leaves the same table, whichever quotient gathering takes
 -- The terms: Span, Same, Independent (lattice, Span); Echelon, Led, Rising, Hermite, Reduced (lattice, Hermite); Describes (lattice, Coset);
--- Satisfies (lattice, Sums); Generators, Reaches, Tells, Sized (Generators); Chosen, Alone, Shrinks (Gathering). Each is proved in proofs/Theorems, under
--- its name in small letters, as `gathering-ends`.
+-- Satisfies (lattice, Sums); Generators, Reaches, Tells, Sized (Generators); Chosen, Alone, Shrinks (Gathering). Each is proved in
+-- proofs/Theorems, under its name in small letters, as `gathering-ends`.
 -- Assumes nothing.
 use mathlib.Core.Path.{_≡_}
 use mathlib.Core.Logic.{_↔_}

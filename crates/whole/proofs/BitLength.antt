@@ -16,9 +16,10 @@ use lib.Pow.{pow-mono}
 use lib.Count.{leadingZeros, leading-unique}
 use Rattle.whole.specs.BitLength.{bitsBy, bitLength}
 
-lengths : (bitLength 0 ≡ 0) × (bitLength 1 ≡ 1) × (bitLength 255 ≡ 8) × (bitLength 256 ≡ 9) × (bitLength 2147483647 ≡ 31)
+lengths : (bitLength 0 ≡ 0) × (bitLength 1 ≡ 1) × (bitLength 2 ≡ 2) × (bitLength 3 ≡ 2) × (bitLength 4 ≡ 3)
+    × (bitLength 255 ≡ 8) × (bitLength 256 ≡ 9) × (bitLength 2147483647 ≡ 31)
 unfolding bitLength bitsBy
-lengths = (refl, refl, refl, refl, refl)
+lengths = (refl, refl, refl, refl, refl, refl, refl, refl)
 
 above : (d n : ℕ) → n ≤ d → n < 2 ^ bitsBy d n
 unfolding bitsBy

@@ -1,13 +1,14 @@
 -- Laws of the quotient of document 02, (vii), "the nearest quotient, floor((2 × entry + p) / 2p)", for p above 0.
 --   nearestLeft e p      what the nearest quotient leaves of e, e − q p
---   nearest-low, -high   twice what it leaves lies in −p to p − 1: a half is rounded upwards
+--   halves               quotients of halves, computed: a half is rounded upwards
+--   nearest-low, -high   twice what it leaves lies in −p to p − 1
 --   nearest-half         so that twice the magnitude of what it leaves is at most p
 --   nearest-left         and that magnitude is below p, which is all that the steps of elimination ask of a quotient
 --   quotient-small       a quotient that leaves less than p is no larger than the entry
 --   nearest-small        so is the nearest
 --   nearest-one          by 1 it is the entry
 -- Assumes nothing.
-use mathlib.Core.Path.{_≡_, ap}
+use mathlib.Core.Path.{_≡_, refl, ap}
 use Prim.Native.Nat.{ℕ, suc, _+_, _*_, _≤_, _<_}
 use native.Mathlib.Nat.{mul-le-mul-right, lt-of-not-le, le-of-suc-le-suc}
 use native.Mathlib.Omega.{arith}
@@ -20,6 +21,11 @@ use Rattle.whole.proofs.Signed.{abs-add, abs-mul, abs-neg}
 
 abbrev pub nearestLeft : ℤ → ℤ → ℤ
 nearestLeft e p = e +ℤ negℤ (nearestQuotient e p) *ℤ p
+
+-- 1 / 2, −1 / 2, 3 / 2, −3 / 2
+halves : (nearestQuotient (pos 1) (pos 2) ≡ pos 1) × (nearestQuotient (negsuc 0) (pos 2) ≡ pos 0)
+    × (nearestQuotient (pos 3) (pos 2) ≡ pos 2) × (nearestQuotient (negsuc 2) (pos 2) ≡ negsuc 0)
+halves = (refl, refl, refl, refl)
 
 twice : {p : ℤ} → Positive p → Positive (pos 2 *ℤ p)
 twice (positive k) = positive-of (2 * suc k) (omega arith)
