@@ -1,5 +1,6 @@
 -- What a whole assignment and a Continue come to, by what the tableau answers.
---   doneWith t x    a finished assignment with t in the tableau
+--   doneBy r t ..   what a call with the reply r has done; doneWith k t x, a finished assignment with t in the tableau, of k rounds
+--   verdict-reply   with a verdict the rounds are returned
 --   within-sized    within the limits, the matrix and the right sides have the sizes that n and m need
 --   found-basis     the basis found is that of the form
 --   solved-form, solved-kept   the form that the right side goes through, and that it is not past the limit where the whole is not
@@ -18,12 +19,15 @@ use Rattle.lattice.specs.Rows.{allZero, flat}
 use Rattle.lattice.specs.Span.{All}
 use Rattle.lattice.specs.Hermite.{Led, Rising}
 use Rattle.lattice.proofs.FlatLaws.{chop-rows, length-chop}
+use Rattle.problem.specs.Answers.{isVerdict}
 use Rattle.problem.specs.Checks.{Posed, firstCause}
 use Rattle.problem.proofs.CheckLaws.{Passes, passes, Fits, fits}
 use Rattle.problem.specs.declared.Lent.{Lent}
 use Rattle.problem.specs.declared.Check.the-variants.{Passed, Failed}
 use Rattle.problem.specs.declared.Refusal.{Refusal}
 use Rattle.problem.specs.declared.Refusal.the-variants.{NoWholeNumbers}
+use Rattle.problem.specs.declared.Answer.{Answer}
+use Rattle.problem.specs.declared.Answer.the-variants.{Fitted, Outside, Spent, Refused}
 use Rattle.tableau.specs.RightSide.{basis, Found, none, some, Solved, rightSide, solve}
 use Rattle.tableau.specs.Generators.{Sized}
 use Rattle.whole.proofs.Tests.{neither}
@@ -32,9 +36,12 @@ use Rattle.rightside.specs.Solutions.{answerOf, solutionOf}
 use Rattle.rightside.specs.declared.Solution.the-variants.{Over, None, Found as Met}
 use Rattle.rightside.proofs.Answers.{solution-over, solution-none}
 use Rattle.settling.specs.Seating.{Seated, seated, far, seat}
-use Rattle.whole.proofs.Never.{never}
+use Rattle.settling.proofs.Verdicts.{settle-verdict}
+use Rattle.whole.proofs.Never.{never, untrue}
 use Rattle.engine.specs.Assign.{Buffers, Done, done, n, m, matrix, columns, lentOf, refused, overLimit}
-use Rattle.engine.specs.Assign.{settleOn, onSeated, solved, assignFit, assign, stands, formed, continueFit, continue}
+use Rattle.engine.specs.Replies.{replyOf}
+use Rattle.engine.specs.declared.Reply.{Reply}
+use Rattle.engine.specs.Assign.{roundsOf, settleOn, onSeated, solved, assignFit, assign, stands, formed, continueFit, continue}
 use Rattle.engine.specs.Demand.{WithinLimits, Starts}
 use Rattle.engine.specs.Outcomes.{basisLeft}
 use Rattle.engine.specs.BasisPlace.{basisOf}
@@ -42,8 +49,17 @@ use Rattle.engine.specs.Finish.{Finished, settledBy, onSeat, finished, F
 use Rattle.engine.proofs.Readiness.{table}
 use Rattle.engine.proofs.Forming.{Laid, laid-basis, laid-placed, start-small}
 
-abbrev pub doneWith : List ℤ → Finished → Done
-doneWith t x = done (x .answer) t (x .values) (x .strides)
+abbrev pub doneBy : Reply → List ℤ → List ℤ → List ℕ → Done
+doneBy r t v d = done (r .answer) (r .rounds) t v d
+
+abbrev pub doneWith : ℕ → List ℤ → Finished → Done
+doneWith k t x = doneBy (replyOf (x .answer) k) t (x .values) (x .strides)
+
+pub verdict-reply : (a : Answer) (k : ℕ) → isVerdict a ≡ true → replyOf a k ≡ record { answer = a; rounds = k }
+verdict-reply (Fitted c) k e = refl
+verdict-reply (Outside c) k e = refl
+verdict-reply (Spent c) k e = refl
+verdict-reply (Refused why) k e = untrue e
 
 -- ---- what it means to be within the limits
 pub within-sized : (P : Posed) (B : Buffers) → WithinLimits P B → Sized (n P) (matrix P) (P .rights)
@@ -105,6 +121,14 @@ module _ (P : Posed) where
       by-found s _ N (basis (length (matrix P)) (formed P .table)) (allZero (take (length (matrix P)) _)) _ _ refl refl e
       ∙ ap (λ (k : ℕ). basis k (formed P .table)) (length-chop (m P) (n P) (P .coefficients))
 
+  settled-done :
+      (T N : List (List ℤ)) (v : List ℤ) → settleOn P T N v ≡ doneWith (roundsOf P) (flat T) (settledBy (P .problem .limit) (columns P) N v)
+  unfolding settleOn
+  settled-done T N v =
+      let x : Finished = settledBy (P .problem .limit) (columns P) N v in
+      ap (λ (r : Reply). doneBy r (flat T) (x .values) (x .strides))
+      (sym (verdict-reply (x .answer) (roundsOf P) (settle-verdict (columns P) N (P .problem .limit) v)))
+
   module _ (B : Buffers) where
     pub assign-over : Over ≡ solutionOf (solved P) → assignFit P B ≡ overLimit B
     assign-over e = rw (solution-over (solved P) e) refl
@@ -113,11 +137,10 @@ module _ (P : Posed) where
     assign-none e = rw (solution-none (solved P) e, none-is (solved P) e) refl
 
     seated-done :
-        (T N : List (List ℤ)) (z : Seated) → onSeated P T N B z ≡ doneWith (flat T)
+        (T N : List (List ℤ)) (z : Seated) → onSeated P T N B z ≡ doneWith (roundsOf P) (flat T)
         (onSeat (P .problem .limit) (columns P) N (B .values) (B .strides) z)
-    unfolding settleOn
     seated-done T N far = refl
-    seated-done T N (seated v) = refl
+    seated-done T N (seated v) = settled-done T N v
 
 -- ---- from the starting list on
 module _ (P : Posed) (B : Buffers) (w : WithinLimits P B) where
@@ -129,14 +152,14 @@ module _ (P : Posed) (B : Buffers) (w : WithinLimits P B) where
     same-basis = found-basis P (x .start) (x .vectors) (x .is) ∙ sym (laid-basis P (lentOf B) q a)
 
     pub assign-found : (s : List ℤ) → s ≡ x .start → solved P .over ≡ false
-        → assignFit P B ≡ doneWith t (finished (P .problem) (columns P) t s (B .values) (B .strides))
+        → assignFit P B ≡ doneWith (roundsOf P) t (finished (P .problem) (columns P) t s (B .values) (B .strides))
     assign-found s e o =
         rw (o, x .is) (seated-done P B (solved P .form) (x .vectors) (seat (columns P) (x .vectors) (x .start)))
-        ∙ ap (λ (T : List (List ℤ)). doneWith (flat T)
+        ∙ ap (λ (T : List (List ℤ)). doneWith (roundsOf P) (flat T)
         (onSeat (P .problem .limit) (columns P) (x .vectors) (B .values) (B .strides) (seat (columns P) (x .vectors) (x .start)))) (solved-form P)
-        ∙ ap (λ (u : List ℤ). doneWith u (onSeat (P .problem .limit) (columns P) (x .vectors) (B .values) (B .strides)
+        ∙ ap (λ (u : List ℤ). doneWith (roundsOf P) u (onSeat (P .problem .limit) (columns P) (x .vectors) (B .values) (B .strides)
         (seat (columns P) (x .vectors) (x .start)))) (sym (a .is))
-        ∙ ap₂ (λ (N : List (List ℤ)) (v : List ℤ). doneWith t
+        ∙ ap₂ (λ (N : List (List ℤ)) (v : List ℤ). doneWith (roundsOf P) t
         (onSeat (P .problem .limit) (columns P) N (B .values) (B .strides) (seat (columns P) N v))) same-basis (sym e)
 
     start-long : length (x .start) ≡ n P
@@ -178,13 +201,13 @@ module _ (P : Posed) (B : Buffers) where
 
   -- settled over the basis of a list
   abbrev pub settledIn : List ℤ → List (List ℤ) → Done
-  settledIn t N = doneWith t (settledBy (P .problem .limit) (columns P) N (B .values))
+  settledIn t N = doneWith (roundsOf P) t (settledBy (P .problem .limit) (columns P) N (B .values))
 
   pub continue-settled :
       (L : Lent) (q : Passes P L) {t : List ℤ} (a : Laid P L q t) → stands P (B .values) ≡ true
       → continueFit P B ≡ settledIn t (basisOf (P .problem) t)
-  unfolding settleOn
   continue-settled L q {t} a e =
       continue-on e (a .kept)
+      ∙ settled-done P (formed P .table) (basis (m P) (formed P .table)) (B .values)
       ∙ ap (λ (u : List ℤ). settledIn u (basis (m P) (formed P .table))) (sym (a .is))
       ∙ ap (settledIn t) (sym (laid-basis P L q a))

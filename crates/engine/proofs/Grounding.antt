@@ -1,14 +1,16 @@
 -- What Continue and the preview start from, by what is found.
+--   groundedBy r t      the reply r to the ground, with t in the tableau
 --   byCheck, byGround   what f makes of a refusal and the tableau left, or a where nothing is refused
 --   ground-failed, -off, -over, -clear   what is found: by the checks, of a list that does not stand, past the limit, and with nothing refused
 --   Clear P v L t u     nothing is refused, and u is the form's table; clear, where that is found
---   clear-passes, -fits, -laid, -placed   what that gives
+--   clear-rounds, -passes, -fits, -laid, -placed   what that gives
 --   unpacked            with a refusal nothing is said of the table of columns
 --   continue-ground     a Continue is made of what is found
 -- Assumes nothing.
-use mathlib.Core.Path.{_≡_, refl, sym, ap, subst}
+use mathlib.Core.Path.{_≡_, refl, sym, _∙_, ap, subst}
 use mathlib.Core.Bool.{Bool, true, false, not, cond}
 use mathlib.Core.List.{List}
+use Prim.Native.Nat.{ℕ}
 use borrow.Author.Tests.{not-true}
 use lib.IntN.{ℤ}
 use lib.ListN.{length}
@@ -26,11 +28,16 @@ use Rattle.problem.specs.declared.Check.{Check}
 use Rattle.problem.specs.declared.Check.the-variants.{Passed, Failed}
 use Rattle.tableau.specs.RightSide.{basis}
 use Rattle.tableau.proofs.Within.{within-entry}
-use Rattle.engine.specs.Assign.{Buffers, Done, n, m, lentOf, refused, overLimit, settleOn, onCheck, stands, formed, continue}
+use Rattle.engine.specs.Assign.{Buffers, Done, n, m, lentOf, roundsOf, refused, overLimit, settleOn, onCheck, stands, formed, continue}
 use Rattle.engine.specs.Ground.{Grounded, grounded, onFirst, ground, Packs}
+use Rattle.engine.specs.declared.ground.Ground.{Ground}
 use Rattle.engine.specs.Placed.{Placed}
 use Rattle.engine.proofs.Readiness.{table}
 use Rattle.engine.proofs.Forming.{Laid, laid-placed}
+
+-- what the ground is that the code finds
+abbrev pub groundedBy : Ground → List ℤ → Grounded
+groundedBy r t = grounded (r .check) (r .rounds) t
 
 module _ {A : Type 0} (f : Refusal → List ℤ → A) (a : A) where
   abbrev pub byCheck : Check → List ℤ → A
@@ -42,20 +49,21 @@ module _ {A : Type 0} (f : Refusal → List ℤ → A) (a : A) where
 
 -- ---- what is found
 module _ (P : Posed) (v : List ℤ) (L : Lent) (t : List ℤ) where
-  pub ground-failed : {why : Refusal} → firstCause P L ≡ Failed why → ground P v L t ≡ grounded (Failed why) t
+  pub ground-failed : {why : Refusal} → firstCause P L ≡ Failed why → ground P v L t ≡ grounded (Failed why) 0 t
   unfolding ground
   ground-failed e = rw e refl
 
-  pub ground-off : firstCause P L ≡ Passed → stands P v ≡ false → ground P v L t ≡ grounded (Failed Standing) t
+  pub ground-off : firstCause P L ≡ Passed → stands P v ≡ false → ground P v L t ≡ grounded (Failed Standing) 0 t
   unfolding ground
   ground-off e s = rw (e, s) refl
 
   pub ground-over : firstCause P L ≡ Passed → stands P v ≡ true → formed P .over ≡ true
-      → ground P v L t ≡ grounded (Failed Elimination) (zeros (length t))
+      → ground P v L t ≡ grounded (Failed Elimination) 0 (zeros (length t))
   unfolding ground
   ground-over e s o = rw (e, s, o) refl
 
-  pub ground-clear : firstCause P L ≡ Passed → stands P v ≡ true → formed P .over ≡ false → ground P v L t ≡ grounded Passed (flat (formed P .table))
+  pub ground-clear : firstCause P L ≡ Passed → stands P v ≡ true → formed P .over ≡ false
+      → ground P v L t ≡ grounded Passed (roundsOf P) (flat (formed P .table))
   unfolding ground
   ground-clear e s o = rw (e, s, o) refl
 
@@ -66,9 +74,9 @@ module _ (P : Posed) (v : List ℤ) (L : Lent) (t : List ℤ) where
     pub kept : formed P .over ≡ false
     pub is : u ≡ flat (formed P .table)
 
-  pub clear : {u : List ℤ} → grounded Passed u ≡ ground P v L t → Clear u
+  pub clear : {k : ℕ} {u : List ℤ} → grounded Passed k u ≡ ground P v L t → Clear u
   unfolding ground
-  clear {u} e = go (firstCause P L) refl (stands P v) refl (formed P .over) refl e
+  clear {k} {u} e = go (firstCause P L) refl (stands P v) refl (formed P .over) refl e
     where
       T : List ℤ
       T = flat (formed P .table)
@@ -77,8 +85,9 @@ module _ (P : Posed) (v : List ℤ) (L : Lent) (t : List ℤ) where
       refused-not {why} e = never (cc)
 
       go : (c : Check) → firstCause P L ≡ c → (s : Bool) → stands P v ≡ s → (o : Bool) → formed P .over ≡ o
-          → grounded Passed u
-          ≡ onFirst c t (cond s (cond o (grounded (Failed Elimination) (zeros (length t))) (grounded Passed T)) (grounded (Failed Standing) t))
+          → grounded Passed k u
+          ≡ onFirst c t (cond s (cond o (grounded (Failed Elimination) 0 (zeros (length t))) (grounded Passed (roundsOf P) T))
+          (grounded (Failed Standing) 0 t))
           → Clear u
       go (Failed why) g s h o k e = refused-not (ap (λ (x : Grounded). x .check) e)
       go Passed g false h o k e = refused-not (ap (λ (x : Grounded). x .check) e)
@@ -86,6 +95,9 @@ module _ (P : Posed) (v : List ℤ) (L : Lent) (t : List ℤ) where
       go Passed g true h false k e = record { passed = g; standing = h; kept = k; is = ap (λ (x : Grounded). x .tableau) e }
 
   module _ {u : List ℤ} (c : Clear u) where
+    pub clear-rounds : {k : ℕ} → grounded Passed k u ≡ ground P v L t → k ≡ roundsOf P
+    clear-rounds e = ap (λ (x : Grounded). x .rounds) (e ∙ ground-clear (c .passed) (c .standing) (c .kept))
+
     abbrev pub clear-passes : Passes P L
     clear-passes = passes P L (c .passed)
 
@@ -100,8 +112,8 @@ module _ (P : Posed) (v : List ℤ) (L : Lent) (t : List ℤ) where
         subst (Placed (P .problem) u v) (sym h)
         (laid-placed P L clear-passes clear-laid v e (λ j. within-entry v j (not-true _ (both-true (not (anyBeyond v)) _ (c .standing) .0))))
 
-pub unpacked : {why : Refusal} (P : Posed) (l : List ℤ) → Packs (Failed why) P l
-unpacked {why} P l = record { is = λ e. never (cc) }
+pub unpacked : {r : Ground} {why : Refusal} → r ≡ record { check = Failed why; rounds = 0 } → (P : Posed) (l : List ℤ) → Packs (r .check) P l
+unpacked {r} {why} f P l = let g : r .check ≡ Failed why = ap (λ (x : Ground). x .check) f in record { is = λ e. never (cc) }
 
 -- ---- what is made of it
 module _ (P : Posed) (B : Buffers) where
@@ -109,15 +121,16 @@ module _ (P : Posed) (B : Buffers) where
   d = settleOn P (formed P .table) (basis (m P) (formed P .table)) (B .values)
 
   by-cases :
-      (c : Check) (s o : Bool) (u : List ℤ)
+      (c : Check) (s o : Bool) (k : ℕ) (u : List ℤ)
       → onCheck c B (cond s (cond o (overLimit B) d) (refused Standing (B .tableau) B))
       ≡ byGround (λ why t. refused why t B) d (onFirst c (B .tableau)
-      (cond s (cond o (grounded (Failed Elimination) (zeros (length (B .tableau)))) (grounded Passed u)) (grounded (Failed Standing) (B .tableau))))
-  by-cases (Failed why) s o u = refl
-  by-cases Passed false o u = refl
-  by-cases Passed true true u = refl
-  by-cases Passed true false u = refl
+      (cond s (cond o (grounded (Failed Elimination) 0 (zeros (length (B .tableau)))) (grounded Passed k u))
+      (grounded (Failed Standing) 0 (B .tableau))))
+  by-cases (Failed why) s o k u = refl
+  by-cases Passed false o k u = refl
+  by-cases Passed true true k u = refl
+  by-cases Passed true false k u = refl
 
   pub continue-ground : continue P B ≡ byGround (λ why t. refused why t B) d (ground P (B .values) (lentOf B) (B .tableau))
   unfolding continue ground
-  continue-ground = by-cases (firstCause P (lentOf B)) (stands P (B .values)) (formed P .over) (flat (formed P .table))
+  continue-ground = by-cases (firstCause P (lentOf B)) (stands P (B .values)) (formed P .over) (roundsOf P) (flat (formed P .table))

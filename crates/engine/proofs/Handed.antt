@@ -24,8 +24,8 @@ use Rattle.settling.specs.Seating.{idealAt, Seated, seated, far, seat}
 use Rattle.settling.specs.Steps.{partOf, nextStep}
 use Rattle.settling.specs.Strides.{strides}
 use Rattle.settling.proofs.Wishes.{next-unwished, settle-unwished, seat-same}
-use Rattle.engine.specs.Assign.{Buffers, posedBy, n, m, columns, lentOf, refused, overLimit, settled, settleOn, onCheck, onSeated, onFound}
-use Rattle.engine.specs.Assign.{solved, assign, stands, formed, continue}
+use Rattle.engine.specs.Assign.{Buffers, posedBy, n, m, columns, lentOf, roundsOf, refused, overLimit, settled, settleOn}
+use Rattle.engine.specs.Assign.{onCheck, onSeated, onFound, solved, assign, stands, formed, continue}
 use Rattle.engine.specs.Demand.{handedIn}
 use Rattle.engine.specs.Handed.{ButIdeals, broughtIn, SameUse, IdealsUsed, IdealsUnread}
 use Rattle.engine.specs.Preview.{shown, withLimit, lentBeside, unshown, onCause, told, after, shownOn, preview}
@@ -70,7 +70,7 @@ module _ (P : Posed) (ms xs : List ℤ) (l : length (P .given) ≡ length ms) (k
   settled-same : (T N : List (List ℤ)) (v : List ℤ) → settleOn P T N v ≡ settleOn other T N v
   unfolding settleOn
   settled-same T N v =
-      ap (settled T (strides (n P) N))
+      ap (settled (roundsOf P) T (strides (n P) N))
       (settle-unwished (columns P) N (P .problem .limit) v ∙ sym (settle-unwished (columns other) N (P .problem .limit) v))
 
   -- ---- Continue and the preview
@@ -87,7 +87,7 @@ module _ (P : Posed) (ms xs : List ℤ) (l : length (P .given) ≡ length ms) (k
 
   shown-same : (T N : List (List ℤ)) (v : List ℤ) → shownOn P T N v ≡ shownOn other T N v
   shown-same T N v = λ i.
-      shown (told (partOf (columns P) v) (next-same N v i)) (flat T) (after N v (next-same N v i)) (strides (n P) N)
+      shown (told (partOf (columns P) v) (next-same N v i)) (roundsOf P) (flat T) (after N v (next-same N v i)) (strides (n P) N)
 
   preview-same : (v : List ℤ) (B : Buffers) → preview P v B ≡ preview other v B
   unfolding preview

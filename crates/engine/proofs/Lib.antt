@@ -19,3 +19,4 @@ pub mod Handed
 pub mod OneGoal
 pub mod Stride
 pub mod Leaving
+pub mod Ceilings

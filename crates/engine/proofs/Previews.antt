@@ -80,6 +80,7 @@ refused-equal v B why t = record {
   refused = λ other. ((λ e. cc), (λ e. cc));
   rests = ((λ e. never (cc)), (λ e. untrue (e .0)));
   steps = λ p. ((λ x. let e = x .is in never (cc)), (λ e. absurd (no-step p e)));
+  rounds = refl;
   tableau = refl;
   strides = refl;
   after = λ e. untrue e;
@@ -92,13 +93,14 @@ record EndsWith (z : Settled) (k : Counts) (w : List ℤ) : Type 0 where
   counts : answerCounts (z .answer) ≡ k
   values : z .values ≡ w
 
-module _ (x : Shown) (d : Done) (before : List ℤ) (v : isVerdict (d .answer) ≡ true) (t : x .tableau ≡ d .tableau) (s : x .strides ≡ d .strides)
-    (a : x .after ≡ d .values) where
+module _ (x : Shown) (d : Done) (before : List ℤ) (v : isVerdict (d .answer) ≡ true) (r : x .rounds ≡ d .rounds) (t : x .tableau ≡ d .tableau)
+    (s : x .strides ≡ d .strides) (a : x .after ≡ d .values) where
   rest-equal : x .seen ≡ Rest → answerCounts (d .answer) ≡ noSteps → Equals x d before
   rest-equal e k = record {
     refused = λ why. ((λ h. never (cc)), (λ h. absurd (turned-not (d .answer) why v h)));
     rests = ((λ h. (v, k)), (λ h. e));
     steps = λ p. ((λ y. let h = y .is in never (cc)), (λ h. absurd (no-step p (sym k ∙ h))));
+    rounds = r;
     tableau = t;
     strides = s;
     after = λ h. a;
@@ -116,6 +118,7 @@ module _ (x : Shown) (d : Done) (before : List ℤ) (v : isVerdict (d .answer) �
           k ∙ ap (λ (r : Part). counted r noSteps) z),
       (λ h. record { column = i; move = o; is = e ∙ ap (λ (r : Part). Next r i o) (same-part p q (sym k ∙ h)) }),
     );
+    rounds = r;
     tableau = t;
     strides = s;
     after = λ h. a;
@@ -160,11 +163,11 @@ shown-equal P v T N before = go (nextStep C N v) refl
     go : (z : Step) → nextStep C N v ≡ z → Equals (shownOn P T N v) (settleOn (withLimit 1 P) T N v) before
     go Still e =
         let w = rests-ends C N v e in
-        rest-equal (shownOn P T N v) (settleOn (withLimit 1 P) T N v) before (w .verdict) refl refl (ap (after N v) e ∙ sym (w .values))
+        rest-equal (shownOn P T N v) (settleOn (withLimit 1 P) T N v) before (w .verdict) refl refl refl (ap (after N v) e ∙ sym (w .values))
         (ap (told (partOf C v)) e) (w .counts)
     go (Take i o) e =
         let w = step-ends C N v i o e in
-        step-equal (shownOn P T N v) (settleOn (withLimit 1 P) T N v) before (w .verdict) refl refl (ap (after N v) e ∙ sym (w .values))
+        step-equal (shownOn P T N v) (settleOn (withLimit 1 P) T N v) before (w .verdict) refl refl refl (ap (after N v) e ∙ sym (w .values))
         (partOf C v) i o (ap (told (partOf C v)) e) (w .counts)
 
 -- ---- whole
@@ -317,7 +320,8 @@ module _ (P : Posed) (v : List ℤ) (B : Buffers) (p : Part) (i : ℕ) (o : Move
   is-clear : Clear (withLimit 1 P) v L (B .tableau) (g .tableau)
   is-clear =
       clear (withLimit 1 P) v L (B .tableau)
-      (ap (λ (c : Check). grounded c (g .tableau)) (sym (no-refusal P v B p i o (g .check) (g .tableau) (rw (preview-ground P v B) at e))))
+      (ap (λ (c : Check). grounded c (g .rounds) (g .tableau))
+      (sym (no-refusal P v B p i o (g .check) (g .tableau) (rw (preview-ground P v B) at e))))
 
   abbrev laid : Laid (withLimit 1 P) L (clear-passes _ _ _ _ is-clear) (g .tableau)
   laid = clear-laid _ _ _ _ is-clear

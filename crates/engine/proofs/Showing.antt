@@ -1,7 +1,7 @@
 -- The preview, by what is found before it.
 --   both-long         where the length that stands for both lists is n, both have n numbers
 --   stepping          the next step of a ready list can be taken
---   shownWith t x     what is displayed, with t in the tableau
+--   shownWith k t x   what is displayed, with t in the tableau, of k rounds
 --   preview-ground    a preview is made of what is found
 --   preview-shown     where nothing is refused it is what is displayed over the basis in the tableau
 -- Assumes nothing.
@@ -26,7 +26,7 @@ use Rattle.settling.specs.Ready.{Ready}
 use Rattle.settling.specs.Steps.{turnOf}
 use Rattle.settling.specs.Views.{vectors}
 use Rattle.settling.proofs.Settlings.{taken-ready}
-use Rattle.engine.specs.Assign.{Buffers, n, columns, stands, formed}
+use Rattle.engine.specs.Assign.{Buffers, n, columns, roundsOf, stands, formed}
 use Rattle.engine.specs.Ground.{grounded, onFirst, ground}
 use Rattle.engine.specs.Outcomes.{basisLeft}
 use Rattle.engine.specs.Preview.{Shown, shown, withLimit, listLength, lentBeside, unshown, onCause, shownOn, preview}
@@ -49,32 +49,33 @@ stepping {B} {v} {t} {l} {x} r e = record {
   move = λ i o h. taken-ready B v t l i o r (sym (ap (λ (z : Turn). z .step) e) ∙ h) .0;
 }
 
-abbrev pub shownWith : List ℤ → Displayed → Shown
-shownWith t x = shown (x .seen) t (x .after) (x .strides)
+abbrev pub shownWith : ℕ → List ℤ → Displayed → Shown
+shownWith k t x = shown (x .seen) k t (x .after) (x .strides)
 
 module _ (P : Posed) (v : List ℤ) (B : Buffers) where
   abbrev x : Shown
   x = shownOn P (formed P .table) (basisLeft P) v
 
   by-cases :
-      (c : Check) (s o : Bool) (u : List ℤ)
+      (c : Check) (s o : Bool) (k : ℕ) (u : List ℤ)
       → onCause c B (cond s (cond o (unshown Elimination (zeros (length (B .tableau))) B) x) (unshown Standing (B .tableau) B))
       ≡ byGround (λ why t. unshown why t B) x (onFirst c (B .tableau)
-      (cond s (cond o (grounded (Failed Elimination) (zeros (length (B .tableau)))) (grounded Passed u)) (grounded (Failed Standing) (B .tableau))))
-  by-cases (Failed why) s o u = refl
-  by-cases Passed false o u = refl
-  by-cases Passed true true u = refl
-  by-cases Passed true false u = refl
+      (cond s (cond o (grounded (Failed Elimination) 0 (zeros (length (B .tableau)))) (grounded Passed k u))
+      (grounded (Failed Standing) 0 (B .tableau))))
+  by-cases (Failed why) s o k u = refl
+  by-cases Passed false o k u = refl
+  by-cases Passed true true k u = refl
+  by-cases Passed true false k u = refl
 
   pub preview-ground : preview P v B ≡ byGround (λ why t. unshown why t B) x (ground (withLimit 1 P) v (lentBeside (n P) v B) (B .tableau))
   unfolding preview ground
-  preview-ground = by-cases (firstCause (withLimit 1 P) (lentBeside (n P) v B)) (stands P v) (formed P .over) (flat (formed P .table))
+  preview-ground = by-cases (firstCause (withLimit 1 P) (lentBeside (n P) v B)) (stands P v) (formed P .over) (roundsOf P) (flat (formed P .table))
 
   module _ {u : List ℤ} (c : Clear (withLimit 1 P) v (lentBeside (n P) v B) (B .tableau) u) where
-    pub preview-shown : preview P v B ≡ shownWith u (displayedOver (withLimit 1 P .problem) (columns P) u v)
+    pub preview-shown : preview P v B ≡ shownWith (roundsOf P) u (displayedOver (withLimit 1 P .problem) (columns P) u v)
     unfolding preview
     preview-shown =
         rw (c .passed, c .standing, c .kept) refl
-        ∙ ap (λ (t : List ℤ). shownWith t (displayedBy (columns P) (basisLeft P) v)) (sym (c .is))
-        ∙ ap (λ (N : List (List ℤ)). shownWith u (displayedBy (columns P) N v))
+        ∙ ap (λ (t : List ℤ). shownWith (roundsOf P) t (displayedBy (columns P) (basisLeft P) v)) (sym (c .is))
+        ∙ ap (λ (N : List (List ℤ)). shownWith (roundsOf P) u (displayedBy (columns P) N v))
         (sym (laid-basis (withLimit 1 P) (lentBeside (n P) v B) (clear-passes _ _ _ _ c) (clear-laid _ _ _ _ c)))

@@ -1,9 +1,11 @@
 -- A whole assignment and Continue, of document 01: what they return, and what they leave in each lent buffer.
 --   Buffers          the lent buffers that a call fills: the tableau, the interval list and the strides
---   Done             what a call returns and what these buffers then hold; "problem buffers are only read". `done` makes one of the four
+--   Done             what a call returns and what these buffers then hold; "problem buffers are only read". Of document 02, (vii), it returns the
+--                    rounds of elimination too. `done` makes one of the five
 --   posedBy, buffers   a call's arguments, as a problem and as the buffers
 --   n, m, matrix, columns P   the problem's parts; lentOf B, the lengths of the buffers
---   refused ..       "number, counts 0", with the lists as before; overLimit, refusal 7; settled, settleOn, a verdict
+--   refused ..       "number, counts 0", and "A refusal returns 0 rounds", with the lists as before; overLimit, refusal 7; settled, settleOn, a verdict
+--   roundsOf P       the rounds of the tableau
 --   solved, formed   the tableau with the right side, and without it; stands P v, the list v satisfies the rows, within ±M
 --   assignFit, continueFit   past the checks; onCheck, onFound, onSeated by what is found before
 --   assign P B       "A whole assignment is the tableau, the right side, seating and settling."
@@ -30,6 +32,7 @@ use Rattle.problem.specs.declared.Check.the-variants.{Passed, Failed}
 use Rattle.problem.specs.declared.Answer.{Answer}
 use Rattle.problem.specs.declared.Answer.the-variants.{Refused}
 use Rattle.tableau.specs.Elimination.{Run}
+use Rattle.tableau.specs.RoundCount.{formRounds}
 use Rattle.tableau.specs.RightSide.{Found, none, some, Solved, basis, form, solve}
 use Rattle.settling.specs.Columns.{Columns, listed}
 use Rattle.settling.specs.Seating.{Seated, seated, far, seat}
@@ -43,6 +46,7 @@ pub record Buffers : Type 0 where
 
 pub record Done : Type 0 where
   pub answer : Answer
+  pub rounds : ℕ
   pub tableau : List ℤ
   pub values : List ℤ
   pub strides : List ℕ
@@ -63,8 +67,14 @@ posedBy p coefficients rights lower upper low high given ideals = record {
 abbrev pub buffers : List ℤ → List ℤ → List ℕ → Buffers
 buffers tableau values strides = record { tableau = tableau; values = values; strides = strides }
 
-abbrev pub done : Answer → List ℤ → List ℤ → List ℕ → Done
-done answer tableau values strides = record { answer = answer; tableau = tableau; values = values; strides = strides }
+abbrev pub done : Answer → ℕ → List ℤ → List ℤ → List ℕ → Done
+done answer rounds tableau values strides = record {
+  answer = answer;
+  rounds = rounds;
+  tableau = tableau;
+  values = values;
+  strides = strides;
+}
 
 -- ---- the problem's parts
 abbrev pub n : Posed → ℕ
@@ -82,22 +92,26 @@ columns P = listed (n P) (P .lower) (P .upper) (P .low) (P .high) (P .given) (P 
 abbrev pub lentOf : Buffers → Lent
 lentOf B = record { tableau = length (B .tableau); values = length (B .values); strides = length (B .strides) }
 
+-- document 02, (vii): "The rounds are counted and returned"
+abbrev pub roundsOf : Posed → ℕ
+roundsOf P = formRounds (n P) (matrix P)
+
 -- ---- what is left: the table "Turned back"
 -- T is what the tableau then holds
 abbrev pub refused : Refusal → List ℤ → Buffers → Done
-refused why T B = done (Refused why) T (B .values) (B .strides)
+refused why T B = done (Refused why) 0 T (B .values) (B .strides)
 
 -- 7: "tableau all 0, lists as before"
 abbrev pub overLimit : Buffers → Done
 overLimit B = refused Elimination (zeros (length (B .tableau))) B
 
 -- "leaves the form in the tableau, the final values in the interval list and the strides in theirs"
-abbrev pub settled : List (List ℤ) → List ℕ → Settled → Done
-settled T d z = done (z .answer) (flat T) (z .values) d
+abbrev pub settled : ℕ → List (List ℤ) → List ℕ → Settled → Done
+settled rounds T d z = done (z .answer) rounds (flat T) (z .values) d
 
 -- settling over the basis N of the form T, from the list v
 unfoldable pub settleOn : Posed → List (List ℤ) → List (List ℤ) → List ℤ → Done
-settleOn P T N v = settled T (strides (n P) N) (settle (P .problem .limit) (columns P) N v)
+settleOn P T N v = settled (roundsOf P) T (strides (n P) N) (settle (P .problem .limit) (columns P) N v)
 
 -- what the checks find, then the rest
 abbrev pub onCheck : Check → Buffers → Done → Done

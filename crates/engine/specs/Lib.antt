@@ -1,5 +1,6 @@
 -- The root of the definitions.
 pub mod Assign
+pub mod Replies
 pub mod BasisPlace
 pub mod Placed
 pub mod Finish
@@ -10,5 +11,6 @@ pub mod OneGoal
 pub mod Outcomes
 pub mod Stride
 pub mod Preview
+pub mod Ceiling
 pub mod Ground
 pub mod Showing

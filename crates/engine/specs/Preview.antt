@@ -1,6 +1,7 @@
 -- Document 02, (i): the next step of a standing list, shown before it is taken.
 --   Seen               what is told: a refusal, that no move improves, or a step's part, column and move (declared in src/)
---   Shown              what is told, and what the tableau, the list after and the strides then hold; `shown` makes one of the four
+--   Shown              what is told, the rounds of the tableau, and what the tableau, the list after and the strides then hold; `shown` makes one of
+--                      the five
 --   withLimit k P      the problem P with the step limit k for the one held beside it
 --   listLength n a b   of two lists that need n numbers, a length that is n exactly if both are
 --   lentBeside n v B   with it the lengths of the buffers B
@@ -49,19 +50,20 @@ use Rattle.settling.specs.Settle.{counted}
 use Rattle.settling.specs.Steps.{partOf, nextStep}
 use Rattle.settling.specs.Strides.{strides}
 use Rattle.settling.specs.Verdicts.{Improving, NoMoveImproves}
-use Rattle.engine.specs.Assign.{Buffers, buffers, Done, n, m, columns, stands, formed, continue}
+use Rattle.engine.specs.Assign.{Buffers, buffers, Done, n, m, columns, roundsOf, stands, formed, continue}
 use Rattle.engine.specs.Outcomes.{basisLeft}
 use Rattle.engine.specs.declared.preview.Seen.{Seen}
 use Rattle.engine.specs.declared.preview.Seen.the-variants.{Refused, Rest, Next}
 
 pub record Shown : Type 0 where
   pub seen : Seen
+  pub rounds : ℕ
   pub tableau : List ℤ
   pub after : List ℤ
   pub strides : List ℕ
 
-abbrev pub shown : Seen → List ℤ → List ℤ → List ℕ → Shown
-shown seen tableau after strides = record { seen = seen; tableau = tableau; after = after; strides = strides }
+abbrev pub shown : Seen → ℕ → List ℤ → List ℤ → List ℕ → Shown
+shown seen rounds tableau after strides = record { seen = seen; rounds = rounds; tableau = tableau; after = after; strides = strides }
 
 abbrev pub withLimit : ℕ → Posed → Posed
 withLimit k P = record {
@@ -90,7 +92,7 @@ lentBeside n v B = record {
 -- ---- what is left: the table "Turned back"
 -- T is what the tableau then holds
 abbrev pub unshown : Refusal → List ℤ → Buffers → Shown
-unshown why T B = shown (Refused why) T (B .values) (B .strides)
+unshown why T B = shown (Refused why) 0 T (B .values) (B .strides)
 
 abbrev pub onCause : Check → Buffers → Shown → Shown
 onCause Passed B x = x
@@ -108,7 +110,7 @@ after N v (Take i o) = moved N o v
 
 abbrev pub shownOn : Posed → List (List ℤ) → List (List ℤ) → List ℤ → Shown
 shownOn P T N v =
-    shown (told (partOf (columns P) v) (nextStep (columns P) N v)) (flat T) (after N v (nextStep (columns P) N v)) (strides (n P) N)
+    shown (told (partOf (columns P) v) (nextStep (columns P) N v)) (roundsOf P) (flat T) (after N v (nextStep (columns P) N v)) (strides (n P) N)
 
 -- 10, then 7
 abbrev pub previewFit : Posed → List ℤ → Buffers → Shown
@@ -137,6 +139,8 @@ pub record Equals (x : Shown) (d : Done) (before : List ℤ) : Type 0 where
   pub rests : (x .seen ≡ Rest) ↔ ((isVerdict (d .answer) ≡ true) × (answerCounts (d .answer) ≡ noSteps))
   -- a step is shown exactly when Continue takes one, and of that part
   pub steps : (p : Part) → ShowsStep x p ↔ (answerCounts (d .answer) ≡ counted p noSteps)
+  -- the rounds are Continue's, 0 with a refusal
+  pub rounds : x .rounds ≡ d .rounds
   -- the tableau and the strides are those that Continue leaves, and the list after is the list that it leaves in place of the copy
   pub tableau : x .tableau ≡ d .tableau
   pub strides : x .strides ≡ d .strides

@@ -1,5 +1,6 @@
 // What Continue and the preview share: the checks, the test of the list, the form, and the packed columns.
 ghost use mathlib.Core.Path.{_≡_};
+ghost use Rattle.problem.specs.declared.Check.the-variants.{Failed};
 ghost use Rattle.engine.specs.Assign.{posedBy};
 ghost use Rattle.engine.specs.Ground.{grounded, ground, Groundable, Packs};
 use crate::standing::stands;
@@ -10,6 +11,21 @@ use problem::Refusal;
 use problem::checks::first_cause;
 use settling::columns::WIDTH;
 use settling::columns::pack;
+
+// What is found, and the rounds that the form took; 0 with a refusal.
+pub(crate) struct Ground {
+    pub check: Check,
+    pub rounds: u32,
+}
+
+fn failed(why: Refusal) -> Ground
+    ensures { λ r. ⌜ r ≡ record { check = Failed why; rounds = 0 } ⌝ }
+{
+    Ground {
+        check: Check::Failed(why),
+        rounds: 0,
+    }
+}
 
 // Looks for a refusal, 1 to 6, then 10 for the list, then 7. Where there is none, it leaves the form in the tableau and the columns in front of
 // their table.
@@ -27,15 +43,15 @@ pub(crate) fn lay_ground(
     lent: Lent,
     tableau: &mut [i64],
     columns: &mut [i64],
-) -> Check
+) -> Ground
     requires { ⌜ Groundable (posedBy p (now coefficients) (now rights) (now lower) (now upper) (now low) (now high) (now given) (now ideals))
         (now list) lent (now tableau) (now columns) ⌝ }
-    ensures { λ r. ⌜ (grounded r (now (tableau .exit))
+    ensures { λ r. ⌜ (grounded (r .check) (r .rounds) (now (tableau .exit))
         ≡ ground
         (posedBy p (now (coefficients .entry)) (now (rights .entry)) (now (lower .entry)) (now (upper .entry))
         (now (low .entry)) (now (high .entry)) (now (given .entry)) (now (ideals .entry)))
         (now (list .entry)) lent (now (tableau .entry)))
-        × Packs r
+        × Packs (r .check)
         (posedBy p (now (coefficients .entry)) (now (rights .entry)) (now (lower .entry)) (now (upper .entry))
         (now (low .entry)) (now (high .entry)) (now (given .entry)) (now (ideals .entry)))
         (now (columns .exit)) ⌝ }
@@ -52,15 +68,19 @@ pub(crate) fn lay_ground(
         ideals,
         lent,
     ) {
-        return Check::Failed(why);
+        return failed(why);
     }
     if !stands(p, coefficients, rights, list) {
-        return Check::Failed(Refusal::Standing);
+        return failed(Refusal::Standing);
     }
-    if tableau::form(tableau, p, coefficients) {
-        return Check::Failed(Refusal::Elimination);
+    let formed = tableau::form(tableau, p, coefficients);
+    if formed.over {
+        return failed(Refusal::Elimination);
     }
     let used = WIDTH * p.columns;
     pack(&mut columns[..used], lower, upper, low, high, given, ideals);
-    Check::Passed
+    Ground {
+        check: Check::Passed,
+        rounds: formed.rounds,
+    }
 }

@@ -2,6 +2,7 @@
 // Past the checks the lists of bounds, goals and ideals are packed once into a table of columns, which is all that is lent on of them.
 ghost use mathlib.Core.Path.{_≡_};
 ghost use Rattle.engine.specs.Assign.{posedBy, buffers, done};
+ghost use Rattle.engine.specs.Replies.{replyOf};
 ghost use Rattle.engine.specs.Assign as Assign;
 use ending::finish;
 use ending::settle_over;
@@ -22,6 +23,36 @@ pub mod preview;
 mod standing;
 mod views;
 
+// What a call returns: the answer, and the rounds that its tableau took. A refusal returns 0 rounds.
+pub struct Reply {
+    pub answer: Answer,
+    pub rounds: u32,
+}
+
+// An answer with the rounds of its tableau, which a refusal does not return.
+fn reply_of(answer: Answer, rounds: u32) -> Reply
+    ensures { λ r. ⌜ r ≡ replyOf answer rounds ⌝ }
+{
+    match answer {
+        Answer::Fitted(_) => Reply {
+            answer: answer,
+            rounds: rounds,
+        },
+        Answer::Outside(_) => Reply {
+            answer: answer,
+            rounds: rounds,
+        },
+        Answer::Spent(_) => Reply {
+            answer: answer,
+            rounds: rounds,
+        },
+        Answer::Refused(_) => Reply {
+            answer: answer,
+            rounds: 0,
+        },
+    }
+}
+
 // A whole assignment: causes 1 to 6, the tableau and the right side (7 and 8), seating (9) and settling. The starting list has room of its own, since
 // the interval list must stay as it is until the list is seated.
 pub fn assign(
@@ -37,8 +68,8 @@ pub fn assign(
     tableau: &mut [i64],
     values: &mut [i64],
     strides: &mut [u64],
-) -> Answer
-    ensures { λ r. ⌜ done r (now (tableau .exit)) (now (values .exit)) (now (strides .exit))
+) -> Reply
+    ensures { λ r. ⌜ done (r .answer) (r .rounds) (now (tableau .exit)) (now (values .exit)) (now (strides .exit))
         ≡ Assign.assign (posedBy p (now (coefficients .entry)) (now (rights .entry)) (now (lower .entry)) (now (upper .entry))
         (now (low .entry)) (now (high .entry)) (now (given .entry)) (now (ideals .entry)))
         (buffers (now (tableau .entry)) (now (values .entry)) (now (strides .entry))) ⌝ }
@@ -60,25 +91,22 @@ pub fn assign(
         ideals,
         lent,
     ) {
-        return Answer::Refused(why);
+        return reply_of(Answer::Refused(why), 0);
     }
     let mut columns = [0i64; WIDTH * Problem::MAX_COLUMNS];
     let n = p.columns;
-    let used = WIDTH * n;
-    pack(&mut columns[..used], lower, upper, low, high, given, ideals);
+    let k = WIDTH * n;
+    pack(&mut columns[..k], lower, upper, low, high, given, ideals);
     let mut start = [0i64; Problem::MAX_COLUMNS];
-    let solution = rightside::solve(tableau, p, coefficients, rights, &mut start[..n]);
+    let solved = rightside::solve(tableau, p, coefficients, rights, &mut start[..n]);
+    let solution = solved.solution;
     match solution {
-        Solution::Over => Answer::Refused(Refusal::Elimination),
-        Solution::None => Answer::Refused(Refusal::NoWholeNumbers),
-        Solution::Found => finish(
-            p,
-            &columns[..used],
-            tableau,
-            &mut start[..n],
-            values,
-            strides,
-        ),
+        Solution::Over => reply_of(Answer::Refused(Refusal::Elimination), 0),
+        Solution::None => reply_of(Answer::Refused(Refusal::NoWholeNumbers), 0),
+        Solution::Found => {
+            let answer = finish(p, &columns[..k], tableau, &mut start[..n], values, strides);
+            reply_of(answer, solved.rounds)
+        }
     }
 }
 
@@ -97,8 +125,8 @@ pub fn continue_from(
     tableau: &mut [i64],
     values: &mut [i64],
     strides: &mut [u64],
-) -> Answer
-    ensures { λ r. ⌜ done r (now (tableau .exit)) (now (values .exit)) (now (strides .exit))
+) -> Reply
+    ensures { λ r. ⌜ done (r .answer) (r .rounds) (now (tableau .exit)) (now (values .exit)) (now (strides .exit))
         ≡ Assign.continue (posedBy p (now (coefficients .entry)) (now (rights .entry)) (now (lower .entry)) (now (upper .entry))
         (now (low .entry)) (now (high .entry)) (now (given .entry)) (now (ideals .entry)))
         (buffers (now (tableau .entry)) (now (values .entry)) (now (strides .entry))) ⌝ }
@@ -109,7 +137,7 @@ pub fn continue_from(
         strides: strides.len(),
     };
     let mut columns = [0i64; WIDTH * Problem::MAX_COLUMNS];
-    let found = lay_ground(
+    let ground = lay_ground(
         p,
         coefficients,
         rights,
@@ -124,9 +152,11 @@ pub fn continue_from(
         tableau,
         &mut columns,
     );
+    let found = ground.check;
     if let Check::Failed(why) = found {
-        return Answer::Refused(why);
+        return reply_of(Answer::Refused(why), 0);
     }
     let used = WIDTH * p.columns;
-    settle_over(p, &columns[..used], tableau, values, strides)
+    let answer = settle_over(p, &columns[..used], tableau, values, strides);
+    reply_of(answer, ground.rounds)
 }

@@ -31,6 +31,12 @@ pub enum Seen {
     Next(Part, usize, Move),
 }
 
+// What a preview returns: what it tells, and the rounds that its tableau took. A refusal returns 0 rounds.
+pub struct Sight {
+    pub seen: Seen,
+    pub rounds: u32,
+}
+
 // Tells of a step, and takes it on a copy of the list.
 fn show_turn(turn: Turn, basis: &[i64], view: Basis, after: &mut [i64]) -> Seen
     requires { ⌜ Stepping turn view (now after) (now basis) ⌝ }
@@ -113,8 +119,8 @@ pub fn preview(
     tableau: &mut [i64],
     after: &mut [i64],
     strides: &mut [u64],
-) -> Seen
-    ensures { λ r. ⌜ shown r (now (tableau .exit)) (now (after .exit)) (now (strides .exit))
+) -> Sight
+    ensures { λ r. ⌜ shown (r .seen) (r .rounds) (now (tableau .exit)) (now (after .exit)) (now (strides .exit))
         ≡ Preview.preview
         (posedBy p (now (coefficients .entry)) (now (rights .entry)) (now (lower .entry)) (now (upper .entry))
         (now (low .entry)) (now (high .entry)) (now (given .entry)) (now (ideals .entry)))
@@ -131,7 +137,7 @@ pub fn preview(
         strides: strides.len(),
     };
     let mut columns = [0i64; WIDTH * Problem::MAX_COLUMNS];
-    let found = lay_ground(
+    let ground = lay_ground(
         one,
         coefficients,
         rights,
@@ -146,9 +152,17 @@ pub fn preview(
         tableau,
         &mut columns,
     );
+    let found = ground.check;
     if let Check::Failed(why) = found {
-        return Seen::Refused(why);
+        return Sight {
+            seen: Seen::Refused(why),
+            rounds: 0,
+        };
     }
     let used = WIDTH * one.columns;
-    show_over(one, &columns[..used], tableau, standing, after, strides)
+    let seen = show_over(one, &columns[..used], tableau, standing, after, strides);
+    Sight {
+        seen: seen,
+        rounds: ground.rounds,
+    }
 }

@@ -1,5 +1,5 @@
 -- What the preview's call for C comes to.
---   stored-six              six numbers stored in a list of six are that list
+--   stored-seven            seven numbers stored in a list of seven are that list
 --   sign-minus, -none, -plus, vector-none, -some   the numbers of a sign and of a vector
 --   read-signs              the machine reads the signs of a move back as they are
 --   small-step              what a preview shows fits the report
@@ -30,17 +30,18 @@ use Rattle.engine.proofs.Previews.{preview-small}
 use Rattle.koralimbu.specs.Calls.{returned}
 use Rattle.koralimbu.specs.Previews.{seenNumber, signNumber, vectorNumber, previewLength, stepOf, previewTold, previewCalled, SmallStep}
 
-pub stored-six :
-    (r : List ℕ) (a b c d e f : ℕ) → length r ≡ previewLength
-    → set (set (set (set (set (set r 0 a) 1 b) 2 c) 3 d) 4 e) 5 f ≡ a ∷ b ∷ c ∷ d ∷ e ∷ f ∷ []
-stored-six [] a b c d e f l = absurd (omega arith)
-stored-six (x1 ∷ []) a b c d e f l = absurd (omega arith)
-stored-six (x1 ∷ x2 ∷ []) a b c d e f l = absurd (omega arith)
-stored-six (x1 ∷ x2 ∷ x3 ∷ []) a b c d e f l = absurd (omega arith)
-stored-six (x1 ∷ x2 ∷ x3 ∷ x4 ∷ []) a b c d e f l = absurd (omega arith)
-stored-six (x1 ∷ x2 ∷ x3 ∷ x4 ∷ x5 ∷ []) a b c d e f l = absurd (omega arith)
-stored-six (x1 ∷ x2 ∷ x3 ∷ x4 ∷ x5 ∷ x6 ∷ []) a b c d e f l = refl
-stored-six (x1 ∷ x2 ∷ x3 ∷ x4 ∷ x5 ∷ x6 ∷ x7 ∷ r) a b c d e f l = absurd (omega arith)
+pub stored-seven :
+    (r : List ℕ) (a b c d e f g : ℕ) → length r ≡ previewLength
+    → set (set (set (set (set (set (set r 0 a) 1 b) 2 c) 3 d) 4 e) 5 f) 6 g ≡ a ∷ b ∷ c ∷ d ∷ e ∷ f ∷ g ∷ []
+stored-seven [] a b c d e f g l = absurd (omega arith)
+stored-seven (x1 ∷ []) a b c d e f g l = absurd (omega arith)
+stored-seven (x1 ∷ x2 ∷ []) a b c d e f g l = absurd (omega arith)
+stored-seven (x1 ∷ x2 ∷ x3 ∷ []) a b c d e f g l = absurd (omega arith)
+stored-seven (x1 ∷ x2 ∷ x3 ∷ x4 ∷ []) a b c d e f g l = absurd (omega arith)
+stored-seven (x1 ∷ x2 ∷ x3 ∷ x4 ∷ x5 ∷ []) a b c d e f g l = absurd (omega arith)
+stored-seven (x1 ∷ x2 ∷ x3 ∷ x4 ∷ x5 ∷ x6 ∷ []) a b c d e f g l = absurd (omega arith)
+stored-seven (x1 ∷ x2 ∷ x3 ∷ x4 ∷ x5 ∷ x6 ∷ x7 ∷ []) a b c d e f g l = refl
+stored-seven (x1 ∷ x2 ∷ x3 ∷ x4 ∷ x5 ∷ x6 ∷ x7 ∷ x8 ∷ r) a b c d e f g l = absurd (omega arith)
 
 -- ---- signs and vectors
 pub sign-minus : (x : ℤ) → ltZ x (pos 0) ≡ true → 2 ≡ signNumber x
@@ -72,7 +73,7 @@ read-signs o m = (read (o .a) (omega (arith, m .a)), read (o .b) (omega (arith, 
 
 -- ---- the call
 module _ (P : Posed) (v : List ℤ) (B : Buffers) where
-  module _ (x : Seen) (t u : List ℤ) (s : List ℕ) (e : shown x t u s ≡ preview P v B) where
+  module _ (x : Seen) (k : ℕ) (t u : List ℤ) (s : List ℕ) (e : shown x k t u s ≡ preview P v B) where
     pub small-step : SmallStep x
     small-step =
         subst SmallStep (sym (λ i. e i .seen)) (record {
@@ -80,7 +81,7 @@ module _ (P : Posed) (v : List ℤ) (B : Buffers) where
           move = λ p i o h. preview-small P v B p i o h .1;
         })
 
-    pub is-shown : (r : List ℕ) (n : ℕ) (p : List ℕ) → length r ≡ previewLength → p ≡ stepOf x → n ≡ seenNumber x
+    pub is-shown : (r : List ℕ) (n : ℕ) (p : List ℕ) → length r ≡ previewLength → p ≡ stepOf x k → n ≡ seenNumber x
         → returned n (buffers t u s) p ≡ previewCalled P v B r
     unfolding previewCalled
     is-shown r n p l ep en = (λ i. returned (en i) (buffers t u s) (ep i)) ∙ ap previewTold e ∙ sym (rw (eq-eqb (length r) previewLength l) refl)

@@ -3,8 +3,8 @@
 --   partNumber p       1 the bounds part, 2 the goals part
 --   signNumber z       1 plus, 2 minus; 0 where there is no vector
 --   vectorNumber s z   the vector s, which z is the sign of, counted from 1; 0 where there is none
---   stepOf x           the previewLength numbers that tell of x: the part, the column, counted from 1, and the vectors of the move with their signs;
---                      0s where no move improves, and with a refusal
+--   stepOf x k         the previewLength numbers that tell of x and its k rounds: the part, the column, counted from 1, the vectors of the move with
+--                      their signs, 0s where no move improves, and with a refusal; then the rounds
 --   previewTold x      what is returned and left of a preview that has shown x; in the buffers the interval list is the list after
 --   previewCalled P v B r   that of P and the standing list v, by the length of the report r
 --   SmallStep x        column and move of a step are such as a problem can have
@@ -49,16 +49,16 @@ vectorNumber s (pos (suc k)) = suc s
 vectorNumber s (negsuc k) = suc s
 
 abbrev pub previewLength : ℕ
-previewLength = 6
+previewLength = 7
 
-abbrev pub stepOf : Seen → List ℕ
-stepOf (Refused why) = 0 ∷ 0 ∷ 0 ∷ 0 ∷ 0 ∷ 0 ∷ []
-stepOf Rest = 0 ∷ 0 ∷ 0 ∷ 0 ∷ 0 ∷ 0 ∷ []
-stepOf (Next p i o) =
-    partNumber p ∷ suc i ∷ vectorNumber (o .s) (o .a) ∷ signNumber (o .a) ∷ vectorNumber (o .t) (o .b) ∷ signNumber (o .b) ∷ []
+abbrev pub stepOf : Seen → ℕ → List ℕ
+stepOf (Refused why) k = 0 ∷ 0 ∷ 0 ∷ 0 ∷ 0 ∷ 0 ∷ k ∷ []
+stepOf Rest k = 0 ∷ 0 ∷ 0 ∷ 0 ∷ 0 ∷ 0 ∷ k ∷ []
+stepOf (Next p i o) k =
+    partNumber p ∷ suc i ∷ vectorNumber (o .s) (o .a) ∷ signNumber (o .a) ∷ vectorNumber (o .t) (o .b) ∷ signNumber (o .b) ∷ k ∷ []
 
 abbrev pub previewTold : Shown → Called
-previewTold x = returned (seenNumber (x .seen)) (buffers (x .tableau) (x .after) (x .strides)) (stepOf (x .seen))
+previewTold x = returned (seenNumber (x .seen)) (buffers (x .tableau) (x .after) (x .strides)) (stepOf (x .seen) (x .rounds))
 
 unfoldable pub previewCalled : Posed → List ℤ → Buffers → List ℕ → Called
 previewCalled P v B r = cond (eqb (length r) previewLength) (previewTold (preview P v B)) (untold B r)

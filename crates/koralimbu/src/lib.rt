@@ -14,8 +14,8 @@ use problem::Answer;
 use problem::Problem;
 use problem::Refusal;
 
-// How many numbers a report has: the verdict's, and the steps of the two parts.
-const REPORT: usize = 3;
+// How many numbers a report has: the verdict's, the steps of the two parts, and the rounds.
+const REPORT: usize = 4;
 
 fn verdict_number(answer: Answer) -> u32
     ensures { λ r. ⌜ r ≡ verdictNumber answer ⌝ }
@@ -28,9 +28,9 @@ fn verdict_number(answer: Answer) -> u32
     }
 }
 
-fn tell(answer: Answer, report: &mut [u32])
+fn tell(answer: Answer, rounds: u32, report: &mut [u32])
     requires { ⌜ length (now report) ≡ reportLength ⌝ }
-    ensures { λ _. ⌜ now (report .exit) ≡ reportOf answer ⌝ }
+    ensures { λ _. ⌜ now (report .exit) ≡ reportOf answer rounds ⌝ }
 {
     let verdict = verdict_number(answer);
     let counts = answer.counts();
@@ -39,6 +39,7 @@ fn tell(answer: Answer, report: &mut [u32])
     report[0] = verdict;
     report[1] = bounds;
     report[2] = goals;
+    report[3] = rounds;
 }
 
 // A whole assignment.
@@ -74,7 +75,7 @@ pub extern "C" fn koralimbu_assign(
         rows: m,
         limit: limit,
     };
-    let answer = engine::assign(
+    let reply = engine::assign(
         p,
         coefficients,
         rights,
@@ -88,7 +89,8 @@ pub extern "C" fn koralimbu_assign(
         values,
         strides,
     );
-    tell(answer, report);
+    let answer = reply.answer;
+    tell(answer, reply.rounds, report);
     answer.number()
 }
 
@@ -125,7 +127,7 @@ pub extern "C" fn koralimbu_continue(
         rows: m,
         limit: limit,
     };
-    let answer = engine::continue_from(
+    let reply = engine::continue_from(
         p,
         coefficients,
         rights,
@@ -139,6 +141,7 @@ pub extern "C" fn koralimbu_continue(
         values,
         strides,
     );
-    tell(answer, report);
+    let answer = reply.answer;
+    tell(answer, reply.rounds, report);
     answer.number()
 }

@@ -14,8 +14,8 @@ use settling::Part;
 use whole::less;
 use whole::magnitude;
 
-// How many numbers tell of a step: the part, the column, and two vectors with their signs.
-const STEP: usize = 6;
+// How many numbers tell of a step: the part, the column, two vectors with their signs, and the rounds.
+const STEP: usize = 7;
 
 fn seen_number(seen: Seen) -> u32
     ensures { λ r. ⌜ r ≡ seenNumber seen ⌝ }
@@ -67,9 +67,9 @@ fn vector_number(s: usize, x: i64) -> u32
 }
 
 // Writes the numbers of a step.
-fn write(report: &mut [u32], part: u32, column: u32, s: u32, a: u32, t: u32, b: u32)
+fn write(report: &mut [u32], part: u32, column: u32, s: u32, a: u32, t: u32, b: u32, rounds: u32)
     requires { ⌜ length (now report) ≡ previewLength ⌝ }
-    ensures { λ _. ⌜ now (report .exit) ≡ part ∷ column ∷ s ∷ a ∷ t ∷ b ∷ [] ⌝ }
+    ensures { λ _. ⌜ now (report .exit) ≡ part ∷ column ∷ s ∷ a ∷ t ∷ b ∷ rounds ∷ [] ⌝ }
 {
     report[0] = part;
     report[1] = column;
@@ -77,15 +77,16 @@ fn write(report: &mut [u32], part: u32, column: u32, s: u32, a: u32, t: u32, b: 
     report[3] = a;
     report[4] = t;
     report[5] = b;
+    report[6] = rounds;
 }
 
-fn tell_step(seen: Seen, report: &mut [u32])
+fn tell_step(seen: Seen, rounds: u32, report: &mut [u32])
     requires { ⌜ (length (now report) ≡ previewLength) × SmallStep seen ⌝ }
-    ensures { λ _. ⌜ now (report .exit) ≡ stepOf seen ⌝ }
+    ensures { λ _. ⌜ now (report .exit) ≡ stepOf seen rounds ⌝ }
 {
     match seen {
-        Seen::Refused(_) => write(report, 0, 0, 0, 0, 0, 0),
-        Seen::Rest => write(report, 0, 0, 0, 0, 0, 0),
+        Seen::Refused(_) => write(report, 0, 0, 0, 0, 0, 0, rounds),
+        Seen::Rest => write(report, 0, 0, 0, 0, 0, 0, rounds),
         Seen::Next(part, i, o) => {
             let number = part_number(part);
             let s = vector_number(o.s, o.a);
@@ -93,7 +94,7 @@ fn tell_step(seen: Seen, report: &mut [u32])
             let t = vector_number(o.t, o.b);
             let b = sign_number(o.b);
             let column = from_one(i);
-            write(report, number, column, s, a, t, b);
+            write(report, number, column, s, a, t, b, rounds);
         }
     }
 }
@@ -131,7 +132,7 @@ pub extern "C" fn koralimbu_preview(
         rows: m,
         limit: 1,
     };
-    let seen = engine::preview::preview(
+    let sight = engine::preview::preview(
         p,
         coefficients,
         rights,
@@ -146,6 +147,7 @@ pub extern "C" fn koralimbu_preview(
         after,
         strides,
     );
-    tell_step(seen, report);
+    let seen = sight.seen;
+    tell_step(seen, sight.rounds, report);
     seen_number(seen)
 }

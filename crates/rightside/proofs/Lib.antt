@@ -3,4 +3,4 @@ pub mod Staircase
 pub mod Sweeping
 pub mod Parting
 pub mod Answers
-pub mod Solving
+pub mod SolveLaws

@@ -4,6 +4,7 @@
 --                        s of the starting list
 --   solvedOf p a b       the form and the right side
 --   answerOf f, solutionOf x   what is answered, where no number lies beyond ±M, and in any case
+--   solvingOf x k        the same beside the k rounds of the form. Document 02, (vii): "A refusal returns 0 rounds.", by `roundsFor`
 --   tableauAfter x t, startAfter x s   what the two buffers hold then; by `startOf`, where no number lies beyond ±M
 --   Righted              what the right side of a form answers, and what the list that it works on holds then
 --   righted m T v        that of the form T, the right side v and m rows: all 0 where a number lies beyond ±M, else the list that is left
@@ -23,6 +24,7 @@ use Rattle.problem.specs.declared.Problem.{Problem}
 use Rattle.tableau.specs.RightSide.{Found, none, some, Solved, rightSide, listLeft, solve}
 use Rattle.tableau.specs.LentTable.{Formable, matrixOf}
 use Rattle.rightside.specs.declared.Solution.{Solution}
+use Rattle.rightside.specs.declared.Solving.{Solving}
 use Rattle.rightside.specs.declared.Solution.the-variants as code
 
 pub record Solvable (p : Problem) (t a b s : List ℤ) : Type 0 where
@@ -40,6 +42,14 @@ answerOf (some v N) = code.Found
 
 abbrev pub solutionOf : Solved → Solution
 solutionOf x = cond (x .over) code.Over (answerOf (x .found))
+
+abbrev pub roundsFor : Solution → ℕ → ℕ
+roundsFor code.Over k = 0
+roundsFor code.None k = 0
+roundsFor code.Found k = k
+
+abbrev pub solvingOf : Solved → ℕ → Solving
+solvingOf x k = record { solution = solutionOf x; rounds = roundsFor (solutionOf x) k }
 
 abbrev pub tableauAfter : Solved → List ℤ → List ℤ
 tableauAfter x t = cond (x .over) (zeros (length t)) (flat (x .form))

@@ -7,8 +7,10 @@ ghost use Rattle.lattice.specs.Rows.{neg, chop};
 ghost use Rattle.lattice.specs.Span.{All};
 ghost use Rattle.lattice.specs.Hermite.{Rising};
 ghost use Rattle.rightside.specs.Sweeps.{sweptOf, Swept, Sweepable, Findable, foundOf};
-ghost use Rattle.rightside.specs.Solutions.{Solvable, solvedOf, solutionOf, tableauAfter, startAfter, rightedOf};
+ghost use Rattle.rightside.specs.Solutions.{Solvable, solvedOf, solutionOf, solvingOf, tableauAfter, startAfter, rightedOf};
+ghost use Rattle.tableau.specs.LentTable.{matrixOf};
 ghost use Rattle.tableau.specs.RightSide.{leading};
+ghost use Rattle.tableau.specs.RoundCount.{formRounds};
 ghost use Rattle.tableau.specs.RowSteps.{Leads};
 ghost use Rattle.tableau.specs.Within.{Within};
 use lattice::all_zero;
@@ -26,6 +28,12 @@ pub enum Solution {
     Over,
     None,
     Found,
+}
+
+// What is found for a problem, and the rounds that its form took; 0 unless a starting list is found.
+pub struct Solving {
+    pub solution: Solution,
+    pub rounds: u32,
 }
 
 // How many of the rows of w numbers lead in the first m columns. The leads rise, so these rows are the first ones, and each row's lead lies behind
@@ -127,6 +135,16 @@ fn find(v: &mut [i64], t: &[i64], p: Problem, rights: &[i64], start: &mut [i64])
     }
 }
 
+// What a refusal comes to.
+fn without_rounds(solution: Solution) -> Solving
+    ensures { λ r. ⌜ r ≡ record { solution = solution; rounds = 0 } ⌝ }
+{
+    Solving {
+        solution: solution,
+        rounds: 0,
+    }
+}
+
 // The form of a problem's tableau in t, and the starting list of its right side in start. Past the elimination limit t is all 0; start
 // changes only where a list is found.
 pub fn solve(
@@ -135,23 +153,28 @@ pub fn solve(
     coefficients: &[i64],
     rights: &[i64],
     start: &mut [i64],
-) -> Solution
+) -> Solving
     requires { ⌜ Solvable p (now t) (now coefficients) (now rights) (now start) ⌝ }
-    ensures { λ r. ⌜ r ≡ solutionOf (solvedOf p (now (coefficients .entry)) (now (rights .entry))) ⌝ }
+    ensures { λ r. ⌜ r ≡ solvingOf (solvedOf p (now (coefficients .entry)) (now (rights .entry)))
+        (formRounds (p .columns) (matrixOf p (now (coefficients .entry)))) ⌝ }
     ensures { λ _. ⌜ now (t .exit) ≡ tableauAfter (solvedOf p (now (coefficients .entry)) (now (rights .entry))) (now (t .entry)) ⌝ }
     ensures { λ _. ⌜ now (start .exit) ≡ startAfter (solvedOf p (now (coefficients .entry)) (now (rights .entry))) (now (start .entry)) ⌝ }
 {
-    if form(t, p, coefficients) {
-        return Solution::Over;
+    let formed = form(t, p, coefficients);
+    if formed.over {
+        return without_rounds(Solution::Over);
     }
     let mut v = [0i64; MAX_WIDTH];
     let w = p.rows + p.columns;
     match find(&mut v[..w], t, p, rights, start) {
         Solution::Over => {
             wipe(t);
-            Solution::Over
+            without_rounds(Solution::Over)
         }
-        Solution::None => Solution::None,
-        Solution::Found => Solution::Found,
+        Solution::None => without_rounds(Solution::None),
+        Solution::Found => Solving {
+            solution: Solution::Found,
+            rounds: formed.rounds,
+        },
     }
 }

@@ -10,7 +10,7 @@ use Rattle.text.specs.Decimals.{decimal}
 use Rattle.problem.specs.Limits.{anyBeyond}
 use Rattle.problem.specs.Checks.{firstCause}
 use Rattle.tableau.specs.Table.{tableauFrom, tableau}
-use Rattle.tableau.specs.Elimination.{lowered, reduced, each, choose, exchange, clear, round, gather, passColumn, passColumns, eliminate}
+use Rattle.tableau.specs.Elimination.{loweredBy, reduced, each, choose, exchange, clearBy, roundBy, gatherBy, passColumnBy, passColumnsBy, eliminateBy}
 use Rattle.tableau.specs.RightSide.{sweep, leading, remaining, rightSide, form, solve}
 use Rattle.goals.specs.Ideals.{rootBits, wholeRoot, goalIdeal}
 use Rattle.goals.specs.Wishes.{ideal}
@@ -34,7 +34,7 @@ use Rattle.solve.specs.GoalCases.{GoalCases}
 
 computed : DeckCases × GoalCases
 unfolding numbersFrom neighbourWish every divisorBy divisor plus neg allZero lead dot sums stretch allDigits value decimal anyBeyond
-    firstCause tableauFrom tableau lowered reduced each choose exchange clear round gather passColumn passColumns eliminate sweep leading
+    firstCause tableauFrom tableau loweredBy reduced each choose exchange clearBy roundBy gatherBy passColumnBy passColumnsBy eliminateBy sweep leading
     remaining rightSide form solve rootBits wholeRoot goalIdeal ideal seatOne seat singles pairsWith pairs moves moved measure isRanked
     passes improves insert rankFrom firstMove firstColumn stepAt stepOf nextStep settleFrom settle stride stridesFrom settleOn assign
     intervals terms lines isOn indices paths volumes without termsOf sweptLines readDeck slackColumns placed coefficientRows posed

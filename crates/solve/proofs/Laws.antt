@@ -92,11 +92,11 @@ cleared-blank P h k =
     let pd = take-strides (n P) deckColumns _ refl h in
     λ i. buffers (pt i) (pv i) (pd i)
 
-pub listed-into : (o : List ℕ) (P : Posed) (a : Answer) (t v : List ℤ) (d : List ℕ) → n P ≤ deckColumns → m P ≤ deckRows
-    → done a t v d ≡ assign P (cleared P)
+pub listed-into : (o : List ℕ) (P : Posed) (a : Answer) (r : ℕ) (t v : List ℤ) (d : List ℕ) → n P ≤ deckColumns → m P ≤ deckRows
+    → done a r t v d ≡ assign P (cleared P)
     → length v ≡ length d → writeListing o a v d ≡ listInto o P
 unfolding listInto
-listed-into o P a t v d h k e l = write-even o a v d l ∙ ap (λ (x : Done). placedIn o (listed x)) (e ∙ ap (assign P) (cleared-blank P h k))
+listed-into o P a r t v d h k e l = write-even o a v d l ∙ ap (λ (x : Done). placedIn o (listed x)) (e ∙ ap (assign P) (cleared-blank P h k))
 
 pub refused-headline : (o : List ℕ) (why : Refusal) (v : List ℤ) (d : List ℕ) → length v ≡ length d
     → writeListing o (Refused why) v d ≡ placedIn o (listing (Refused why) [] [])

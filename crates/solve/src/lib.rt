@@ -57,7 +57,7 @@ fn list_assigned(
     let mut strides = [0u64; Sizes::COLUMNS];
     let n = p.columns;
     let room = n * (p.rows + n);
-    let answer = assign(
+    let reply = assign(
         p,
         coefficients,
         rights,
@@ -71,6 +71,7 @@ fn list_assigned(
         &mut values[..n],
         &mut strides[..n],
     );
+    let answer = reply.answer;
     write_listing(out, answer, &values[..n], &strides[..n])
 }
 

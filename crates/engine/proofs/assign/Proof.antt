@@ -1,8 +1,9 @@
 -- `engine::assign` meets its contract: what the checks find decides, and then each answer of the tableau is a case of the definition.
 -- Assumes nothing.
-use mathlib.Core.Path.{_≡_, refl, sym, _∙_, ap, subst}
+use mathlib.Core.Path.{_≡_, refl, sym, _∙_, ap, ap₂, subst}
 use mathlib.Core.Bool.{Bool, false, cond}
 use mathlib.Core.List.{List, _++_}
+use Prim.Native.Nat.{ℕ}
 use native.Mathlib.Omega.{arith}
 use borrow.Author.Needs.{needs}
 use lib.Seq.{length-take-le}
@@ -14,16 +15,19 @@ use Rattle.problem.specs.Checks.{Posed, firstCause}
 use Rattle.problem.proofs.CheckLaws.{Passes, passes, Fits, fits}
 use Rattle.problem.specs.declared.Check.the-variants.{Passed}
 use Rattle.problem.specs.declared.Refusal.the-variants.{Elimination, NoWholeNumbers}
-use Rattle.rightside.specs.Solutions.{solutionOf}
+use Rattle.rightside.specs.Solutions.{solutionOf, roundsFor}
+use Rattle.rightside.specs.declared.Solution.{Solution}
+use Rattle.rightside.specs.declared.Solving.{Solving}
 use Rattle.rightside.specs.declared.Solution.the-variants.{Over, None, Found}
 use Rattle.rightside.proofs.Answers.{solution-over, solution-none, solution-found, start-found}
 use Rattle.settling.specs.Columns.{Columns, columnsIn}
 use Rattle.settling.proofs.Fronts.{part-length, part-back, part-fits}
-use Rattle.engine.specs.Assign.{Buffers, posedBy, buffers, columns, lentOf, refused, solved, assign}
-use Rattle.engine.specs.Finish.{finished, Finishable}
+use Rattle.engine.specs.Assign.{Buffers, posedBy, buffers, columns, lentOf, roundsOf, refused, solved, assign}
+use Rattle.engine.specs.Finish.{Finished, finished, Finishable}
+use Rattle.engine.specs.declared.Reply.{Reply}
 use Rattle.engine.proofs.Readiness.{table, table-columns, cells, PackedIn, packable, packed-in, packed-fits, packed-back, packed-long}
 use Rattle.engine.proofs.Forming.{solvable, Laid}
-use Rattle.engine.proofs.Assigning.{doneWith, Some, some-is, solved-form, solved-kept, assign-over}
+use Rattle.engine.proofs.Assigning.{doneBy, doneWith, Some, some-is, solved-form, solved-kept, assign-over}
 use Rattle.engine.proofs.Assigning.{assign-none, assign-found, finishable, assign-failed, assign-passed}
 use Rattle.engine.proofs.assign.Statement.{statement}
 use Rattle.engine.proofs.assign.Tie as tie
@@ -79,6 +83,12 @@ module _ (v : tie.After-solve) where
   long : length (v .solve .last .1 .1 .1 .1 .0) ≡ from .args .p .columns
   long = v .solve .kept .1 .1 .1 .1 .0 ∙ length-take-le _ _ (f checked .few-columns)
 
+  answered : {r : Solution} → v .solve .result .solution ≡ r → r ≡ solutionOf (solved (P from))
+  answered e = sym e ∙ ap (λ (x : Solving). x .solution) (v .solve .ensures .0)
+
+  counted : Found ≡ solutionOf (solved (P from)) → v .solve .result .rounds ≡ roundsOf (P from)
+  counted r = ap (λ (x : Solving). x .rounds) (v .solve .ensures .0) ∙ ap (λ (x : Solution). roundsFor x (roundsOf (P from))) (sym r)
+
   begins : Found ≡ solutionOf (solved (P from)) → (x : Some (solved (P from))) (t : List ℤ)
       → take (from .args .p .columns) (v .solve .last .1 .1 .1 .1 .0 ++ drop (from .args .p .columns) t) ≡ x .start
   begins r x t =
@@ -94,11 +104,11 @@ module _ (v : tie.After-solve) where
         (solution-found (solved (P from)) r))
 
     ending :
-        doneWith (v .solve .last .0)
+        doneWith (roundsOf (P from)) (v .solve .last .0)
         (finished (from .args .p) (columnsIn (from .args .p .columns) l) (v .solve .last .0) s (from .args .values .now) (from .args .strides .now))
         ≡ assign (P from) (B from)
     ending =
-        ap (λ (C : Columns). doneWith (v .solve .last .0)
+        ap (λ (C : Columns). doneWith (roundsOf (P from)) (v .solve .last .0)
         (finished (from .args .p) C (v .solve .last .0) s (from .args .values .now) (from .args .strides .now)))
         (ap (columnsIn (from .args .p .columns)) g ∙ table-columns (P from) (lentOf (B from)) (f checked))
         ∙ sym (assign-found (P from) (B from) (record { passed = passed checked }) (laid (solution-found (solved (P from)) r)) x s e
@@ -111,16 +121,20 @@ first-cause-requires c κs = search needs
 enum-known-why : tie.Need-enum-known-why
 enum-known-why c = search needs
 
+reply-of-requires : tie.Need-reply-of-requires
+reply-of-requires c κs = search needs
+
 returns : tie.Need-returns
 returns c =
-    let a = c .before .before .before .before .before in
-    sym (assign-failed (P a) (B a) (sym (c .before .before .before .first-cause .ensures) ∙ c .before .why .given .1))
+    let a = c .before .before .before .before .before .before in
+    ap (λ (x : Reply). doneBy x (a .args .tableau .now) (a .args .values .now) (a .args .strides .now)) (c .reply-of .ensures)
+    ∙ sym (assign-failed (P a) (B a) (sym (c .before .before .before .before .first-cause .ensures) ∙ c .before .before .why .given .1))
 
 enum-told : tie.Need-enum-told
 enum-told c = search needs
 
-mul-used : tie.Need-mul-used
-mul-used c = omega (arith, f c .few-columns)
+mul-k : tie.Need-mul-k
+mul-k c = omega (arith, f c .few-columns)
 
 array-borrow-prefix-columns : tie.Need-array-borrow-prefix-columns
 array-borrow-prefix-columns c = omega (arith, f c .few-columns)
@@ -149,8 +163,14 @@ solve-requires c κs =
 enum-told-2 : tie.Need-enum-told-2
 enum-told-2 c = search needs
 
+reply-of-requires-2 : tie.Need-reply-of-requires-2
+reply-of-requires-2 c κs = search needs
+
 enum-told-3 : tie.Need-enum-told-3
 enum-told-3 c = search needs
+
+reply-of-requires-3 : tie.Need-reply-of-requires-3
+reply-of-requires-3 c κs = search needs
 
 enum-told-4 : tie.Need-enum-told-4
 enum-told-4 c = search needs
@@ -181,19 +201,23 @@ finish-requires : tie.Need-finish-requires
 finish-requires c κs =
     let found = c .before .before .before .before .before in
     let after-solve = found .before .before .before .before in
-    let r : Found ≡ solutionOf (solved (P (from after-solve))) = sym (found .enum-told4 .given .1) ∙ after-solve .solve .ensures .0 in
+    let r : Found ≡ solutionOf (solved (P (from after-solve))) = answered after-solve (found .enum-told4 .given .1) in
     let x = some-is (solved (P (from after-solve))) r in
     finishing after-solve r x _ _ (begins after-solve r x _) (packed-back (packed (after-pack after-solve)) _)
+
+reply-of-requires-4 : tie.Need-reply-of-requires-4
+reply-of-requires-4 c κs = search needs
 
 same-length : tie.Need-same-length
 same-length c = search needs
 
 returns-2 : tie.Need-returns-2
 returns-2 c =
-    let v = c .before .before .before .before in
+    let v = c .before .before .before .before .before in
     let s = from v in
-    let r : Over ≡ solutionOf (solved (P s)) = sym (c .enum-told2 .given .1) ∙ v .solve .ensures .0 in
-    ap (λ (t : List ℤ). refused Elimination t (B s)) (holds v (solution-over (solved (P s)) r)) ∙ sym (assign-over (P s) (B s) r)
+    let r : Over ≡ solutionOf (solved (P s)) = answered v (c .before .enum-told2 .given .1) in
+    ap (λ (x : Reply). doneBy x (v .solve .last .0) (s .args .values .now) (s .args .strides .now)) (c .reply-of2 .ensures)
+    ∙ ap (λ (t : List ℤ). refused Elimination t (B s)) (holds v (solution-over (solved (P s)) r)) ∙ sym (assign-over (P s) (B s) r)
     ∙ sym (assign-passed (P s) (B s) (passed (checked v)))
 
 same-length-2 : tie.Need-same-length-2
@@ -201,10 +225,11 @@ same-length-2 c = search needs
 
 returns-3 : tie.Need-returns-3
 returns-3 c =
-    let v = c .before .before .before .before in
+    let v = c .before .before .before .before .before in
     let s = from v in
-    let r : None ≡ solutionOf (solved (P s)) = sym (c .enum-told3 .given .1) ∙ v .solve .ensures .0 in
-    ap (λ (t : List ℤ). refused NoWholeNumbers t (B s)) (holds v (solution-none (solved (P s)) r)) ∙ sym (assign-none (P s) (B s) r)
+    let r : None ≡ solutionOf (solved (P s)) = answered v (c .before .enum-told3 .given .1) in
+    ap (λ (x : Reply). doneBy x (v .solve .last .0) (s .args .values .now) (s .args .strides .now)) (c .reply-of3 .ensures)
+    ∙ ap (λ (t : List ℤ). refused NoWholeNumbers t (B s)) (holds v (solution-none (solved (P s)) r)) ∙ sym (assign-none (P s) (B s) r)
     ∙ sym (assign-passed (P s) (B s) (passed (checked v)))
 
 same-length-3 : tie.Need-same-length-3
@@ -218,12 +243,16 @@ same-length-5 c = search needs
 
 returns-4 : tie.Need-returns-4
 returns-4 c =
-    let after-finish = c .before .before .before .before in
+    let after-finish = c .before .before .before .before .before in
     let before-finish = after-finish .before .before .before .before .before in
     let after-solve = before-finish .before .before .before .before .before in
-    let r : Found ≡ solutionOf (solved (P (from after-solve))) = sym (before-finish .before .enum-told4 .given .1) ∙ after-solve .solve .ensures .0 in
+    let r : Found ≡ solutionOf (solved (P (from after-solve))) =
+    answered after-solve (before-finish .before .enum-told4 .given .1) in
     let x = some-is (solved (P (from after-solve))) r in
-    ap (doneWith (after-solve .solve .last .0)) (after-finish .finish .ensures)
+    let values = after-finish .finish .last .1 .1 .1 .1 .0 in
+    let strides = after-finish .finish .last .1 .1 .1 .1 .1 .0 in
+    ap (λ (y : Reply). doneBy y (after-solve .solve .last .0) values strides) (c .reply-of4 .ensures)
+    ∙ ap₂ (λ (k : ℕ) (y : Finished). doneWith k (after-solve .solve .last .0) y) (counted after-solve r) (after-finish .finish .ensures)
     ∙ ending after-solve r x _ _ (begins after-solve r x _) (packed-back (packed (after-pack after-solve)) _)
 
 pub assign-spec : {M : Type 1} → statement M
@@ -232,9 +261,10 @@ assign-spec =
     (tie.spec
     first-cause-requires
     enum-known-why
+    reply-of-requires
     returns
     enum-told
-    mul-used
+    mul-k
     array-borrow-prefix-columns
     slice-aggregate-pack
     pack-requires
@@ -242,13 +272,16 @@ assign-spec =
     slice-aggregate-solve
     solve-requires
     enum-told-2
+    reply-of-requires-2
     enum-told-3
+    reply-of-requires-3
     enum-told-4
     array-share-prefix-columns
     slice-aggregate-finish
     array-borrow-prefix-start-2
     slice-aggregate-finish-2
     finish-requires
+    reply-of-requires-4
     same-length
     returns-2
     same-length-2

@@ -1,20 +1,22 @@
 -- `engine::continue_from` meets its contract: what the ground refuses is refused, and over it the list is settled. Assumes nothing.
-use mathlib.Core.Path.{_≡_, sym, _∙_, ap}
+use mathlib.Core.Path.{_≡_, sym, _∙_, ap, ap₂}
 use mathlib.Core.List.{List}
-use Prim.Native.Nat.{_≤_}
+use Prim.Native.Nat.{ℕ, _≤_}
 use native.Mathlib.Omega.{arith}
 use lib.IntN.{ℤ}
 use lib.ListN.{length, take}
 use Rattle.problem.specs.Checks.{Posed}
 use Rattle.problem.proofs.CheckLaws.{Fits}
 use Rattle.problem.specs.declared.Check.{Check}
+use Rattle.problem.specs.declared.Check.the-variants.{Passed}
 use Rattle.settling.specs.Columns.{Columns, columnsIn}
-use Rattle.engine.specs.Assign.{Buffers, posedBy, buffers, columns, lentOf, refused}
-use Rattle.engine.specs.Finish.{settledOver}
-use Rattle.engine.specs.Ground.{grounded}
+use Rattle.engine.specs.Assign.{Buffers, posedBy, buffers, columns, lentOf, roundsOf, refused}
+use Rattle.engine.specs.Finish.{Finished, settledOver}
+use Rattle.engine.specs.Ground.{grounded, ground}
+use Rattle.engine.specs.declared.Reply.{Reply}
 use Rattle.engine.proofs.Readiness.{cells, table, table-columns, table-fills}
-use Rattle.engine.proofs.Assigning.{doneWith, continue-passed, continue-settled}
-use Rattle.engine.proofs.Grounding.{byGround, Clear, clear, clear-passes, clear-fits, clear-laid, clear-placed, continue-ground}
+use Rattle.engine.proofs.Assigning.{doneBy, doneWith, continue-passed, continue-settled}
+use Rattle.engine.proofs.Grounding.{byGround, Clear, clear, clear-rounds, clear-passes, clear-fits, clear-laid, clear-placed, continue-ground}
 use borrow.Author.Needs.{needs}
 use Rattle.engine.proofs.continue_from.Statement.{statement}
 use Rattle.engine.proofs.continue_from.Tie as tie
@@ -46,10 +48,17 @@ module _ (w : tie.After-enum-told) where
   abbrev at : tie.Start
   at = under over
 
+  is-ground :
+      grounded Passed (over .lay-ground .result .rounds) (tableau over)
+      ≡ ground (P at) (at .args .values .now) (lentOf (B at)) (at .args .tableau .now)
+  is-ground =
+      ap (λ (r : Check). grounded r (over .lay-ground .result .rounds) (tableau over)) (sym (w .enum-told .given .1)) ∙ over .lay-ground .ensures .0
+
   found : Clear (P at) (at .args .values .now) (lentOf (B at)) (at .args .tableau .now) (tableau over)
-  found =
-      clear (P at) (at .args .values .now) (lentOf (B at)) (at .args .tableau .now)
-      (ap (λ (r : Check). grounded r (tableau over)) (sym (w .enum-told .given .1)) ∙ over .lay-ground .ensures .0)
+  found = clear (P at) (at .args .values .now) (lentOf (B at)) (at .args .tableau .now) is-ground
+
+  counted : over .lay-ground .result .rounds ≡ roundsOf (P at)
+  counted = clear-rounds _ _ _ _ found is-ground
 
   abbrev fit : Fits (P at) (lentOf (B at))
   fit = clear-fits _ _ _ _ found
@@ -69,6 +78,9 @@ lay-ground-requires c κs = search needs
 enum-known-found : tie.Need-enum-known-found
 enum-known-found c = search needs
 
+reply-of-requires : tie.Need-reply-of-requires
+reply-of-requires c κs = search needs
+
 same-length : tie.Need-same-length
 same-length c = search needs
 
@@ -77,10 +89,12 @@ same-length-2 c = search needs
 
 returns : tie.Need-returns
 returns c =
-    let g = c .before .before .before .before .before in
+    let g = c .before .before .before .before .before .before in
     let s = under g in
-    ap (byGround (λ why t. refused why t (B s)) _)
-    (ap (λ (r : Check). grounded r (tableau g)) (sym (c .before .found .given .1)) ∙ g .lay-ground .ensures .0)
+    ap (λ (r : Reply). doneBy r (tableau g) (s .args .values .now) (s .args .strides .now)) (c .reply-of .ensures)
+    ∙ ap (byGround (λ why t. refused why t (B s)) _)
+    (ap (λ (r : Check). grounded r (g .lay-ground .result .rounds) (tableau g)) (sym (c .before .before .found .given .1))
+    ∙ g .lay-ground .ensures .0)
     ∙ sym (continue-ground (P s) (B s))
 
 enum-told : tie.Need-enum-told
@@ -100,6 +114,9 @@ settle-over-requires c κs =
     let w = c .before .before .before .before .before in
     (clear-placed _ _ _ _ (found w) (fit w .values-long) (packed w), record { long = fit w .strides-long })
 
+reply-of-requires-2 : tie.Need-reply-of-requires-2
+reply-of-requires-2 c κs = search needs
+
 same-length-3 : tie.Need-same-length-3
 same-length-3 c = search needs
 
@@ -111,10 +128,13 @@ same-length-5 c = search needs
 
 returns-2 : tie.Need-returns-2
 returns-2 c =
-    let after-settle-over = c .before .before .before in
+    let after-settle-over = c .before .before .before .before in
     let w = after-settle-over .before .before .before .before .before .before in
     let s = at w in
-    ap (doneWith (tableau (over w)))
+    let values = after-settle-over .settle-over .last .1 .1 .1 .0 in
+    let strides = after-settle-over .settle-over .last .1 .1 .1 .1 .0 in
+    ap (λ (r : Reply). doneBy r (tableau (over w)) values strides) (c .reply-of2 .ensures)
+    ∙ ap₂ (λ (k : ℕ) (x : Finished). doneWith k (tableau (over w)) x) (counted w)
     (after-settle-over .settle-over .ensures
     ∙ ap (λ (C : Columns). settledOver (s .args .p) C (tableau (over w)) (s .args .values .now))
     (ap (columnsIn (s .args .p .columns)) (packed w) ∙ table-columns (P s) (lentOf (B s)) (fit w)))
@@ -128,6 +148,7 @@ continue-from-spec =
     slice-aggregate-lay-ground
     lay-ground-requires
     enum-known-found
+    reply-of-requires
     same-length
     same-length-2
     returns
@@ -136,6 +157,7 @@ continue-from-spec =
     array-share-prefix-columns
     slice-aggregate-settle-over
     settle-over-requires
+    reply-of-requires-2
     same-length-3
     same-length-4
     same-length-5

@@ -53,7 +53,7 @@ returns-2 c =
     let start = else1 .before .before .before in
     let a = start in
     let e = after-continue-from .continue-from in
-    is-told continue (P a) (B a) (a .args .report .now) (e .result) _ _ _ _ _ (else1 .if1 .left)
+    is-told continue (P a) (B a) (a .args .report .now) (e .result .answer) (e .result .rounds) _ _ _ _ _ (else1 .if1 .left)
     (e .ensures) (after-tell .tell .ensures) (c .number2 .ensures)
 
 pub koralimbu-continue-spec : {M : Type 1} → statement M

@@ -1,9 +1,9 @@
--- `koralimbu::tell` meets its contract: the three numbers are stored in their order. Assumes nothing.
+-- `koralimbu::tell` meets its contract: the four numbers are stored in their order. Assumes nothing.
 use mathlib.Core.Path.{_∙_, ap₂}
 use mathlib.Core.List.{[], _∷_}
 use Prim.Native.Nat.{ℕ}
 use Rattle.problem.specs.declared.Counts.{Counts}
-use Rattle.koralimbu.proofs.Telling.{stored}
+use Rattle.koralimbu.proofs.Telling.{stored-four}
 use borrow.Author.Needs.{needs}
 use Rattle.koralimbu.proofs.tell.Statement.{statement}
 use Rattle.koralimbu.proofs.tell.Tie as tie
@@ -23,14 +23,18 @@ slice-write-report-2 c = search needs
 slice-write-report-3 : tie.Need-slice-write-report-3
 slice-write-report-3 c = search needs
 
+slice-write-report-4 : tie.Need-slice-write-report-4
+slice-write-report-4 c = search needs
+
 same-length : tie.Need-same-length
 same-length c = search needs
 
 returns : tie.Need-returns
 returns c =
     let a = c .before .before .before in
-    stored (a .args .report .now) (c .before .verdict-number .result) (c .counts .result .bounds) (c .counts .result .goals) (a .pre)
-    ∙ ap₂ (λ (v : ℕ) (k : Counts). v ∷ k .bounds ∷ k .goals ∷ []) (c .before .verdict-number .ensures) (c .counts .ensures)
+    stored-four (a .args .report .now) (c .before .verdict-number .result) (c .counts .result .bounds) (c .counts .result .goals) (a .args .rounds)
+    (a .pre)
+    ∙ ap₂ (λ (v : ℕ) (k : Counts). v ∷ k .bounds ∷ k .goals ∷ a .args .rounds ∷ []) (c .before .verdict-number .ensures) (c .counts .ensures)
 
 pub tell-spec : {M : Type 1} → statement M
 tell-spec =
@@ -41,5 +45,6 @@ tell-spec =
     slice-write-report
     slice-write-report-2
     slice-write-report-3
+    slice-write-report-4
     same-length
     returns)

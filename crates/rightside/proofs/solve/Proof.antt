@@ -1,7 +1,7 @@
 -- `rightside::solve` meets its contract: the form, and the right side of it, unless a number beyond M was met. Assumes nothing.
 use mathlib.Core.Path.{_≡_, sym, _∙_, ap}
 use mathlib.Core.Bool.{true, false}
-use Prim.Native.Nat.{_+_}
+use Prim.Native.Nat.{ℕ, _+_}
 use native.Mathlib.Omega.{arith}
 use lib.Seq.{length-take-le}
 use Rattle.whole.specs.Lists.{zeros}
@@ -9,10 +9,13 @@ use Rattle.lattice.specs.Rows.{flat}
 use Rattle.tableau.specs.Table.{maxWidth}
 use Rattle.tableau.specs.RightSide.{Solved}
 use Rattle.rightside.specs.Solutions.{solvedOf, solutionOf, startAfter}
-use Rattle.tableau.specs.LentTable.{formOf}
+use Rattle.tableau.specs.LentTable.{matrixOf, formOf}
+use Rattle.tableau.specs.RoundCount.{formRounds}
+use Rattle.rightside.specs.declared.Solution.the-variants.{Over, None, Found}
 use Rattle.rightside.specs.Sweeps.{foundOf}
 use Rattle.tableau.proofs.Forms.{Formed, formed, form-over, form-kept}
-use Rattle.rightside.proofs.Solving.{findable, solved-is, solved-over, table-over, table-kept, answer-over, start-kept}
+use Rattle.rightside.proofs.SolveLaws.{findable, solved-is, solved-over, table-over, table-kept, answer-over, start-kept}
+use Rattle.rightside.proofs.SolveLaws.{solving, solving-is, tally-over, tally-rounds}
 use Rattle.rightside.proofs.Answers.{solution-over, solution-none, solution-found}
 use borrow.Author.Needs.{needs}
 use Rattle.rightside.proofs.solve.Statement.{statement}
@@ -22,13 +25,17 @@ use Rattle.rightside.proofs.solve.Tie as tie
 abbrev X : tie.Start → Solved
 X s = solvedOf (s .args .p) (s .args .coefficients .now) (s .args .rights .now)
 
+-- the rounds of its form
+abbrev R : tie.Start → ℕ
+R s = formRounds (s .args .p .columns) (matrixOf (s .args .p) (s .args .coefficients .now))
+
 -- once the form stands
 module _ (c : tie.Else1) where
   abbrev s-of : tie.Start
   s-of = c .before .before .before .before
 
   unmarked : formOf (s-of .args .p) (s-of .args .coefficients .now) .over ≡ false
-  unmarked = sym (c .before .before .form .ensures .0) ∙ c .if1 .left
+  unmarked = tally-over (s-of .args .p) (s-of .args .coefficients .now) (c .before .before .form .ensures .0) (c .if1 .left)
 
   form-is : c .before .before .form .last .0 ≡ flat (formOf (s-of .args .p) (s-of .args .coefficients .now) .table)
   form-is = c .before .before .form .ensures .1 ∙ form-kept (s-of .args .p) (s-of .args .coefficients .now) (s-of .args .t .now) unmarked
@@ -54,17 +61,21 @@ started c =
 form-requires : tie.Need-form-requires
 form-requires c κs = search needs
 
+without-rounds-requires : tie.Need-without-rounds-requires
+without-rounds-requires c κs = search needs
+
 same-length : tie.Need-same-length
 same-length c = search needs
 
 returns : tie.Need-returns
 returns c =
-    let after-form = c .before .before in
+    let after-form = c .before .before .before in
     let s = after-form .before .before in
     let a = s .args in
-    let f : formOf (a .p) (a .coefficients .now) .over ≡ true = sym (after-form .form .ensures .0) ∙ c .if1 .taken in
+    let f : formOf (a .p) (a .coefficients .now) .over ≡ true =
+    tally-over (a .p) (a .coefficients .now) (after-form .form .ensures .0) (c .before .if1 .taken) in
     let o : X s .over ≡ true = solved-over (a .p) (a .coefficients .now) (a .rights .now) f in (
-      sym (answer-over (X s) o),
+      c .without-rounds .ensures ∙ solving-is (X s) (R s) (sym (answer-over (X s) o)),
       (
         after-form .form .ensures .1
             ∙ form-over (a .p) (a .coefficients .now) (a .t .now) f
@@ -98,8 +109,14 @@ enum-told c = search needs
 wipe-requires : tie.Need-wipe-requires
 wipe-requires c κs = search needs
 
+without-rounds-requires-2 : tie.Need-without-rounds-requires-2
+without-rounds-requires-2 c κs = search needs
+
 enum-told-2 : tie.Need-enum-told-2
 enum-told-2 c = search needs
+
+without-rounds-requires-3 : tie.Need-without-rounds-requires-3
+without-rounds-requires-3 c κs = search needs
 
 enum-told-3 : tie.Need-enum-told-3
 enum-told-3 c = search needs
@@ -112,15 +129,15 @@ same-length-3 c = search needs
 
 returns-2 : tie.Need-returns-2
 returns-2 c =
-    let on-over = c .before .before .before in
+    let on-over = c .before .before .before .before in
     let m = on-over .before .before .before .before in
     let n = m .before .before .before .before .before in
     let after-form = n .before .before in
     let s = s-of n in
-    let e = sym (on-over .enum-told .given .1) ∙ told m in (
-      e,
+    let e : Over ≡ solutionOf (X s) = sym (on-over .enum-told .given .1) ∙ told m in (
+      c .without-rounds2 .ensures ∙ solving-is (X s) (R s) e,
       (
-        c .before .wipe .ensures
+        c .before .before .wipe .ensures
             ∙ ap zeros (after-form .form .kept .0)
             ∙ sym (table-over (s .args .p) (s .args .coefficients .now) (s .args .rights .now) (s .args .t .now) (solution-over (X s) e)),
         started m,
@@ -135,12 +152,14 @@ same-length-5 c = search needs
 
 returns-3 : tie.Need-returns-3
 returns-3 c =
-    let m = c .before .before .before .before in
+    let m = c .before .before .before .before .before in
     let n = m .before .before .before .before .before in
     let s = s-of n in
-    let e = sym (c .enum-told2 .given .1) ∙ told m in
-    let a = s .args in
-    (e, (form-is n ∙ sym (table-kept (a .p) (a .coefficients .now) (a .rights .now) (a .t .now) (solution-none (X s) e)), started m))
+    let e : None ≡ solutionOf (X s) = sym (c .before .enum-told2 .given .1) ∙ told m in
+    let a = s .args in (
+      c .without-rounds3 .ensures ∙ solving-is (X s) (R s) e,
+      (form-is n ∙ sym (table-kept (a .p) (a .coefficients .now) (a .rights .now) (a .t .now) (solution-none (X s) e)), started m),
+    )
 
 same-length-6 : tie.Need-same-length-6
 same-length-6 c = search needs
@@ -153,15 +172,19 @@ returns-4 c =
     let m = c .before .before .before .before in
     let n = m .before .before .before .before .before in
     let s = s-of n in
-    let e = sym (c .enum-told3 .given .1) ∙ told m in
-    let a = s .args in
-    (e, (form-is n ∙ sym (table-kept (a .p) (a .coefficients .now) (a .rights .now) (a .t .now) (solution-found (X s) e)), started m))
+    let e : Found ≡ solutionOf (X s) = sym (c .enum-told3 .given .1) ∙ told m in
+    let a = s .args in (
+      ap (solving Found) (tally-rounds (a .p) (a .coefficients .now) (n .before .before .form .ensures .0) (unmarked n))
+          ∙ solving-is (X s) (R s) e,
+      (form-is n ∙ sym (table-kept (a .p) (a .coefficients .now) (a .rights .now) (a .t .now) (solution-found (X s) e)), started m),
+    )
 
 pub solve-spec : {M : Type 1} → statement M
 solve-spec =
     tie.close
     (tie.spec
     form-requires
+    without-rounds-requires
     same-length
     returns
     add-w
@@ -170,7 +193,9 @@ solve-spec =
     find-requires
     enum-told
     wipe-requires
+    without-rounds-requires-2
     enum-told-2
+    without-rounds-requires-3
     enum-told-3
     same-length-2
     same-length-3

@@ -108,11 +108,11 @@ returns c =
     let w = after-assign in
     let a = start w in
     let o = a .args .out .now in
-    let r = w .assign .result in
+    let r = w .assign .result .answer in
     let v = part-back (a .args .p .columns) (values w) (drop (a .args .p .columns) (blank deckColumns)) (values-long w) in
     let d = part-back (a .args .p .columns) (strides w) (drop (a .args .p .columns) (clearStrides deckColumns)) (strides-long w) in
     after-write-listing .write-listing .ensures ∙ (λ i. writeListing o r (v i) (d i))
-    ∙ listed-into o (P a) r _ _ _ (a .pre .0) (a .pre .1) (w .assign .ensures) (values-long w ∙ sym (strides-long w))
+    ∙ listed-into o (P a) r (w .assign .result .rounds) _ _ _ (a .pre .0) (a .pre .1) (w .assign .ensures) (values-long w ∙ sym (strides-long w))
 
 pub list-assigned-spec : {M : Type 1} → statement M
 list-assigned-spec =

@@ -1,5 +1,5 @@
 -- `engine::ground::lay_ground` meets its contract: what the checks find decides, and then 10 and 7. Assumes nothing.
-use mathlib.Core.Path.{_≡_, sym, _∙_, ap}
+use mathlib.Core.Path.{_≡_, sym, _∙_, ap, ap₂}
 use mathlib.Core.Bool.{Bool, true, false, cond}
 use native.Mathlib.Omega.{arith}
 use borrow.Author.Tests.{not-true, not-false}
@@ -10,13 +10,15 @@ use Rattle.problem.specs.Checks.{Posed, firstCause}
 use Rattle.problem.proofs.CheckLaws.{Passes, passes, Fits, fits}
 use Rattle.problem.specs.declared.Check.the-variants.{Passed, Failed}
 use Rattle.problem.specs.declared.Refusal.the-variants.{Elimination}
+use Rattle.rightside.proofs.SolveLaws.{tally-over, tally-rounds}
 use Rattle.settling.proofs.Fronts.{part-length}
 use Rattle.engine.specs.Assign.{posedBy, stands, formed}
 use Rattle.engine.specs.Ground.{grounded}
+use Rattle.engine.specs.declared.ground.Ground.{Ground}
 use Rattle.engine.proofs.Readiness.{cells, packable, packed-in, packed-back}
 use Rattle.engine.proofs.Forming.{formable}
 use Rattle.engine.proofs.Keeping.{stands-in, standable}
-use Rattle.engine.proofs.Grounding.{ground-failed, ground-off, ground-over, ground-clear, unpacked}
+use Rattle.engine.proofs.Grounding.{groundedBy, ground-failed, ground-off, ground-over, ground-clear, unpacked}
 use borrow.Author.Needs.{needs}
 use Rattle.engine.proofs.ground.lay_ground.Statement.{statement}
 use Rattle.engine.proofs.ground.lay_ground.Tie as tie
@@ -70,11 +72,17 @@ first-cause-requires c κs = search needs
 enum-known-why : tie.Need-enum-known-why
 enum-known-why c = search needs
 
+failed-requires : tie.Need-failed-requires
+failed-requires c κs = search needs
+
 returns : tie.Need-returns
 returns c =
-    let s = c .before .before .before .before in
-    let e = sym (c .before .before .before .first-cause .ensures) ∙ c .before .why .given .1 in
-    (sym (ground-failed (P s) (s .args .list .now) (s .args .lent) (s .args .tableau .now) e), unpacked (P s) _)
+    let s = c .before .before .before .before .before in
+    let e = sym (c .before .before .before .before .first-cause .ensures) ∙ c .before .before .why .given .1 in (
+      ap (λ (r : Ground). groundedBy r (s .args .tableau .now)) (c .failed .ensures)
+          ∙ sym (ground-failed (P s) (s .args .list .now) (s .args .lent) (s .args .tableau .now) e),
+      unpacked (c .failed .ensures) (P s) _,
+    )
 
 enum-told : tie.Need-enum-told
 enum-told c = search needs
@@ -84,12 +92,18 @@ stands-requires c κs =
     let s = at c in
     standable (P s) (s .args .lent) (f c) (s .args .list .now) (s .pre .list (f c .values-long) ∙ sym (f c .values-long))
 
+failed-requires-2 : tie.Need-failed-requires-2
+failed-requires-2 c κs = search needs
+
 returns-2 : tie.Need-returns-2
 returns-2 c =
-    let w = c .before in
+    let w = c .before .before in
     let s = from w in
-    let e = standing w (not-true _ (c .if1 .taken)) in
-    (sym (ground-off (P s) (s .args .list .now) (s .args .lent) (s .args .tableau .now) (passed (w .before)) e), unpacked (P s) _)
+    let e = standing w (not-true _ (c .before .if1 .taken)) in (
+      ap (λ (r : Ground). groundedBy r (s .args .tableau .now)) (c .failed2 .ensures)
+          ∙ sym (ground-off (P s) (s .args .list .now) (s .args .lent) (s .args .tableau .now) (passed (w .before)) e),
+      unpacked (c .failed2 .ensures) (P s) _,
+    )
 
 form-requires : tie.Need-form-requires
 form-requires c κs =
@@ -97,18 +111,22 @@ form-requires c κs =
     let s = at w in
     formable (P s) (s .args .lent) (q w) (s .args .tableau .now) (s .pre .tableau)
 
+failed-requires-3 : tie.Need-failed-requires-3
+failed-requires-3 c κs = search needs
+
 same-length : tie.Need-same-length
 same-length c = search needs
 
 returns-3 : tie.Need-returns-3
 returns-3 c =
-    let g = c .before .before in
+    let g = c .before .before .before in
     let s = behind g in
     let e = standing (tested g) (not-false _ (g .before .before .if1 .left)) in
-    let o : formed (P s) .over ≡ true = sym (g .form .ensures .0) ∙ c .if2 .taken in (
-      ap (grounded (Failed Elimination)) (left g o)
+    let o : formed (P s) .over ≡ true = tally-over (s .args .p) (s .args .coefficients .now) (g .form .ensures .0) (c .before .if2 .taken) in (
+      ap (λ (r : Ground). groundedBy r (g .form .last .0)) (c .failed3 .ensures)
+          ∙ ap (grounded (Failed Elimination) 0) (left g o)
           ∙ sym (ground-over (P s) (s .args .list .now) (s .args .lent) (s .args .tableau .now) (passed (checked g)) e o),
-      unpacked (P s) _,
+      unpacked (c .failed3 .ensures) (P s) _,
     )
 
 mul-used : tie.Need-mul-used
@@ -143,8 +161,8 @@ returns-4 c =
     let g = kept .before .before in
     let s = behind g in
     let e = standing (tested g) (not-false _ (g .before .before .if1 .left)) in
-    let o : formed (P s) .over ≡ false = sym (g .form .ensures .0) ∙ kept .if2 .left in (
-      ap (grounded Passed) (left g o)
+    let o : formed (P s) .over ≡ false = tally-over (s .args .p) (s .args .coefficients .now) (g .form .ensures .0) (kept .if2 .left) in (
+      ap₂ (grounded Passed) (tally-rounds (s .args .p) (s .args .coefficients .now) (g .form .ensures .0) o) (left g o)
           ∙ sym (ground-clear (P s) (s .args .list .now) (s .args .lent) (s .args .tableau .now) (passed (checked g)) e o),
       record { is = λ e. packed-back (packed-in (P s) (s .args .lent) (f (checked g)) _ (k .pack .ensures)) _ },
     )
@@ -155,11 +173,14 @@ lay-ground-spec =
     (tie.spec
     first-cause-requires
     enum-known-why
+    failed-requires
     returns
     enum-told
     stands-requires
+    failed-requires-2
     returns-2
     form-requires
+    failed-requires-3
     same-length
     returns-3
     mul-used

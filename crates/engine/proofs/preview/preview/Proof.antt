@@ -1,5 +1,5 @@
 -- `engine::preview::preview` meets its contract: what the ground refuses is refused, and over it the next step is shown. Assumes nothing.
-use mathlib.Core.Path.{_≡_, refl, sym, _∙_, ap}
+use mathlib.Core.Path.{_≡_, refl, sym, _∙_, ap, ap₂}
 use mathlib.Core.List.{List}
 use Prim.Native.Nat.{ℕ, _≤_}
 use native.Mathlib.Omega.{arith}
@@ -8,14 +8,15 @@ use lib.ListN.{length, take}
 use Rattle.problem.specs.Checks.{Posed}
 use Rattle.problem.proofs.CheckLaws.{Fits}
 use Rattle.problem.specs.declared.Check.{Check}
+use Rattle.problem.specs.declared.Check.the-variants.{Passed}
 use Rattle.problem.specs.declared.Lent.{Lent}
 use Rattle.settling.specs.Columns.{Columns, columnsIn}
-use Rattle.engine.specs.Assign.{Buffers, posedBy, buffers, n, columns}
+use Rattle.engine.specs.Assign.{Buffers, posedBy, buffers, n, columns, roundsOf}
 use Rattle.engine.specs.Ground.{grounded, ground}
 use Rattle.engine.specs.Preview.{withLimit, lentBeside, unshown}
-use Rattle.engine.specs.Showing.{displayedOver}
+use Rattle.engine.specs.Showing.{Displayed, displayedOver}
 use Rattle.engine.proofs.Readiness.{cells, table, table-columns, table-fills}
-use Rattle.engine.proofs.Grounding.{byGround, Clear, clear, clear-fits, clear-placed}
+use Rattle.engine.proofs.Grounding.{groundedBy, byGround, Clear, clear, clear-rounds, clear-fits, clear-placed}
 use Rattle.engine.proofs.Showing.{both-long, shownWith, preview-ground, preview-shown}
 use borrow.Author.Needs.{needs}
 use Rattle.engine.proofs.preview.preview.Statement.{statement}
@@ -44,7 +45,7 @@ module _ (g : tie.After-lay-ground) where
   cells-left = g .lay-ground .last .1 .1 .1 .1 .1 .1 .1 .1 .1 .1 .1 .1 .0
 
   is-ground :
-      grounded (g .lay-ground .result) tableau ≡ ground (withLimit 1 (P under)) (under .args .standing .now) (L under) (under .args .tableau .now)
+      groundedBy (g .lay-ground .result) tableau ≡ ground (withLimit 1 (P under)) (under .args .standing .now) (L under) (under .args .tableau .now)
   is-ground =
       g .lay-ground .ensures .0
       ∙ ap (λ (k : ℕ). ground (withLimit 1 (P under)) (under .args .standing .now)
@@ -59,10 +60,17 @@ module _ (w : tie.After-enum-told) where
   abbrev at : tie.Start
   at = under over
 
+  is-clear :
+      grounded Passed (over .lay-ground .result .rounds) (tableau over)
+      ≡ ground (withLimit 1 (P at)) (at .args .standing .now) (L at) (at .args .tableau .now)
+  is-clear = ap (λ (r : Check). grounded r (over .lay-ground .result .rounds) (tableau over)) (sym (w .enum-told .given .1)) ∙ is-ground over
+
   found : Clear (withLimit 1 (P at)) (at .args .standing .now) (L at) (at .args .tableau .now) (tableau over)
   found =
-      clear (withLimit 1 (P at)) (at .args .standing .now) (L at) (at .args .tableau .now)
-      (ap (λ (r : Check). grounded r (tableau over)) (sym (w .enum-told .given .1)) ∙ is-ground over)
+      clear (withLimit 1 (P at)) (at .args .standing .now) (L at) (at .args .tableau .now) is-clear
+
+  counted : over .lay-ground .result .rounds ≡ roundsOf (P at)
+  counted = clear-rounds _ _ _ _ found is-clear
 
   abbrev fit : Fits (withLimit 1 (P at)) (L at)
   fit = clear-fits _ _ _ _ found
@@ -98,7 +106,8 @@ returns : tie.Need-returns
 returns c =
     let g = c .before .before .before .before .before in
     let s = under g in
-    ap (byGround (λ why t. unshown why t (B s)) _) (ap (λ (r : Check). grounded r (tableau g)) (sym (c .before .found .given .1)) ∙ is-ground g)
+    ap (byGround (λ why t. unshown why t (B s)) _)
+    (ap (λ (r : Check). grounded r (g .lay-ground .result .rounds) (tableau g)) (sym (c .before .found .given .1)) ∙ is-ground g)
     ∙ sym (preview-ground (P s) (s .args .standing .now) (B s))
 
 enum-told : tie.Need-enum-told
@@ -132,7 +141,7 @@ returns-2 c =
     let after-show-over = c .before .before .before in
     let w = after-show-over .before .before .before .before .before .before in
     let s = at w in
-    ap (shownWith (tableau (over w)))
+    ap₂ (λ (k : ℕ) (x : Displayed). shownWith k (tableau (over w)) x) (counted w)
     (after-show-over .show-over .ensures
     ∙ ap (λ (C : Columns). displayedOver (withLimit 1 (P s) .problem) C (tableau (over w)) (s .args .standing .now))
     (ap (columnsIn (s .args .p .columns)) (packed w) ∙ table-columns (withLimit 1 (P s)) (L s) (fit w)))

@@ -2,6 +2,7 @@
 use mathlib.Core.Path.{sym, _∙_, ap}
 use mathlib.Core.List.{[], _∷_}
 use borrow.Author.Needs.{needs}
+use Rattle.engine.specs.declared.preview.Seen.{Seen}
 use Rattle.koralimbu.specs.Previews.{signNumber, vectorNumber, stepOf}
 use Rattle.koralimbu.proofs.PreviewLaws.{read-signs}
 use Rattle.koralimbu.proofs.previewing.tell_step.Statement.{statement}
@@ -63,13 +64,19 @@ same-length : tie.Need-same-length
 same-length c = search needs
 
 returns : tie.Need-returns
-returns c = c .before .before .write .ensures ∙ sym (ap stepOf (c .before .before .before .before .enum-told .given .1))
+returns c =
+    let told = c .before .before .before .before in
+    let k = told .before .before .before .args .rounds in
+    c .before .before .write .ensures ∙ sym (ap (λ (x : Seen). stepOf x k) (told .enum-told .given .1))
 
 same-length-2 : tie.Need-same-length-2
 same-length-2 c = search needs
 
 returns-2 : tie.Need-returns-2
-returns-2 c = c .before .before .write2 .ensures ∙ sym (ap stepOf (c .before .before .before .before .enum-told2 .given .1))
+returns-2 c =
+    let told = c .before .before .before .before in
+    let k = told .before .before .before .args .rounds in
+    c .before .before .write2 .ensures ∙ sym (ap (λ (x : Seen). stepOf x k) (told .enum-told2 .given .1))
 
 same-length-3 : tie.Need-same-length-3
 same-length-3 c = search needs
@@ -80,14 +87,15 @@ returns-3 c =
     let second = column .before .before .before in
     let first = first-of second in
     let e = step-of first in
+    let k = start e .args .rounds in
     let read = read-signs _ (start e .pre .1 .move _ _ _ (e .seen .given .1)) in
     let s = first .vector-number .ensures ∙ ap (vectorNumber _) (read .0) in
     let a = second .before .before .sign-number .ensures ∙ ap signNumber (read .0) in
     let t = second .vector-number2 .ensures ∙ ap (vectorNumber _) (read .1) in
     let b = column .before .sign-number2 .ensures ∙ ap signNumber (read .1) in
     c .before .before .write3 .ensures
-    ∙ (λ i. first .before .before .part-number .ensures i ∷ column .from-one .ensures i ∷ s i ∷ a i ∷ t i ∷ b i ∷ [])
-    ∙ sym (ap stepOf (e .seen .given .1))
+    ∙ (λ i. first .before .before .part-number .ensures i ∷ column .from-one .ensures i ∷ s i ∷ a i ∷ t i ∷ b i ∷ k ∷ [])
+    ∙ sym (ap (λ (x : Seen). stepOf x k) (e .seen .given .1))
 
 pub tell-step-spec : {M : Type 1} → statement M
 tell-step-spec =

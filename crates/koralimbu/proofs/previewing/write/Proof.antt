@@ -1,5 +1,5 @@
--- `koralimbu::previewing::write` meets its contract: the six numbers are stored in their order. Assumes nothing.
-use Rattle.koralimbu.proofs.PreviewLaws.{stored-six}
+-- `koralimbu::previewing::write` meets its contract: the seven numbers are stored in their order. Assumes nothing.
+use Rattle.koralimbu.proofs.PreviewLaws.{stored-seven}
 use borrow.Author.Needs.{needs}
 use Rattle.koralimbu.proofs.previewing.write.Statement.{statement}
 use Rattle.koralimbu.proofs.previewing.write.Tie as tie
@@ -22,11 +22,14 @@ slice-write-report-5 c = search needs depth 9
 slice-write-report-6 : tie.Need-slice-write-report-6
 slice-write-report-6 c = search needs depth 9
 
+slice-write-report-7 : tie.Need-slice-write-report-7
+slice-write-report-7 c = search needs depth 9
+
 same-length : tie.Need-same-length
 same-length c = search needs
 
 returns : tie.Need-returns
-returns c = let a = c .args in stored-six (a .report .now) (a .part) (a .column) (a .s) (a .a) (a .t) (a .b) (c .pre)
+returns c = let a = c .args in stored-seven (a .report .now) (a .part) (a .column) (a .s) (a .a) (a .t) (a .b) (a .rounds) (c .pre)
 
 pub write-spec : {M : Type 1} → statement M
 write-spec =
@@ -38,5 +41,6 @@ write-spec =
     slice-write-report-4
     slice-write-report-5
     slice-write-report-6
+    slice-write-report-7
     same-length
     returns)

@@ -3,6 +3,8 @@
 --   solved-over, solved-form   a form past the limit; the form of a solution
 --   table-.., answer-over, start-kept   what the answer and the buffers are, by the mark
 --   findable       what the right side asks of the form
+--   solving-is     what is answered beside the rounds
+--   tally-over, -rounds   what the form tells, by the mark
 -- Assumes nothing.
 use mathlib.Core.Path.{_≡_, refl, sym, _∙_, ap, ap₂, subst}
 use mathlib.Core.Bool.{Bool, true, false, cond}
@@ -18,12 +20,17 @@ use Rattle.lattice.specs.Hermite.{Rising}
 use Rattle.problem.specs.Limits.{maxRight}
 use Rattle.problem.specs.declared.Problem.{Problem}
 use Rattle.tableau.specs.RightSide.{Solved, sweep, leading, rightSide, solve}
-use Rattle.tableau.specs.LentTable.{Formable, matrixOf, formOf}
+use Rattle.tableau.specs.RoundCount.{formRounds}
+use Rattle.tableau.specs.LentTable.{Formable, matrixOf, formOf, formTally}
+use Rattle.tableau.specs.declared.Tally.{Tally}
 use Rattle.tableau.proofs.Theorems.{problem-rising}
 use Rattle.tableau.proofs.Forms.{Formed, count, span-within}
-use Rattle.rightside.specs.Solutions.{Solvable, solvedOf, answerOf, solutionOf, tableauAfter, startOf, startAfter}
+use Rattle.rightside.specs.Solutions.{Solvable, solvedOf, answerOf, solutionOf, roundsFor, solvingOf}
+use Rattle.rightside.specs.Solutions.{tableauAfter, startOf, startAfter}
 use Rattle.rightside.specs.Sweeps.{Findable, foundOf}
+use Rattle.rightside.specs.declared.Solution.{Solution}
 use Rattle.rightside.specs.declared.Solution.the-variants.{Over}
+use Rattle.rightside.specs.declared.Solving.{Solving}
 
 module _ {p : Problem} {t a : List ℤ} (h : Formable p t a) where
   pub solved-is : {v : List ℤ} (b : List ℤ) → formOf p a .over ≡ false → Formed p (formOf p a) v → solvedOf p a b ≡ foundOf p v b
@@ -66,6 +73,21 @@ answer-over x e = ap (λ (o : Bool). cond o Over (answerOf (x .found))) e
 
 pub start-kept : (x : Solved) (s : List ℤ) → x .over ≡ true → startAfter x s ≡ s
 start-kept x s e = ap (λ (o : Bool). cond o s (startOf (x .found) s)) e
+
+-- ---- the rounds
+abbrev pub solving : Solution → ℕ → Solving
+solving r k = record { solution = r; rounds = k }
+
+pub solving-is : (x : Solved) (k : ℕ) {r : Solution} → r ≡ solutionOf x → solving r (roundsFor r k) ≡ solvingOf x k
+solving-is x k e = ap (λ (r : Solution). solving r (roundsFor r k)) e
+
+pub tally-over : (p : Problem) (a : List ℤ) {r : Tally} {o : Bool} → r ≡ formTally p a → r .over ≡ o → formOf p a .over ≡ o
+tally-over p a e h = sym (ap (λ (x : Tally). x .over) e) ∙ h
+
+pub tally-rounds : (p : Problem) (a : List ℤ) {r : Tally} → r ≡ formTally p a → formOf p a .over ≡ false
+    → r .rounds ≡ formRounds (p .columns) (matrixOf p a)
+tally-rounds p a e h =
+    ap (λ (x : Tally). x .rounds) e ∙ ap (λ (o : Bool). cond o 0 (formRounds (p .columns) (matrixOf p a))) h
 
 pub findable : {p : Problem} {t a b s u : List ℤ} (n : ℕ) → Solvable p t a b s → p .rows + p .columns ≤ n → length u ≡ length t
     → Formed p (formOf p a) u
