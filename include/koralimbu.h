@@ -22,7 +22,7 @@ extern "C" {
 /* The version, which rises with each change of a call or of the text; docs/CHANGES.md has the list. A header and an archive of different
  * versions must not be used together: a program compares KORALIMBU_VERSION with koralimbu_version() once, at its start. */
 #define KORALIMBU_VERSION_MAJOR 0
-#define KORALIMBU_VERSION_MINOR 7
+#define KORALIMBU_VERSION_MINOR 8
 #define KORALIMBU_VERSION_PATCH 0
 #define KORALIMBU_VERSION (KORALIMBU_VERSION_MAJOR * 1000000 + KORALIMBU_VERSION_MINOR * 1000 + KORALIMBU_VERSION_PATCH)
 
@@ -92,8 +92,8 @@ uint32_t koralimbu_version(void);
 #define KORALIMBU_M 2147483647
 
 /* The counts of a report, of a preview's report, of the reader's sizes and of the join's. */
-#define KORALIMBU_REPORT_COUNT 3
-#define KORALIMBU_PREVIEW_COUNT 6
+#define KORALIMBU_REPORT_COUNT 4
+#define KORALIMBU_PREVIEW_COUNT 7
 #define KORALIMBU_SIZES_COUNT 3
 #define KORALIMBU_JOINED_COUNT 2
 

@@ -56,10 +56,10 @@ WORDS = {0: "", 1: "+", 2: "-"}
 KINDS = ["%s step %s" % (part, signs) for part in (BOUNDS, GOALS)
          for signs in ("+", "-", "++", "+-", "-+", "--")]
 KINDS += ["no move", "refusal 1", "refusal 2", "refusal 3", "refusal 4", "refusal 5",
-          "refusal 7", "refusal 10", "a report of 6 numbers", "a report of 8 numbers"]
+          "refusal 7", "refusal 10", "a report of length 6", "a report of length 8"]
 
 # What calls show of rounds.
-ROUND_KINDS = rounds.KINDS + ["a report of 3 numbers", "a report of 5 numbers"]
+ROUND_KINDS = rounds.KINDS + ["a report of length 3", "a report of length 5"]
 
 
 def engine_functions(library):
@@ -223,7 +223,7 @@ def kind_of(got):
     """Which of KINDS a preview is, by what the engine tells."""
     report = got["report"]
     if len(report) != PREVIEW_NUMBERS:
-        return "a report of %d numbers" % len(report)
+        return "a report of length %d" % len(report)
     if got["number"] != 0:
         return "refusal %d" % got["number"]
     if report[0] == 0:
@@ -259,7 +259,7 @@ def compare_previews(tally, functions, count, seed):
 def round_kinds(case, report):
     """Which of ROUND_KINDS a call shows that is still to be made."""
     if len(report) != REPORT_NUMBERS:
-        return ["a report of %d numbers" % len(report)]
+        return ["a report of length %d" % len(report)]
     (outcome, *_), _ = case.left_with()
     return rounds.kinds(case, outcome)
 
