@@ -11,10 +11,11 @@ what they tell and leave (document 02, (i)), many of which show a step, the two 
 that the reader hands in for what texts state (document 02, (ii)), and joins of two parts with
 every lent list afterwards (document 02, (vi)). Ideals play a part in a quarter of the calls and
 a sixth of the listed texts, high goals above the low ones (document 02, (v)) in another quarter
-of the calls, and about as many show each of the kinds of rounds.py. A sixth of the texts has rows by the paths of swept volumes (document 02, (iii)), about as
-many are refused by their volumes, at each of the places where they can be, and about as many
-show what there is of pairs of goals. The joins show each of the kinds of joins.py. Cases are
-kept small, since the checker computes slowly. The last line is 'N passed, M failed'.
+of the calls, and about as many show each of the kinds of rounds.py. A sixth of the texts has
+rows by the paths of swept volumes (document 02, (iii)), about as many are refused by their
+volumes, at each of the places where they can be, and about as many show what there is of pairs
+of goals. The joins show each of the kinds of joins.py. Cases are kept small, since the checker
+computes slowly. The last line is 'N passed, M failed'.
 """
 
 import os
