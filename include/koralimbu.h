@@ -22,7 +22,7 @@ extern "C" {
 /* The version, which rises with each change of a call or of the text; docs/CHANGES.md has the list. A header and an archive of different
  * versions must not be used together: a program compares KORALIMBU_VERSION with koralimbu_version() once, at its start. */
 #define KORALIMBU_VERSION_MAJOR 0
-#define KORALIMBU_VERSION_MINOR 7
+#define KORALIMBU_VERSION_MINOR 8
 #define KORALIMBU_VERSION_PATCH 0
 #define KORALIMBU_VERSION (KORALIMBU_VERSION_MAJOR * 1000000 + KORALIMBU_VERSION_MINOR * 1000 + KORALIMBU_VERSION_PATCH)
 
@@ -75,6 +75,9 @@ uint32_t koralimbu_version(void);
 #define KORALIMBU_MOST_TABLEAU 4608
 #define KORALIMBU_MOST_STEPS 65535
 
+/* The most rounds of an elimination for each column of its problem: n columns take at most n times as many. */
+#define KORALIMBU_ROUNDS_PER_COLUMN 31
+
 /* The most that a deck has, with the columns and rows that are added counted, and the bytes of its text. Another version may take larger problems
  * than decks, so these are names of their own. */
 #define KORALIMBU_DECK_COLUMNS 48
@@ -92,8 +95,8 @@ uint32_t koralimbu_version(void);
 #define KORALIMBU_M 2147483647
 
 /* The counts of a report, of a preview's report, of the reader's sizes and of the join's. */
-#define KORALIMBU_REPORT_COUNT 3
-#define KORALIMBU_PREVIEW_COUNT 6
+#define KORALIMBU_REPORT_COUNT 4
+#define KORALIMBU_PREVIEW_COUNT 7
 #define KORALIMBU_SIZES_COUNT 3
 #define KORALIMBU_JOINED_COUNT 2
 
@@ -112,7 +115,7 @@ uint32_t koralimbu_version(void);
  *   tableau       n * (m + n)   afterwards the form, m + n to a row
  *   values        n             afterwards the value of each column; Continue starts from what it holds
  *   strides       n             afterwards the strides
- *   report        REPORT_COUNT  afterwards the verdict, the steps of the bounds part and those of the goals part
+ *   report        REPORT_COUNT  afterwards the verdict, the steps of the bounds part, those of the goals part, and the rounds
  *
  * The first eight are only read.
  *
@@ -128,6 +131,24 @@ uint32_t koralimbu_version(void);
  * brought into its bounds; where none is, the value that it has then, brought into its bounds. No refusal looks at what given and ideals hold.
  * A caller with no ideals lends n zeros for given; what ideals then holds does not matter, only its count, so that one list of n zeros may be
  * lent for both. Continue seats nothing: only the counts of the two lists matter to it.
+ *
+ * Rounds. The elimination that makes the form takes its columns in rounds: each time it chooses a smallest entry is one. A call with a verdict, and
+ * a preview that is not refused, tells how many there were; with a refusal that is 0, also where rounds were made. There are at least n and at
+ * most ROUNDS_PER_COLUMN * n. Rows that are said otherwise, so that the same lists satisfy them, may take other rounds; the rest of the report
+ * is the same, unless one of the two is refused with 7. Steps are no rounds: their most is the step limit.
+ *
+ * A progress bar over several problems, as the decks or blocks of a hull, has its upper end from this: the rounds of those that are done, and
+ * ROUNDS_PER_COLUMN * n for each that is still to come. A call tells its rounds when it is over, and nothing while it runs, so that the bar moves
+ * from call to call. Its end never rises, and is reached with the last call; where all are refused, both are 0.
+ *
+ *   for (k = 0; k < count; k++)
+ *     end += KORALIMBU_ROUNDS_PER_COLUMN * problem[k].n;
+ *   for (k = 0; k < count; k++) {
+ *     number = koralimbu_assign(problem[k].n, .., report, KORALIMBU_REPORT_COUNT);
+ *     done += report[3];
+ *     end -= KORALIMBU_ROUNDS_PER_COLUMN * problem[k].n - report[3];
+ *     draw_bar(done, end);
+ *   }
  *
  * What these two return, and what is then left:
  *
@@ -153,7 +174,7 @@ uint32_t koralimbu_version(void);
  *
  * The first cause that holds is returned, in the order 1 to 6, then 10, then 7 and 8 as met, then 9.
  *
- * The report's verdict is FITTED, OUTSIDE or SPENT; with a refusal the report is 0, 0, 0. A report whose count is not REPORT_COUNT is
+ * The report's verdict is FITTED, OUTSIDE or SPENT; with a refusal the report is 0, 0, 0, 0. A report whose count is not REPORT_COUNT is
  * refused with REFUSED_LENGTH before anything else is looked at, and every buffer is left as it was, the report too.
  */
 
@@ -200,7 +221,7 @@ uint32_t koralimbu_continue(size_t n, size_t m, uint32_t limit,
  *   tableau       n * (m + n)    afterwards the form, m + n to a row
  *   after         n              afterwards the value of each column after the step; the standing one where no move improves
  *   strides       n              afterwards the strides
- *   report        PREVIEW_COUNT  afterwards the step
+ *   report        PREVIEW_COUNT  afterwards the step, and the rounds
  *
  * The first nine are only read, so after is a list of its own. The columns that the step changes are those where it differs from standing.
  *
@@ -212,9 +233,10 @@ uint32_t koralimbu_continue(size_t n, size_t m, uint32_t limit,
  *   3  its sign: SIGN_PLUS or SIGN_MINUS
  *   4  the second vector of the move, counted from 1; 0 where the move is a single vector
  *   5  its sign; 0 where there is none
+ *   6  the rounds, as above
  *
- * It is 0, 0, 0, 0, 0, 0 where no move improves and with a refusal. A report whose count is not PREVIEW_COUNT is refused with REFUSED_LENGTH
- * before anything else is looked at, and every buffer is left as it was, the report too.
+ * Where no move improves, all but the rounds are 0, and with a refusal the rounds too. A report whose count is not PREVIEW_COUNT is refused with
+ * REFUSED_LENGTH before anything else is looked at, and every buffer is left as it was, the report too.
  *
  * Vector s of the basis stands in the tableau that the call leaves: it is the s-th of the rows whose first m numbers are all 0, without
  * these m numbers. So after is standing with the vectors of the move added or taken away.

@@ -5,16 +5,17 @@
 The definitions of crates/*/specs compute. This writes a crate of one equation
 for each case below target/against, with the model's answer on its right side,
 and has the checker compute the left sides: whole assignments and Continue with
-every lent buffer afterwards, texts with the listing's bytes, the runs of both calls with
-what falls at a step (document 02, (xiii)), previews with what they tell and leave
-(document 02, (i)), many of which show a step, the two lists of ideals that the reader
-hands in for what texts state (document 02, (ii)), and joins of two parts with every lent list
-afterwards (document 02, (vi)). Ideals play a part in a third of the calls and a sixth of the
-listed texts, high goals above the low ones (document 02, (v)) in another third of the calls.
-A sixth of the texts has rows by the paths of swept volumes (document 02, (iii)), about as
-many are refused by their volumes, at each of the places where they can be, and about as many
-show what there is of pairs of goals. The joins show each of the kinds of joins.py. Cases are
-kept small, since the checker computes slowly. The last line is 'N passed, M failed'.
+the rounds (document 02, (vii)) and every lent buffer afterwards, texts with the listing's
+bytes, the runs of both calls with what falls at a step (document 02, (xiii)), previews with
+what they tell and leave (document 02, (i)), many of which show a step, the two lists of ideals
+that the reader hands in for what texts state (document 02, (ii)), and joins of two parts with
+every lent list afterwards (document 02, (vi)). Ideals play a part in a quarter of the calls and
+a sixth of the listed texts, high goals above the low ones (document 02, (v)) in another quarter
+of the calls, and about as many show each of the kinds of rounds.py. A sixth of the texts has
+rows by the paths of swept volumes (document 02, (iii)), about as many are refused by their
+volumes, at each of the places where they can be, and about as many show what there is of pairs
+of goals. The joins show each of the kinds of joins.py. Cases are kept small, since the checker
+computes slowly. The last line is 'N passed, M failed'.
 """
 
 import os
@@ -24,6 +25,7 @@ import subprocess
 from fractions import Fraction
 
 import needs
+import rounds
 import runs
 from engine import PROBLEM_LISTS, has_goal, preview, ratio_of
 from generate import (REFUSED_KINDS, Case, beside_deck, join, preview_case, problem_case,
@@ -121,9 +123,10 @@ def is_large(problem):
     return problem.n * (problem.m + problem.n) > MOST_NUMBERS
 
 
-def problem_equation(rng, by_ideals=False, by_high=False):
+def problem_equation(rng, by_ideals=False, by_high=False, shown=None):
     """A call on buffers as an equation, or None where it is too large, or where ideals or
-    high goals are to play a part and play none."""
+    high goals are to play a part and play none, or a kind of rounds is to be shown and is
+    not."""
     case = problem_case(rng)
     problem = case.problem
     if is_large(problem):
@@ -131,11 +134,12 @@ def problem_equation(rng, by_ideals=False, by_high=False):
     problem.limit = min(problem.limit, MOST_STEPS) if problem.limit <= 65535 else problem.limit
     if by_ideals and not case.moved_by_ideals() or by_high and not case.moved_by_high_goals():
         return None
+    if shown is not None and shown not in rounds.kinds(case, case.left_with()[0][0]):
+        return None
     before = "(record { %s })" % buffers(case.lent)
-    outcome, bounds, goals = case.run()
-    return ("%s %s %s ≡ record { answer = %s; %s }"
-            % (case.call, posed(problem), before, answer(outcome, bounds, goals),
-               buffers(case.lent)))
+    *answered, made = case.run()
+    return ("%s %s %s ≡ record { answer = %s; rounds = %d; %s }"
+            % (case.call, posed(problem), before, answer(*answered), made, buffers(case.lent)))
 
 
 def listed_by_ideals(deck):
@@ -212,11 +216,12 @@ def preview_equation(rng):
     if is_large(problem):
         return None
     before = "(record { %s })" % buffers(lent)
-    number, step = preview(problem, standing, lent)
+    number, step, made = preview(problem, standing, lent)
     if wanted and step is None:
         return None
-    return ("preview %s %s %s ≡ record { seen = %s; tableau = %s; after = %s; strides = %s }"
-            % (posed(problem), integers(standing), before, seen(number, step),
+    return ("preview %s %s %s ≡ record { seen = %s; rounds = %d; tableau = %s; after = %s;"
+            " strides = %s }"
+            % (posed(problem), integers(standing), before, seen(number, step), made,
                integers(lent.tableau), integers(lent.values), naturals(lent.strides)))
 
 
@@ -273,18 +278,20 @@ def some(make, count, seed, **wanted):
     return found
 
 
-def problem_equations(count, seed):
-    """Of calls; ideals play a part in a third of them, and high goals in another."""
-    third = count // 3
-    return (some(problem_equation, count - 2 * third, seed)
-            + some(problem_equation, third, seed + 1, by_ideals=True)
-            + some(problem_equation, third, seed + 2, by_high=True))
-
-
 def shown_equations(make, kinds, count, seed):
     """Of cases that show these kinds, as many of each and together at most count."""
     return [equation for number, kind in enumerate(kinds)
             for equation in some(make, count // len(kinds), seed + number, shown=kind)]
+
+
+def problem_equations(count, seed):
+    """Of calls: ideals play a part in a quarter of them, and high goals in another; a quarter
+    shows each kind of rounds as often, and what does not go into these is any call."""
+    quarter = count // 4
+    shown = shown_equations(problem_equation, rounds.KINDS, quarter, seed + 3)
+    return (some(problem_equation, count - 2 * quarter - len(shown), seed)
+            + some(problem_equation, quarter, seed + 1, by_ideals=True)
+            + some(problem_equation, quarter, seed + 2, by_high=True) + shown)
 
 
 def text_equations(count, seed):
@@ -412,7 +419,7 @@ def write_crate(equations):
 
 
 def main(arguments):
-    counts = needs.numbers(arguments, [60, 90, 1, 20, 30, 40, 70], __doc__)
+    counts = needs.numbers(arguments, [80, 90, 1, 20, 30, 40, 70], __doc__)
     rt = needs.rt()
     equations = problem_equations(counts[0], counts[2])
     equations += text_equations(counts[1], counts[2])

@@ -17,7 +17,7 @@ import subprocess
 import sys
 
 import needs
-from against_engine import NUMBERS, engine_functions
+from against_engine import NUMBERS, REPORT_NUMBERS, engine_functions
 from boundary import MOST_SHOWN, ROOT, Buffer, call, load, run
 from engine import ELIMINATION_BEYOND, MAX_COLUMNS, MAX_ROWS, NO_WHOLE_NUMBERS, SEATING_BEYOND
 from generate import rng_for
@@ -165,7 +165,7 @@ def engine_form(assign, rng, n, rows):
     lists = {"coefficients": [a for row in rows for a in row], "rights": rights, "lower": [1] * n,
              "upper": [10 ** 6] * n, "low": goals, "high": goals, "given": [rng.choice([0, 0, 1, -7]) for _ in range(n)],
              "ideals": [rng.randint(-99, 999) for _ in range(n)], "tableau": [7] * (n * (m + n)),
-             "values": [0] * n, "strides": [0] * n, "report": [0] * 3}
+             "values": [0] * n, "strides": [0] * n, "report": [0] * REPORT_NUMBERS}
     buffers = {name: Buffer(NUMBERS.get(name, ctypes.c_int64), numbers)
                for name, numbers in lists.items()}
     # No step is taken: the form stands before settling.

@@ -20,7 +20,8 @@ import copy
 import ctypes
 
 import needs
-from against_engine import VERDICTS, engine_call, engine_functions, model_call
+from against_engine import (REPORT_NUMBERS, VERDICTS, engine_call, engine_functions,
+                            model_call)
 from boundary import LENT, Buffer, Tally, call_with, declare, handed, load
 from engine import FITTED, PROBLEM_LISTS, WRONG_LENGTH, Problem
 from generate import Case, noise, noisy_lent, rng_for
@@ -199,9 +200,10 @@ def compare_assignment(tally, functions, what, case, got, rng):
     left, limit = joined_by(got), rng.choice([0, 1, 3, 20, 40, 40])
     left.limit = limit
     lent = noisy_lent(rng, left.n, left.m)
-    after = engine_call(functions, Case("assign", left, lent), [0, 0, 0])
+    after = engine_call(functions, Case("assign", left, lent), [0] * REPORT_NUMBERS)
     whole = joined(case.first, case.second, case.pairs, limit)
-    tally.compare(what + ", assigned", after, model_call(Case("assign", whole, lent), [0, 0, 0]))
+    tally.compare(what + ", assigned", after,
+                  model_call(Case("assign", whole, lent), [0] * REPORT_NUMBERS))
     if after["number"] != 0:
         return "refusal %d" % after["number"]
     verdict = {number: word for word, number in VERDICTS.items()}[after["report"][0]]

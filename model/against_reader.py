@@ -19,7 +19,7 @@ the header says, and must give that listing. The last line is 'N passed, M faile
 import ctypes
 
 import needs
-from against_engine import VERDICTS, engine_call, engine_functions
+from against_engine import REPORT_NUMBERS, VERDICTS, engine_call, engine_functions
 from against_listing import DECK_CASES, by_hand, long_texts, samples
 from boundary import Buffer, Tally, call, declare, load
 from engine import MAX_COLUMNS, MAX_ROWS, PROBLEM_LISTS, WRONG_LENGTH
@@ -82,12 +82,14 @@ def listing_by_calls(functions, after):
         setattr(deck, name, after[name])
     case = Case("assign", problem_of(deck), None)
     case.lent = blank_lent(case.problem)
-    done = engine_call(functions, case, [0, 0, 0])
+    done = engine_call(functions, case, [0] * REPORT_NUMBERS)
     if done["number"] != 0:
         return refusal_lines(done["number"])
     case.lent.values, case.lent.strides = done["values"], done["strides"]
     word = {number: verdict for verdict, number in VERDICTS.items()}[done["report"][0]]
-    return verdict_lines(word, *done["report"][1:], case.lent)
+    # the rounds are not listed
+    _, bounds_count, goals_count, _ = done["report"]
+    return verdict_lines(word, bounds_count, goals_count, case.lent)
 
 
 # --------------------------------------------------------------------- the cases

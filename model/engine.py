@@ -4,14 +4,15 @@ Every function carries out a sentence of document 01 and quotes it. Whole
 numbers are Python's, so nothing here overflows or is cut off. Rows and columns
 are counted from 0 in the code and from 1 in document 01.
 
-Ideals handed in, previews and the pair of goals are document 02's, whose sentences
-stand at them.
+Ideals handed in, previews, the pair of goals, the nearest quotient and its rounds are
+document 02's, whose sentences stand at them.
 
 assign(problem, lent) is a whole assignment, cont(problem, lent) is Continue.
-Both return (outcome, steps of the bounds part, steps of the goals part), where
+Both return (outcome, steps of the bounds part, steps of the goals part, rounds), where
 the outcome is the word FITTED, OUTSIDE or SPENT or the number of a refusal.
 preview(problem, standing, lent) shows the next step (document 02, (i)); it returns
-(the number of a refusal or 0, the step or None).
+(the number of a refusal or 0, the step or None, rounds).
+Rounds are those of the elimination (document 02, (vii)).
 """
 
 import collections
@@ -28,6 +29,8 @@ MAX_BOUND = 1000000
 MAX_GOAL = 1000000000
 MAX_LIMIT = 65535
 M = 2147483647
+# Document 02, (vii): “at most 31 × n in all”.
+ROUNDS_PER_COLUMN = 31
 
 FITTED = "FITTED"
 OUTSIDE = "OUTSIDE"
@@ -244,29 +247,41 @@ def choose_pivot(table, k, c):
     return chosen
 
 
-def gather(table, k, c):
+def rounded_down(entry, p):
+    """“the quotient is rounded down, towards minus infinity” - as // does in Python."""
+    return entry // p
+
+
+def nearest(entry, p):
+    """Document 02, (vii): “the nearest quotient, floor((2 × entry + p) / 2p)”."""
+    return (2 * entry + p) // (2 * p)
+
+
+def gather(table, k, c, quotient):
     """“Gathering works on the tableau from row k to the last.”
 
-    True if a pivot was gathered into row k, False if “all entries at c there are 0”.
+    Returns the rounds, document 02, (vii): “Each choice of a smallest entry is a round.”
+    Where “all entries at c there are 0” nothing is chosen, and there is none.
     """
+    rounds = 0
     chosen = choose_pivot(table, k, c)
-    if chosen is None:
-        return False
-    while True:
+    while chosen is not None:
+        rounds += 1
         # “swap it with row k; negate row k if its entry p is negative”
         table[k], table[chosen] = table[chosen], table[k]
         if table[k][c] < 0:
             table[k] = [-number for number in table[k]]
         p = table[k][c]
         # “From each lower row with a nonzero entry subtract the quotient (entry
-        # by p) times row k; the quotient is rounded down” - as // does in Python.
+        # by p) times row k”
         for j in range(k + 1, len(table)):
             if table[j][c] != 0:
-                table[j] = subtract(table[j], table[j][c] // p, table[k])
+                table[j] = subtract(table[j], quotient(table[j][c], p), table[k])
         # “Repeat until all lower entries are 0.”
         if all(table[j][c] == 0 for j in range(k + 1, len(table))):
-            return True
+            break
         chosen = choose_pivot(table, k, c)
+    return rounds
 
 
 def reduce_above(table, k, c):
@@ -274,21 +289,27 @@ def reduce_above(table, k, c):
     times row k, so that its entry lies in 0 to p − 1.”"""
     p = table[k][c]
     for j in range(k):
-        table[j] = subtract(table[j], table[j][c] // p, table[k])
+        table[j] = subtract(table[j], rounded_down(table[j][c], p), table[k])
 
 
-def bring_to_form(table):
+def bring_to_form(table, quotient=nearest):
     """“Start with k = 1 and take the table's columns c from left to right while
-    k ≤ n.” Returns the lead column of each table row."""
-    leads = []
+    k ≤ n.” Returns the lead column of each table row, and the rounds of each such column.
+
+    Document 02, (vii): “Gathering takes the nearest quotient ... in place of the
+    rounded-down one; the rows above are reduced as now.” Document 01's quotient is there to
+    compare the two."""
+    leads, rounds = [], []
     for c in range(len(table[0])):
         k = len(leads)
         if k == len(table):
             break
-        if gather(table, k, c):
+        gathered = gather(table, k, c, quotient)
+        if gathered > 0:
             reduce_above(table, k, c)
             leads.append(c)
-    return leads
+            rounds.append(gathered)
+    return leads, rounds
 
 
 def flat(table):
@@ -307,7 +328,7 @@ def starting_list(table, leads, rights):
     # subtract the rounded-down quotient times that row.”
     for row, lead in zip(table, leads):
         if lead < m:
-            rest = subtract(rest, rest[lead] // row[lead], row)
+            rest = subtract(rest, rounded_down(rest[lead], row[lead]), row)
     # “If one of the first m numbers is then not 0, no whole numbers satisfy the rows.”
     if any(number != 0 for number in rest[:m]):
         return None
@@ -315,7 +336,7 @@ def starting_list(table, leads, rights):
     # starting list.”
     for row, lead in zip(table, leads):
         if lead >= m:
-            rest = subtract(rest, rest[lead] // row[lead], row)
+            rest = subtract(rest, rounded_down(rest[lead], row[lead]), row)
     return rest[m:]
 
 
@@ -388,7 +409,7 @@ def seat(problem, basis, values):
         c = lead_of(vector)
         p = vector[c]
         d = ideal(problem, c, values[c]) - values[c]
-        times = (2 * d + p) // (2 * p)
+        times = nearest(d, p)
         values = [value + times * entry for value, entry in zip(values, vector)]
         if any(abs(value) > M for value in values):
             return None
@@ -579,37 +600,43 @@ def list_not_fit(problem, values):
     return any(abs(value) > M for value in values) or not satisfies_rows(problem, values)
 
 
-def finish(problem, lent, basis, values):
+def refused(number):
+    """“number, counts 0”, and document 02, (vii): “A refusal returns 0 rounds.”"""
+    return number, 0, 0, 0
+
+
+def finish(problem, lent, basis, values, rounds):
     """“A whole assignment or a Continue that isn't refused leaves the form in the
-    tableau, the final values in the interval list and the strides in theirs.”"""
+    tableau, the final values in the interval list and the strides in theirs.” “The rounds
+    are counted and returned.”"""
     verdict, bounds_count, goals_count, final = settle(problem, basis, values)
     lent.values[:] = final
     lent.strides[:] = strides_of(basis, problem.n)
-    return verdict, bounds_count, goals_count
+    return verdict, bounds_count, goals_count, sum(rounds)
 
 
 def assign(problem, lent):
     """“A whole assignment is the tableau, the right side, seating and settling.”"""
     cause = first_cause(problem, lent)
     if cause:
-        return cause, 0, 0
+        return refused(cause)
     table = fill(problem)
     try:
-        leads = bring_to_form(table)
+        leads, rounds = bring_to_form(table)
         start = starting_list(table, leads, problem.rights)
     except Beyond:
         # “tableau all 0, lists as before”
         lent.tableau[:] = [0] * len(lent.tableau)
-        return ELIMINATION_BEYOND, 0, 0
+        return refused(ELIMINATION_BEYOND)
     # “tableau the form”, from here on with a refusal as with a verdict
     lent.tableau[:] = flat(table)
     if start is None:
-        return NO_WHOLE_NUMBERS, 0, 0
+        return refused(NO_WHOLE_NUMBERS)
     basis = basis_of(table, leads, problem.m)
     seated = seat(problem, basis, start)
     if seated is None:
-        return SEATING_BEYOND, 0, 0
-    return finish(problem, lent, basis, seated)
+        return refused(SEATING_BEYOND)
+    return finish(problem, lent, basis, seated, rounds)
 
 
 def cont(problem, lent):
@@ -617,18 +644,18 @@ def cont(problem, lent):
     but takes neither the right-side step nor seating.”"""
     cause = first_cause(problem, lent)
     if cause:
-        return cause, 0, 0
+        return refused(cause)
     if list_not_fit(problem, lent.values):
-        return LIST_NOT_FIT, 0, 0
+        return refused(LIST_NOT_FIT)
     table = fill(problem)
     try:
-        leads = bring_to_form(table)
+        leads, rounds = bring_to_form(table)
     except Beyond:
         lent.tableau[:] = [0] * len(lent.tableau)
-        return ELIMINATION_BEYOND, 0, 0
+        return refused(ELIMINATION_BEYOND)
     lent.tableau[:] = flat(table)
     basis = basis_of(table, leads, problem.m)
-    return finish(problem, lent, basis, lent.values)
+    return finish(problem, lent, basis, lent.values, rounds)
 
 
 # ------------------------------------------------- document 02, (i): the next step
@@ -675,23 +702,23 @@ def preview(problem, standing, lent):
     move and the list after it, or says that no move improves.” The standing list is only
     read; the list after goes to lent.values.
 
-    Returns (0, step), (0, None) where no move improves, or (number, None) with the number
-    of a refusal. The buffers are left as Continue with limit 1 leaves them, with a
-    refusal the list after and the strides as before."""
+    Returns (0, step, rounds), (0, None, rounds) where no move improves, or (number, None, 0)
+    with the number of a refusal. The buffers are left as Continue with limit 1 leaves them,
+    with a refusal the list after and the strides as before."""
     cause = preview_cause(problem, standing, lent)
     if cause:
-        return cause, None
+        return cause, None, 0
     if list_not_fit(problem, standing):
-        return LIST_NOT_FIT, None
+        return LIST_NOT_FIT, None, 0
     table = fill(problem)
     try:
-        leads = bring_to_form(table)
+        leads, rounds = bring_to_form(table)
     except Beyond:
         lent.tableau[:] = [0] * len(lent.tableau)
-        return ELIMINATION_BEYOND, None
+        return ELIMINATION_BEYOND, None, 0
     basis = basis_of(table, leads, problem.m)
     step = next_step(problem, basis, standing)
     lent.tableau[:] = flat(table)
     lent.values[:] = list_after(basis, standing, step)
     lent.strides[:] = strides_of(basis, problem.n)
-    return 0, step
+    return 0, step, sum(rounds)

@@ -20,7 +20,7 @@ A problem is printed as lines of fields parted by one space:
     tableau LENGTH numbers...            the lent buffers before the call
     values LENGTH numbers...
     strides LENGTH numbers...
-    answer OUTCOME BOUNDS GOALS          a verdict or a refusal's number, the counts
+    answer OUTCOME BOUNDS GOALS ROUNDS   a verdict or a refusal's number, the counts
     tableau LENGTH numbers...            the lent buffers after the call
     values LENGTH numbers...
     strides LENGTH numbers...
@@ -89,7 +89,7 @@ class Case:
     def moved_by_high_goals(self):
         """Whether it plays a part in a verdict that high goals are above the low ones."""
         left = self.left_with()
-        (outcome, _, _), _ = left
+        (outcome, *_), _ = left
         return not isinstance(outcome, int) and left != self.left_with(high=self.problem.low)
 
 
@@ -191,6 +191,13 @@ def heavy_problem(rng):
     n = rng.randint(3, 8)
     m = rng.randint(1, n)
     size = rng.choice([10, 100, MAX_COEFFICIENT])
+    return solvable_problem(rng, n, m, size, 0.9, 10)
+
+
+def brink_problem(rng):
+    """Dense rows of the sizes at which the nearest and the rounded-down quotient often differ
+    in whether they meet refusal 7 (document 02, (vii))."""
+    size, n, m = rng.choice([(30, 5, 3), (30, 6, 3), (100, 6, 2), (100, 8, 2), (300, 5, 2)])
     return solvable_problem(rng, n, m, size, 0.9, 10)
 
 
@@ -304,7 +311,7 @@ def strided_problem(rng):
 
 
 FAMILIES = [small_problem] * 6 + [middle_problem] * 4 + [wild_problem] * 3 + [
-    heavy_problem, heavy_problem, heavy_wild_problem, large_problem, extreme_counts,
+    heavy_problem, brink_problem, heavy_wild_problem, large_problem, extreme_counts,
     chain_problem, near_m_problem, there_and_back_problem] + [strided_problem] * 4
 
 
@@ -461,7 +468,8 @@ def walked(rng, problem, values):
     """A list in bounds moved on by vectors of the basis, in bounds all the way, so that
     its goals are missed; a list outside as it is."""
     table = fill(problem)
-    basis = basis_of(table, bring_to_form(table), problem.m)
+    leads, _ = bring_to_form(table)
+    basis = basis_of(table, leads, problem.m)
     for vector in rng.choices(basis, k=6) if basis else []:
         sign = rng.choice([-1, 1])
         moved = [value + sign * entry for value, entry in zip(values, vector)]
@@ -475,7 +483,7 @@ def left_standing(rng, case):
     it, so that there are steps to be made; the lent list where it is refused."""
     limit, case.problem.limit = case.problem.limit, rng.choice([0, 0, 1, 7, 30])
     lent = Lent(*map(list, (case.lent.tableau, case.lent.values, case.lent.strides)))
-    outcome, _, _ = assign(case.problem, lent)
+    outcome = assign(case.problem, lent)[0]
     case.problem.limit = limit
     if isinstance(outcome, str) and rng.random() < 0.7:
         return walked(rng, case.problem, lent.values)
@@ -495,7 +503,8 @@ def held_problem(rng):
     problem = Problem(n, m, coefficients, rights, list(standing), list(standing),
                       *twice([0] * n), *unset(n), random_limit(rng))
     table = fill(problem)
-    basis = basis_of(table, bring_to_form(table), m)
+    leads, _ = bring_to_form(table)
+    basis = basis_of(table, leads, m)
     pairs = [name for name in move_names(len(basis)) if len(name) == 2]
     # Better one in which both vectors change a column and the move does not.
     cancelling = [name for name in pairs

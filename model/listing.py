@@ -47,7 +47,8 @@ def listing_lines(data):
         return refusal_lines(deck)
     problem = problem_of(deck)
     lent = blank_lent(problem)
-    outcome, bounds_count, goals_count = assign(problem, lent)
+    # the rounds are not listed
+    outcome, bounds_count, goals_count, _ = assign(problem, lent)
     if isinstance(outcome, int):
         return refusal_lines(outcome)
     return verdict_lines(outcome, bounds_count, goals_count, lent)

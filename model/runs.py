@@ -15,7 +15,8 @@ def run_from(problem, values):
     """The lists that stand while values are settled, and what settling returns. Where
     the form meets refusal 7, this raises engine.Beyond."""
     table = fill(problem)
-    basis = basis_of(table, bring_to_form(table), problem.m)
+    leads, _ = bring_to_form(table)
+    basis = basis_of(table, leads, problem.m)
     lists = []
     answer = settle(problem, basis, values, lists)
     return lists, answer

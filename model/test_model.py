@@ -2,8 +2,8 @@
 
 Runs every deck case of document 01, every row of its table of refusals, the close
 readings one by one, swept volumes, ideals handed in and the reader's, pairs of goals,
-problems stated anew, previews of the next step, joins of two parts, properties of random
-problems, the sample decks, and what the page beside them says of verdicts; each room has its
+rounds of the elimination, problems stated anew, previews of the next step, joins of two parts,
+properties of random problems, the sample decks, and what the page beside them says of verdicts; each room has its
 file in tests/.
 The last line printed is “N passed, M failed”, counted in single checks.
 """
@@ -12,10 +12,10 @@ import sys
 import traceback
 
 from tests import (calls, cases, form, generator, goals, ideals, joining, listings, previews,
-                   reader, refusals, restated, settling, steps, tools, volumes, words)
+                   reader, refusals, restated, rounds, settling, steps, tools, volumes, words)
 
-ROOMS = [cases, refusals, reader, volumes, calls, form, settling, ideals, goals, restated,
-         steps, previews, joining, generator, listings, words]
+ROOMS = [cases, refusals, reader, volumes, calls, form, rounds, settling, ideals, goals,
+         restated, steps, previews, joining, generator, listings, words]
 
 
 def main():

@@ -32,7 +32,7 @@ const std::vector<Engine> &engines() {
 Answer room_for(const Deck &deck) {
     Answer answer;
     answer.number = 0;
-    answer.report.resize(3);
+    answer.report.resize(KORALIMBU_REPORT_COUNT);
     answer.tableau.resize(deck.n * (deck.m + deck.n));
     answer.values.resize(deck.n);
     answer.strides.resize(deck.n);
@@ -42,7 +42,7 @@ Answer room_for(const Deck &deck) {
 void assign(Assign engine, const Deck &d, Answer &a) {
     a.number = engine(d.n, d.m, d.limit, d.coefficients.data(), d.n * d.m, d.rights.data(), d.m, d.lower.data(), d.n, d.upper.data(),
                       d.n, d.low.data(), d.n, d.high.data(), d.n, d.given.data(), d.n, d.ideals.data(), d.n, a.tableau.data(),
-                      a.tableau.size(), a.values.data(), d.n, a.strides.data(), d.n, a.report.data(), 3);
+                      a.tableau.size(), a.values.data(), d.n, a.strides.data(), d.n, a.report.data(), a.report.size());
 }
 
 Deck rows_alone(const Deck &deck) {

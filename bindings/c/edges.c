@@ -1,4 +1,4 @@
-/* What the header says, tried over the archive: the version, null pointers, every refusal and limit by its name, the preview beside
+/* What the header says, tried over the archive: the version, null pointers, every refusal and limit by its name, rounds, the preview beside
  * Continue, pairs of goals, ideals, the sizes of a deck, swept volumes, joins, calls in several threads at once, and calls on a small stack.
  *
  * Prints a line for each check that fails, and last 'N passed, M failed'.
@@ -14,7 +14,7 @@
 #include "koralimbu.h"
 
 /* The names are numbers for the preprocessor too. */
-#if KORALIMBU_VERSION < 7000 || KORALIMBU_MOST_COEFFICIENTS != KORALIMBU_MOST_ROWS * KORALIMBU_MOST_COLUMNS \
+#if KORALIMBU_VERSION < 8000 || KORALIMBU_MOST_COEFFICIENTS != KORALIMBU_MOST_ROWS * KORALIMBU_MOST_COLUMNS \
     || KORALIMBU_MOST_TABLEAU != KORALIMBU_MOST_COLUMNS * (KORALIMBU_MOST_ROWS + KORALIMBU_MOST_COLUMNS) \
     || KORALIMBU_DECK_COEFFICIENTS != KORALIMBU_DECK_ROWS * KORALIMBU_DECK_COLUMNS
 #error "names of koralimbu.h that do not agree"
@@ -29,6 +29,9 @@
 #define ROUNDS 20
 /* What a buffer holds before a call. */
 #define MARK 77
+/* Where the rounds stand in a report, behind the counts, and in a preview's, behind the step. */
+#define ROUNDS_PLACE (KORALIMBU_REPORT_COUNT - 1)
+#define STEP_COUNT (KORALIMBU_PREVIEW_COUNT - 1)
 /* The lists of which the calls below lend any count: low, high, given and ideals. All have room for a number too many. */
 #define LISTS 4
 
@@ -130,7 +133,8 @@ static void settle_with(engine *call, const struct posed *p, struct answer *a, c
     size_t n = p->n, m = p->m, k;
 
     memset(a, 0, sizeof *a);
-    a->report[0] = a->report[1] = a->report[2] = MARK;
+    for (k = 0; k < KORALIMBU_REPORT_COUNT; k++)
+        a->report[k] = MARK;
     memcpy(a->values, p->start, sizeof p->start);
     fill(a->tableau, sizeof a->tableau / sizeof *a->tableau, MARK);
     for (k = 0; k < COLUMNS; k++)
@@ -241,7 +245,13 @@ static int kept(const struct posed *p, const struct answer *a)
            && memcmp(a->report, nothing, sizeof nothing) == 0;
 }
 
-/* What a preview leaves besides is what Continue with the limit 1 left, and its part is the one whose count is 1. */
+/* Whether n columns take so many rounds: a column at least one. */
+static int rounds_fit(const struct posed *p, uint32_t rounds)
+{
+    return p->n <= rounds && rounds <= KORALIMBU_ROUNDS_PER_COLUMN * p->n;
+}
+
+/* What a preview leaves besides is what Continue with the limit 1 left, its rounds too, and its part is the one whose count is 1. */
 static int as_continued(const struct posed *p, const struct seen *s, const struct answer *a)
 {
     size_t n = p->n, m = p->m;
@@ -249,7 +259,8 @@ static int as_continued(const struct posed *p, const struct seen *s, const struc
 
     return memcmp(s->tableau, a->tableau, n * (m + n) * sizeof *s->tableau) == 0 && behind_is_marked(p, s->tableau, s->strides)
            && memcmp(s->after, a->values, n * sizeof *s->after) == 0 && memcmp(s->strides, a->strides, n * sizeof *s->strides) == 0
-           && a->report[1] == (part == KORALIMBU_PART_BOUNDS) && a->report[2] == (part == KORALIMBU_PART_GOALS);
+           && a->report[1] == (part == KORALIMBU_PART_BOUNDS) && a->report[2] == (part == KORALIMBU_PART_GOALS)
+           && s->report[STEP_COUNT] == a->report[ROUNDS_PLACE] && rounds_fit(p, s->report[STEP_COUNT]);
 }
 
 /* The preview returns a number. It equals Continue with the limit 1 on a copy of the list, and only reads the problem and the list. */
@@ -281,19 +292,23 @@ static void both(const char *what, const struct posed *p, uint32_t wanted)
     for (k = 0; k < 2; k++) {
         settle(calls[k], p, &a);
         expect(what, a.number, wanted);
-        check(what, wanted == KORALIMBU_ACCEPTED ? behind_is_marked(p, a.tableau, a.strides) : kept(p, &a));
+        check(what, wanted == KORALIMBU_ACCEPTED ? behind_is_marked(p, a.tableau, a.strides) && rounds_fit(p, a.report[ROUNDS_PLACE])
+                                                 : kept(p, &a));
         check(what, memcmp(&copy, p, sizeof copy) == 0);
     }
     previewed(what, p, wanted == KORALIMBU_REFUSED_LIMIT ? KORALIMBU_ACCEPTED : wanted);
 }
 
+/* With a refusal the report is 0, also after all rounds were made. */
 static void assigned(const char *what, const struct posed *p, uint32_t wanted, uint32_t verdict)
 {
+    static const uint32_t nothing[KORALIMBU_REPORT_COUNT];
     static struct answer a;
 
     settle(koralimbu_assign, p, &a);
     expect(what, a.number, wanted);
     expect(what, a.report[0], verdict);
+    check(what, wanted == KORALIMBU_ACCEPTED ? rounds_fit(p, a.report[ROUNDS_PLACE]) : memcmp(a.report, nothing, sizeof nothing) == 0);
 }
 
 static void continued(const char *what, const struct posed *p, uint32_t wanted)
@@ -549,14 +564,77 @@ static void try_report(void)
 {
     int64_t lower = 3, upper = 5, goals = 0, given = 0, ideals = 0, tableau = 0, values = 4;
     uint64_t strides = 0;
-    uint32_t report[KORALIMBU_REPORT_COUNT + 1] = {MARK, MARK, MARK, MARK};
-    size_t count;
+    uint32_t report[KORALIMBU_REPORT_COUNT + 1];
+    size_t count, k;
 
+    for (k = 0; k <= KORALIMBU_REPORT_COUNT; k++)
+        report[k] = MARK;
     for (count = KORALIMBU_REPORT_COUNT - 1; count <= KORALIMBU_REPORT_COUNT + 1; count += 2) {
         expect("a report of another count", koralimbu_assign(1, 0, LIMIT, NULL, 0, NULL, 0, &lower, 1, &upper, 1, &goals, 1,
                &goals, 1, &given, 1, &ideals, 1, &tableau, 1, &values, 1, &strides, 1, report, count), KORALIMBU_REFUSED_LENGTH);
-        check("what such a report is left as", report[0] == MARK && report[1] == MARK && report[2] == MARK);
+        for (k = 0; k <= KORALIMBU_REPORT_COUNT && report[k] == MARK; k++)
+            ;
+        check("what such a report is left as", k == KORALIMBU_REPORT_COUNT + 1);
     }
+}
+
+/* ---------------------------------------------------------------- rounds */
+
+/* A row of some numbers that adds up to 0. */
+static void pose_row(struct posed *p, const int64_t *row, size_t n)
+{
+    pose(p, n, 1);
+    memcpy(p->coefficients, row, n * sizeof *row);
+}
+
+/* The rounds of a row alone: those of its own column, and one or two for each of the others. The last two differ by a half that goes up. */
+static void try_rounds(void)
+{
+    static const struct {
+        size_t n;
+        int64_t row[3];
+        uint32_t rounds;
+    } rows[] = {{1, {0}, 1}, {1, {2}, 1}, {2, {0, 0}, 2}, {2, {1, -1}, 2}, {2, {3, -2}, 3}, {2, {5, 12}, 4}, {2, {12, 29}, 5},
+                {2, {987, 610}, 9}, {3, {1, 1, 1}, 3}, {3, {4, 5, 6}, 5}, {3, {4, 5, -6}, 4}};
+    static struct posed p;
+    static struct answer a;
+    static struct seen s;
+    size_t k;
+
+    for (k = 0; k < sizeof rows / sizeof *rows; k++) {
+        pose_row(&p, rows[k].row, rows[k].n);
+        settle(koralimbu_assign, &p, &a);
+        expect("rounds of a whole assignment", a.report[ROUNDS_PLACE], rows[k].rounds);
+        settle(koralimbu_continue, &p, &a);
+        expect("rounds of Continue", a.report[ROUNDS_PLACE], rows[k].rounds);
+        look(&p, &s);
+        expect("rounds of a preview", s.report[STEP_COUNT], rows[k].rounds);
+        both("a row and its rounds", &p, KORALIMBU_ACCEPTED);
+    }
+}
+
+/* A progress bar over four problems, of which 2 v = 1 is refused: its end falls from call to call, and what is done reaches it. */
+static void try_progress(void)
+{
+    static const int64_t rows[][2] = {{987, 610}, {1, -1}, {2, 0}, {3, -2}};
+    static struct posed problem[4];
+    static struct answer a;
+    size_t k, done = 0, end = 0, before, count = sizeof rows / sizeof *rows;
+
+    for (k = 0; k < count; k++) {
+        pose_row(&problem[k], rows[k], 2);
+        end += KORALIMBU_ROUNDS_PER_COLUMN * problem[k].n;
+    }
+    problem[2].rights[0] = 1;
+    for (k = 0; k < count; k++) {
+        settle(koralimbu_assign, &problem[k], &a);
+        expect("a problem of the bar", a.number, k == 2 ? KORALIMBU_REFUSED_NONE : KORALIMBU_ACCEPTED);
+        before = end;
+        done += a.report[ROUNDS_PLACE];
+        end -= KORALIMBU_ROUNDS_PER_COLUMN * problem[k].n - a.report[ROUNDS_PLACE];
+        check("a bar", done <= end && end <= before);
+    }
+    check("a bar at its end", done == 9 + 2 + 3 && end == done);
 }
 
 /* ---------------------------------------------------------------- the preview */
@@ -565,7 +643,7 @@ static void try_report(void)
 static void steps(const char *what, struct posed *p, uint32_t part, uint32_t column, uint32_t s, uint32_t s_sign, uint32_t t, uint32_t t_sign)
 {
     static struct seen seen;
-    uint32_t wanted[KORALIMBU_PREVIEW_COUNT];
+    uint32_t wanted[STEP_COUNT];
 
     wanted[0] = part;
     wanted[1] = column;
@@ -657,14 +735,15 @@ static void try_preview_counts(void)
 /* A whole assignment seats the columns at these values, where no step improves them. It only reads the problem. */
 static void seats(const char *what, const struct posed *p, const int64_t *values)
 {
-    static const uint32_t at_rest[KORALIMBU_REPORT_COUNT] = {KORALIMBU_FITTED};
+    static const uint32_t at_rest[ROUNDS_PLACE] = {KORALIMBU_FITTED};
     static struct posed copy;
     static struct answer a;
 
     memcpy(&copy, p, sizeof copy);
     settle(koralimbu_assign, p, &a);
     expect(what, a.number, KORALIMBU_ACCEPTED);
-    check(what, memcmp(a.report, at_rest, sizeof at_rest) == 0 && behind_is_marked(p, a.tableau, a.strides));
+    check(what, memcmp(a.report, at_rest, sizeof at_rest) == 0 && rounds_fit(p, a.report[ROUNDS_PLACE])
+                    && behind_is_marked(p, a.tableau, a.strides));
     check(what, memcmp(a.values, values, p->n * sizeof *values) == 0);
     check(what, memcmp(&copy, p, sizeof copy) == 0);
 }
@@ -2004,6 +2083,8 @@ int main(void)
     try_m();
     try_verdicts();
     try_report();
+    try_rounds();
+    try_progress();
     try_a_run();
     try_a_pair();
     try_preview_counts();

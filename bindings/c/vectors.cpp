@@ -30,6 +30,7 @@ static uint32_t without_rows(Engine *call, const std::vector<int64_t> &given, in
                            tableau.data(), tableau.size(), values.data(), values.size(), strides.data(), strides.size(),
                            report.data(), report.size());
     expect("the verdict without rows", report[0], number == KORALIMBU_ACCEPTED ? KORALIMBU_FITTED : 0);
+    expect("the rounds without rows", report[3], number == KORALIMBU_ACCEPTED ? 1 : 0);
     expect("the value without rows", values[0] == wanted, true);
     return number;
 }
@@ -45,8 +46,8 @@ static uint32_t preview_without_rows() {
                                         high.data(), high.size(), given.data(), given.size(), ideals.data(), ideals.size(),
                                         standing.data(), standing.size(), tableau.data(), tableau.size(), after.data(), after.size(),
                                         strides.data(), strides.size(), report.data(), report.size());
-    const std::vector<uint32_t> step{KORALIMBU_PART_BOUNDS, 1, 1, KORALIMBU_SIGN_PLUS, 0, 0};
-    expect("the step of a preview", report == step, true);
+    const std::vector<uint32_t> step_and_rounds{KORALIMBU_PART_BOUNDS, 1, 1, KORALIMBU_SIGN_PLUS, 0, 0, 1};
+    expect("the step of a preview, and its rounds", report == step_and_rounds, true);
     expect("the list after it", after == lower, true);
     return number;
 }

@@ -11,11 +11,11 @@ from tests.tools import (ORDINARY, chain, check, form_of, make, random_problems,
 def reading_exact_lengths():
     lent = Lent([0] * 4608, [2, 2], [0, 0])
     check("the greatest tableau for a small problem",
-          engine.assign(sound_problem(), lent), (2, 0, 0))
+          engine.assign(sound_problem(), lent), (2, 0, 0, 0))
     lent = Lent([0] * 6, [2, 2, 0], [0, 0])
-    check("Continue's list too long", engine.cont(sound_problem(), lent), (2, 0, 0))
+    check("Continue's list too long", engine.cont(sound_problem(), lent), (2, 0, 0, 0))
     lent = Lent([0] * 6, [5], [0, 0])
-    check("Continue's list too short", engine.cont(sound_problem(), lent), (2, 0, 0))
+    check("Continue's list too short", engine.cont(sound_problem(), lent), (2, 0, 0, 0))
 
 
 @test
@@ -56,7 +56,7 @@ def continue_at_m():
     values = [M, -M, 4294967]
     check("the list satisfies the row", engine.satisfies_rows(problem, values), True)
     table = engine.fill(problem)
-    leads = engine.bring_to_form(table)
+    leads, _ = engine.bring_to_form(table)
     basis = engine.basis_of(table, leads, 1)
     check("basis", basis, [[1, 1, 0], [0, 1000, -1]])
     check("+N1 would bring column 2 nearer, but column 1 beyond M",

@@ -32,7 +32,7 @@ def deck_case_ideals():
 def deck_case_three_to_two():
     problem = make(2, [[3, -2]], [0], (1, 100), [2500, 4000])
     table = engine.fill(problem)
-    leads = engine.bring_to_form(table)
+    leads, _ = engine.bring_to_form(table)
     start = engine.starting_list(table, leads, problem.rights)
     basis = engine.basis_of(table, leads, 1)
     check("3v1 = 2v2: seated", engine.seat(problem, basis, start), [4, 6])

@@ -8,8 +8,8 @@ import runs
 from engine import (BOUNDS, FITTED, GOALS, LENT_LISTS, M, OUTSIDE, PROBLEM_LISTS, Lent, Step)
 from tests.settling import plain_distance, plain_improves, plain_ratio
 from tests.steps import random_runs
-from tests.tools import (TABLEAU, all_numbers, chain, check, form_of, make, marked_lent,
-                         random_problems, resume, sound_problem, test, with_limit)
+from tests.tools import (TABLEAU, all_numbers, chain, check, counted_from, form_of, make,
+                         marked_lent, random_problems, sound_problem, test, with_limit)
 
 PLUS, MINUS = 1, -1
 
@@ -101,19 +101,18 @@ def preview_steps_by_hand():
     for what, problem, standing, wanted, after in STEPS:
         before = list(standing)
         got = shown(engine.preview, problem, standing)
-        check(what, got[:2], ((0, wanted), after))
+        _, rounds, lent = counted_from(with_limit(problem, 1), standing)
+        check(what, got[:2], ((0, wanted, rounds), after))
         check(what + ": the standing list is only read", standing, before)
-        form = form_of(problem)
-        check(what + ": tableau and strides", got[2:],
-              (form, resume(with_limit(problem, 1), standing)[1].strides))
+        check(what + ": tableau and strides", got[2:], (form_of(problem), lent.strides))
 
 
 @test
 def preview_of_the_deck_cases_in_numbers():
     check("v1 = v2", shown(engine.preview, tied(), [1, 1]),
-          ((0, Step(BOUNDS, 1, ((0, 1),))), [2, 2], [1, 0, -1, 0, 1, 1], [1, 1]))
+          ((0, Step(BOUNDS, 1, ((0, 1),)), 2), [2, 2], [1, 0, -1, 0, 1, 1], [1, 1]))
     check("3v1 = 2v2", shown(engine.preview, three_to_two(), [4, 6])[0],
-          (0, Step(GOALS, 0, ((0, -1),))))
+          (0, Step(GOALS, 0, ((0, -1),)), 3))
     check("3v1 = 2v2: strides", shown(engine.preview, three_to_two(), [4, 6])[3], [2, 3])
 
 
@@ -132,12 +131,12 @@ def preview_names_moves_in_order():
 # ------------------------------------------------------------------------- refusals
 
 def check_refused(what, problem, standing, lent, number, tableau=None):
-    """A refusal: its number, no step, and every buffer as before, but the tableau if one
-    is given."""
+    """A refusal: its number, no step, no rounds, and every buffer as before, but the tableau
+    if one is given."""
     before = all_numbers(problem, lent) + [list(standing)]
     if tableau is not None:
         before[TABLEAU] = tableau
-    check(what, engine.preview(problem, standing, lent), (number, None))
+    check(what, engine.preview(problem, standing, lent), (number, None, 0))
     check(what + ": what is left", all_numbers(problem, lent) + [standing], before)
 
 
@@ -270,21 +269,21 @@ def preview_knows_no_limit():
 
 def continued(problem, standing, lent):
     """What a preview must be by Continue with limit 1 on a copy of the list: the number,
-    the part, and the list after, the tableau and the strides then."""
+    the part, the rounds, and the list after, the tableau and the strides then."""
     copy = Lent(list(lent.tableau), list(standing), list(lent.strides))
-    outcome, bounds_count, goals_count = engine.cont(with_limit(problem, 1), copy)
+    outcome, bounds_count, goals_count, rounds = engine.cont(with_limit(problem, 1), copy)
     if isinstance(outcome, int):
-        return outcome, None, lent.values, copy.tableau, copy.strides
+        return outcome, None, 0, lent.values, copy.tableau, copy.strides
     part = {(1, 0): BOUNDS, (0, 1): GOALS, (0, 0): None}[bounds_count, goals_count]
     # without a step the verdict is that of a list at rest
     check("a verdict without a step", outcome in (FITTED, OUTSIDE) or part is not None, True)
-    return 0, part, copy.values, copy.tableau, copy.strides
+    return 0, part, rounds, copy.values, copy.tableau, copy.strides
 
 
 def previewed(problem, standing, lent):
     """The same of the preview itself."""
-    number, told = engine.preview(problem, standing, lent)
-    return number, told and told.part, lent.values, lent.tableau, lent.strides
+    number, told, rounds = engine.preview(problem, standing, lent)
+    return number, told and told.part, rounds, lent.values, lent.tableau, lent.strides
 
 
 @test
@@ -316,7 +315,7 @@ def property_preview_by_preview():
         chained, parts = [values], []
         # one list too many ends a chain that would never end
         while len(chained) <= len(lists):
-            (number, told), after, _, _ = shown(engine.preview, problem, chained[-1])
+            (number, told, _), after, _, _ = shown(engine.preview, problem, chained[-1])
             if told is None:
                 check("the end of a chain", (number, after), (0, chained[-1]))
                 break
@@ -333,7 +332,8 @@ def property_preview_by_preview():
 
 def basis_of(problem):
     table = engine.fill(problem)
-    return engine.basis_of(table, engine.bring_to_form(table), problem.m)
+    leads, _ = engine.bring_to_form(table)
+    return engine.basis_of(table, leads, problem.m)
 
 
 def plain_step(problem, basis, values, ties=1, place=0):
@@ -366,7 +366,7 @@ def property_preview_word_by_word():
             continue
         for values in (hidden, [v + 3 * x for v, x in
                                 zip(hidden, (basis or [[0] * problem.n])[-1])]):
-            (_, told), after, _, _ = shown(engine.preview, problem, values)
+            (_, told, _), after, _, _ = shown(engine.preview, problem, values)
             check("the step", told, plain_step(problem, basis, values))
             pairs += told is not None and len(told.move) == 2
             made = [sum(sign * basis[s][j] for s, sign in told.move) if told else 0
@@ -380,43 +380,48 @@ def property_preview_word_by_word():
 def by_other_step(**other):
     """The preview that shows another step."""
     def wrong(problem, standing, lent):
-        number, told = engine.preview(problem, standing, lent)
+        number, told, rounds = engine.preview(problem, standing, lent)
         if told is not None:
             basis = basis_of(problem)
             told = plain_step(problem, basis, standing, **other)
             lent.values[:] = engine.list_after(basis, standing, told)
-        return number, told
+        return number, told, rounds
     return wrong
 
 
 def part_after(problem, standing, lent):
-    number, told = engine.preview(problem, standing, lent)
-    return number, told and told._replace(part=engine.part_of(problem, lent.values))
+    number, told, rounds = engine.preview(problem, standing, lent)
+    return number, told and told._replace(part=engine.part_of(problem, lent.values)), rounds
 
 
 def first_vector_alone(problem, standing, lent):
-    number, told = engine.preview(problem, standing, lent)
-    return number, told and told._replace(move=told.move[:1])
+    number, told, rounds = engine.preview(problem, standing, lent)
+    return number, told and told._replace(move=told.move[:1]), rounds
 
 
 def written_although_10(problem, standing, lent):
-    number, told = engine.preview(problem, standing, lent)
+    number, told, rounds = engine.preview(problem, standing, lent)
     if number == 10:
         lent.values[:] = standing
-    return number, told
+    return number, told, rounds
 
 
 def alone_at_rest(problem, standing, lent):
     before = list(lent.values)
-    number, told = engine.preview(problem, standing, lent)
+    number, told, rounds = engine.preview(problem, standing, lent)
     if number == 0 and told is None:
         lent.values[:] = before
-    return number, told
+    return number, told, rounds
+
+
+def no_rounds_at_rest(problem, standing, lent):
+    number, told, rounds = engine.preview(problem, standing, lent)
+    return number, told, 0 if told is None else rounds
 
 
 def turned_back_by_6(problem, standing, lent):
     cause = engine.first_cause(problem, lent)
-    return (6, None) if cause == 6 else engine.preview(problem, standing, lent)
+    return (6, None, 0) if cause == 6 else engine.preview(problem, standing, lent)
 
 
 WRONG = [
@@ -426,6 +431,7 @@ WRONG = [
     ("the first vector alone of a pair", first_vector_alone),
     ("the list after written although 10 is answered", written_although_10),
     ("the list after left alone where no move improves", alone_at_rest),
+    ("no rounds where no move improves", no_rounds_at_rest),
     ("a limit outside turned back", turned_back_by_6),
 ]
 

@@ -17,14 +17,14 @@ def spoilt(name, index, value):
 
 
 def check_refusal(what, call, problem, lent, number, tableau=None):
-    """A refusal: number, counts 0, and each buffer as the table says (the tableau
-    as before if none is given)."""
+    """A refusal: number, counts and rounds 0, and each buffer as the table says (the
+    tableau as before if none is given)."""
     before = all_numbers(problem, lent)
     if tableau is not None:
         before[TABLEAU] = tableau
     run = engine.assign if call == "assign" else engine.cont
     answer = run(problem, lent)
-    check("%s by %s" % (what, call), answer, (number, 0, 0))
+    check("%s by %s" % (what, call), answer, (number, 0, 0, 0))
     check("%s by %s: what is left" % (what, call), all_numbers(problem, lent), before)
 
 
@@ -199,14 +199,14 @@ def random_cases_leave_what_the_table_says():
         after = all_numbers(case.problem, case.lent)
         check("problem buffers are only read", after[:TABLEAU], before[:TABLEAU])
         if answer[0] in (1, 2, 3, 4, 5, 6, 10):
-            check("all as before", (answer[1:], after), ((0, 0), before))
+            check("all as before", (answer[1:], after), ((0, 0, 0), before))
         elif answer[0] == 7:
             check("tableau all 0, lists as before", (answer[1:], after[TABLEAU:]),
-                  ((0, 0), [[0] * len(before[TABLEAU])] + before[VALUES:]))
+                  ((0, 0, 0), [[0] * len(before[TABLEAU])] + before[VALUES:]))
         elif answer[0] in (8, 9):
             check("tableau the form, lists as before",
                   (case.call, answer[1:], after[TABLEAU:]),
-                  ("assign", (0, 0), [form_of(case.problem)] + before[VALUES:]))
+                  ("assign", (0, 0, 0), [form_of(case.problem)] + before[VALUES:]))
         else:
             check("tableau the form", after[TABLEAU], form_of(case.problem))
             check("values satisfy the rows",

@@ -107,7 +107,7 @@ def solved(problem):
     """The starting list and the basis, or “none”. Where the problem is past the elimination
     limit, this raises engine.Beyond."""
     table = engine.fill(problem)
-    leads = engine.bring_to_form(table)
+    leads, _ = engine.bring_to_form(table)
     start = engine.starting_list(table, leads, problem.rights)
     return "none" if start is None else (start, engine.basis_of(table, leads, problem.m))
 

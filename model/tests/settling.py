@@ -37,7 +37,7 @@ def reading_present_value_in_seating():
     # v1 - v2 + 2 v3 = 0: N1 = (1, 1, 0), N2 = (0, 2, 1)
     problem = make(3, [[1, -1, 2]], [0], [(5, 9), (0, 9), (-99, 99)])
     table = engine.fill(problem)
-    leads = engine.bring_to_form(table)
+    leads, _ = engine.bring_to_form(table)
     basis = engine.basis_of(table, leads, 1)
     check("basis", basis, [[1, 1, 0], [0, 2, 1]])
     check("N1 takes column 2 to 5, where it may stay",
@@ -214,7 +214,7 @@ def property_settling_word_by_word():
         problem.limit = min(problem.limit, 25)
         table = engine.fill(problem)
         try:
-            leads = engine.bring_to_form(table)
+            leads, _ = engine.bring_to_form(table)
         except engine.Beyond:
             continue
         basis = engine.basis_of(table, leads, problem.m)

@@ -13,8 +13,9 @@ def far_list(rng, problem, hidden):
     """A list that satisfies the rows and may lie far outside: the hidden one and some
     vectors of the basis. Where the form meets refusal 7, this raises engine.Beyond."""
     table = engine.fill(problem)
+    leads, _ = engine.bring_to_form(table)
     values = hidden
-    for vector in engine.basis_of(table, engine.bring_to_form(table), problem.m):
+    for vector in engine.basis_of(table, leads, problem.m):
         times = rng.randint(-9, 9)
         values = [value + times * entry for value, entry in zip(values, vector)]
     return values

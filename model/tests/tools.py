@@ -70,17 +70,31 @@ def all_numbers(problem, lent):
             + [list(getattr(lent, name)) for name in LENT_LISTS])
 
 
-def solve(problem):
-    """A whole assignment: the answer and the lent buffers after it."""
+def counted(problem):
+    """A whole assignment: the answer, the rounds and the lent buffers after it."""
     lent = marked_lent(problem.n, problem.m)
-    return engine.assign(problem, lent), lent
+    *answer, rounds = engine.assign(problem, lent)
+    return tuple(answer), rounds, lent
+
+
+def solve(problem):
+    """The same without the rounds."""
+    answer, _, lent = counted(problem)
+    return answer, lent
+
+
+def counted_from(problem, values):
+    """A Continue: the answer, the rounds and the lent buffers after it."""
+    lent = marked_lent(problem.n, problem.m)
+    lent.values = list(values)
+    *answer, rounds = engine.cont(problem, lent)
+    return tuple(answer), rounds, lent
 
 
 def resume(problem, values):
-    """A Continue: the answer and the lent buffers after it."""
-    lent = marked_lent(problem.n, problem.m)
-    lent.values = list(values)
-    return engine.cont(problem, lent), lent
+    """The same without the rounds."""
+    answer, _, lent = counted_from(problem, values)
+    return answer, lent
 
 
 def form_of(problem):

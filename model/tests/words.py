@@ -66,7 +66,8 @@ def sample(name):
 
 def basis(problem):
     table = engine.fill(problem)
-    return engine.basis_of(table, engine.bring_to_form(table), problem.m)
+    leads, _ = engine.bring_to_form(table)
+    return engine.basis_of(table, leads, problem.m)
 
 
 def lists_within(problem, curves):

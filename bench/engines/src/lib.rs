@@ -10,7 +10,7 @@ use std::slice::{from_raw_parts, from_raw_parts_mut};
 
 /// A whole assignment between the checks and the report.
 fn call(assign: fn(&Problem, &mut Lent) -> Result<Settled, u32>, problem: &Problem, lent: &mut Lent, report: &mut [u32]) -> u32 {
-    if report.len() != 3 {
+    if report.len() != 4 {
         return WRONG_LENGTH;
     }
     let answer = match first_cause(problem, lent) {
@@ -19,7 +19,7 @@ fn call(assign: fn(&Problem, &mut Lent) -> Result<Settled, u32>, problem: &Probl
     };
     match answer {
         Ok(settled) => {
-            report.copy_from_slice(&[settled.verdict as u32, settled.bounds_steps, settled.goals_steps]);
+            report.copy_from_slice(&[settled.verdict as u32, settled.bounds_steps, settled.goals_steps, settled.rounds]);
             0
         }
         Err(refusal) => {

@@ -43,8 +43,8 @@ fn choose(table: &[Row], k: usize, c: usize) -> Option<usize> {
     (k..table.len()).filter(|&j| table[j][c] != 0).min_by_key(|&j| table[j][c].abs())
 }
 
-/// Gathers column c into row k; false if all entries there are 0.
-fn gather(table: &mut [Row], k: usize, c: usize) -> Result<bool, Beyond> {
+/// Gathers column c into row k by the nearest quotients; the rounds, 0 if all entries there are 0.
+fn gather(table: &mut [Row], k: usize, c: usize) -> Result<u32, Beyond> {
     let mut rounds = 0;
     while let Some(j) = choose(table, k, c) {
         if rounds > 0 && table[k + 1..].iter().all(|row| row[c] == 0) {
@@ -57,11 +57,12 @@ fn gather(table: &mut [Row], k: usize, c: usize) -> Result<bool, Beyond> {
         let (upper, lower) = table.split_at_mut(k + 1);
         let pivot = &upper[k];
         for row in lower.iter_mut().filter(|row| row[c] != 0) {
-            reduce(row, pivot, c)?;
+            let quotient = nearest_quotient(row[c], pivot[c]);
+            subtract(row, quotient, pivot)?;
         }
         rounds += 1;
     }
-    Ok(rounds > 0)
+    Ok(rounds)
 }
 
 fn reduce_above(table: &mut [Row], k: usize, c: usize) -> Result<(), Beyond> {
@@ -73,20 +74,23 @@ fn reduce_above(table: &mut [Row], k: usize, c: usize) -> Result<(), Beyond> {
     Ok(())
 }
 
-/// Brings the table to its form; returns the lead column of each row.
-fn bring_to_form(table: &mut [Row], width: usize) -> Result<Vec<usize>, Beyond> {
+/// Brings the table to its form; returns the lead column of each row, and the rounds.
+fn bring_to_form(table: &mut [Row], width: usize) -> Result<(Vec<usize>, u32), Beyond> {
     let mut leads = Vec::new();
+    let mut rounds = 0;
     for c in 0..width {
         let k = leads.len();
         if k == table.len() {
             break;
         }
-        if gather(table, k, c)? {
+        let gathered = gather(table, k, c)?;
+        if gathered > 0 {
             reduce_above(table, k, c)?;
             leads.push(c);
+            rounds += gathered;
         }
     }
-    Ok(leads)
+    Ok((leads, rounds))
 }
 
 fn write_out(tableau: &mut [i64], table: &[Row]) {
@@ -131,7 +135,7 @@ fn write_strides(strides: &mut [u64], basis: &[Row]) {
 fn seat(p: &Problem, basis: &[Row], values: &mut [i64]) -> bool {
     for vector in basis {
         let c = vector.iter().position(|&entry| entry != 0).unwrap();
-        let times = seating_quotient(ideal(p, c, values[c]) - values[c], vector[c]);
+        let times = nearest_quotient(ideal(p, c, values[c]) - values[c], vector[c]);
         for (value, entry) in values.iter_mut().zip(vector) {
             *value += times * entry;
         }
@@ -238,7 +242,7 @@ fn goals_step<'a>(p: &Problem, by_column: &[Vec<&'a Changes>], values: &[i64]) -
     })
 }
 
-fn settle(p: &Problem, basis: &[Row], values: &mut [i64]) -> Settled {
+fn settle(p: &Problem, basis: &[Row], values: &mut [i64], rounds: u32) -> Settled {
     let moves = moves_in_order(basis);
     let by_column = moves_by_column(&moves, p.n);
     let (mut bounds_steps, mut goals_steps) = (0, 0);
@@ -254,7 +258,7 @@ fn settle(p: &Problem, basis: &[Row], values: &mut [i64]) -> Settled {
         changes.iter().for_each(|&(j, change)| values[j] += change);
         *(if outside { &mut bounds_steps } else { &mut goals_steps }) += 1;
     };
-    Settled { verdict, bounds_steps, goals_steps }
+    Settled { verdict, bounds_steps, goals_steps, rounds }
 }
 
 // ------------------------------------------------------------------- the calls
@@ -272,8 +276,9 @@ pub fn form(n: usize, m: usize, coefficients: &[i64], tableau: &mut [i64]) -> bo
 
 pub fn assign(p: &Problem, lent: &mut Lent) -> Result<Settled, u32> {
     let mut table = fill(p.n, p.m, p.coefficients);
-    let formed = bring_to_form(&mut table, p.m + p.n).and_then(|leads| starting_list(&table, &leads, p.rights).map(|start| (leads, start)));
-    let Ok((leads, start)) = formed else {
+    let formed = bring_to_form(&mut table, p.m + p.n)
+        .and_then(|(leads, rounds)| starting_list(&table, &leads, p.rights).map(|start| (leads, rounds, start)));
+    let Ok((leads, rounds, start)) = formed else {
         lent.tableau.fill(0);
         return Err(ELIMINATION_BEYOND);
     };
@@ -283,7 +288,7 @@ pub fn assign(p: &Problem, lent: &mut Lent) -> Result<Settled, u32> {
     if !seat(p, &basis, &mut values) {
         return Err(SEATING_BEYOND);
     }
-    let settled = settle(p, &basis, &mut values);
+    let settled = settle(p, &basis, &mut values, rounds);
     lent.values.copy_from_slice(&values);
     write_strides(lent.strides, &basis);
     Ok(settled)

@@ -53,6 +53,8 @@ pub struct Settled {
     pub verdict: Verdict,
     pub bounds_steps: u32,
     pub goals_steps: u32,
+    /// How often the elimination chose a smallest entry.
+    pub rounds: u32,
 }
 
 fn outside(x: i64, limit: i64) -> bool {
@@ -127,8 +129,9 @@ pub fn ideal(p: &Problem, j: usize, present: i64) -> i64 {
     wanted.clamp(p.lower[j], p.upper[j])
 }
 
-/// How often a vector with lead p is added to move its lead column by d.
-pub fn seating_quotient(d: i64, p: i64) -> i64 {
+/// The nearest quotient, a half upwards: how often a vector with lead p is added to move its lead column by d, and how often a row with the entry
+/// p is taken from one with the entry d while a column is gathered.
+pub fn nearest_quotient(d: i64, p: i64) -> i64 {
     (2 * d + p).div_euclid(2 * p)
 }
 

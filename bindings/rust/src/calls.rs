@@ -2,10 +2,9 @@
 
 use crate::ideals::Handed;
 use crate::joining::Numbered;
-use crate::step::{step_of, PREVIEW_COUNT};
+use crate::step::{step_of, Seen, PREVIEW_COUNT};
 use crate::{
-    Answer, Buffers, DeckBuffers, JoinBuffers, JoinedSizes, PreviewBuffers, Problem, Refusal, Sizes, Step, Steps,
-    Verdict,
+    Answer, Buffers, DeckBuffers, JoinBuffers, JoinedSizes, PreviewBuffers, Problem, Refusal, Sizes, Steps, Verdict,
 };
 
 // Line for line the header's.
@@ -108,7 +107,7 @@ extern "C" {
 }
 
 /// The counts of a report, of the reader's sizes and of the join's.
-pub const REPORT_COUNT: usize = 3;
+pub const REPORT_COUNT: usize = 4;
 pub const SIZES_COUNT: usize = 3;
 pub const JOINED_COUNT: usize = 2;
 
@@ -152,8 +151,8 @@ pub fn settle(call: Call, problem: &Problem, buffers: &mut Buffers) -> Result<An
         )
     };
     Refusal::check(number)?;
-    let [verdict, bounds, goals] = report;
-    Ok(Answer { verdict: verdict_of(verdict)?, steps: Steps { bounds, goals } })
+    let [verdict, bounds, goals, rounds] = report;
+    Ok(Answer { verdict: verdict_of(verdict)?, steps: Steps { bounds, goals }, rounds })
 }
 
 /// A report's verdict. Only a library of another version has others.
@@ -166,7 +165,7 @@ pub fn verdict_of(number: u32) -> Result<Verdict, Refusal> {
     }
 }
 
-pub fn preview(problem: &Problem, standing: &[i64], buffers: &mut PreviewBuffers) -> Result<Option<Step>, Refusal> {
+pub fn preview(problem: &Problem, standing: &[i64], buffers: &mut PreviewBuffers) -> Result<Seen, Refusal> {
     let Problem { columns, rows, limit: _ } = problem;
     let (n, m) = (columns.lower.len(), rows.rights.len());
     let handed = Handed::of(columns.ideals);
@@ -192,7 +191,8 @@ pub fn preview(problem: &Problem, standing: &[i64], buffers: &mut PreviewBuffers
         )
     };
     Refusal::check(number)?;
-    step_of(report, n)
+    let [step @ .., rounds] = report;
+    Ok(Seen { step: step_of(step, n)?, rounds })
 }
 
 pub fn read(text: &[u8], buffers: &mut DeckBuffers) -> Result<Sizes, Refusal> {

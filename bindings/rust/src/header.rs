@@ -23,7 +23,7 @@ fn limits() -> BTreeMap<&'static str, i64> {
         ($($name:ident)*) => { [$((stringify!($name), i64::try_from(crate::limits::$name).unwrap())),*] };
     }
     let mut names = BTreeMap::from(named! {
-        MOST_COLUMNS MOST_ROWS MOST_COEFFICIENTS MOST_TABLEAU MOST_STEPS DECK_COLUMNS DECK_ROWS DECK_COEFFICIENTS MOST_TEXT
+        MOST_COLUMNS MOST_ROWS MOST_COEFFICIENTS MOST_TABLEAU MOST_STEPS ROUNDS_PER_COLUMN DECK_COLUMNS DECK_ROWS DECK_COEFFICIENTS MOST_TEXT
         RANGE_COEFFICIENT RANGE_RIGHT RANGE_BOUND RANGE_GOAL M MOST_STACK
     });
     names.insert("REPORT_COUNT", REPORT_COUNT as i64);

@@ -78,6 +78,24 @@
 //! # Ok::<(), koralimbu::Refusal>(())
 //! ```
 //!
+//! A call tells how many rounds its elimination took, and before it the most that they can be are known. So a progress bar over several decks has an
+//! upper end: the rounds of those that are done, and the most of those still to come. It moves from call to call, and its end never rises:
+//!
+//! ```
+//! let texts = ["2\n1 9 0 0\n5 9 0 0\n1\n0 0 2 1 1 2 -1\n0\n", "1\n1 9 0 0\n1\n0 1 1 1 2\n0\n", "1\n3 5 0 0\n0\n0\n"];
+//! let decks = texts.map(|text| koralimbu::Deck::read(text).expect("a deck"));
+//! let (mut done, mut end) = (0, decks.iter().map(|deck| deck.problem(0).most_rounds()).sum::<u32>());
+//! assert_eq!(end, 31 * 4); // four columns in all
+//! for deck in &decks {
+//!     // A refused deck has no rounds: the second one wants twice its curve to be 1.
+//!     let rounds = deck.solve(10_000).map_or(0, |solved| solved.rounds);
+//!     done += rounds;
+//!     end -= deck.problem(0).most_rounds() - rounds;
+//!     println!("{done} of at most {end} rounds");
+//! }
+//! assert_eq!((done, end), (3, 3));
+//! ```
+//!
 //! [`assign`], [`continue_from`], [`preview`], [`read_deck`] and [`join`] are the engine's own calls, for callers who keep their buffers. They
 //! allocate nothing. What a call leaves in each buffer stands in `include/koralimbu.h`.
 //!
@@ -101,7 +119,7 @@ pub use joining::{join, JoinBuffers, Joined, JoinedSizes};
 pub use limits::*;
 use lists::Lists;
 pub use refusal::Refusal;
-pub use step::{basis, Change, Move, NextStep, Part, Sign, SignedVector, Step};
+pub use step::{basis, Change, Move, NextStep, Part, Seen, Sign, SignedVector, Step};
 pub use version::{version, VERSION};
 
 /// The bounds, the goals and the ideal of each column. There are as many columns as lower bounds.
@@ -162,6 +180,14 @@ pub struct Problem<'a> {
     pub limit: u32,
 }
 
+impl Problem<'_> {
+    /// The most rounds that a call takes, [`ROUNDS_PER_COLUMN`] for each column: the upper end of a progress bar before the call is made.
+    pub fn most_rounds(&self) -> u32 {
+        // More columns are refused by their count.
+        ROUNDS_PER_COLUMN * self.columns.lower.len().min(MOST_COLUMNS) as u32
+    }
+}
+
 /// What a call fills. For n columns and m rows the tableau has n(m + n) numbers, the others n.
 #[derive(Debug)]
 pub struct Buffers<'a> {
@@ -200,6 +226,9 @@ pub struct Answer {
     pub verdict: Verdict,
     /// The steps that were taken.
     pub steps: Steps,
+    /// The rounds of the elimination, each the choice of a smallest entry: at most [`Problem::most_rounds`], and at least one for each column. Rows
+    /// that are said otherwise, so that the same lists satisfy them, may take other rounds. A refused call tells none.
+    pub rounds: u32,
 }
 
 /// A whole assignment.
@@ -223,7 +252,7 @@ pub struct PreviewBuffers<'a> {
     pub strides: &'a mut [u64],
 }
 
-/// The next step of a standing list, which must satisfy the rows; `None` where no move improves. The list is only read.
+/// The next step of a standing list, which must satisfy the rows, or that no move improves; and the rounds. The list is only read.
 ///
 /// It is what [`continue_from`] with the limit 1 does on a copy of the list. The problem's own limit plays no part.
 ///
@@ -235,13 +264,14 @@ pub struct PreviewBuffers<'a> {
 /// let problem = Problem { columns, rows: Rows { coefficients: &[1, 1, -1], rights: &[0] }, limit: 0 };
 /// let (mut tableau, mut after, mut strides) = ([0; 12], [0; 3], [0; 3]);
 /// let mut buffers = PreviewBuffers { tableau: &mut tableau, after: &mut after, strides: &mut strides };
-/// let step = preview(&problem, &[0, 5, 5], &mut buffers)?.expect("the first column lies below its bounds");
+/// let Seen { step, rounds } = preview(&problem, &[0, 5, 5], &mut buffers)?;
+/// let step = step.expect("the first column lies below its bounds");
 /// assert_eq!((step.part, step.column, step.by.to_string()), (Part::Bounds, 0, "+N1 -N2".to_string()));
-/// assert_eq!(after, [1, 4, 5]);
+/// assert_eq!((after, rounds), ([1, 4, 5], 3));
 /// assert_eq!(basis(&tableau, 3, 1).collect::<Vec<_>>(), [[1, 0, 1], [0, 1, 1]]);
 /// # Ok::<(), Refusal>(())
 /// ```
-pub fn preview(problem: &Problem, standing: &[i64], buffers: &mut PreviewBuffers) -> Result<Option<Step>, Refusal> {
+pub fn preview(problem: &Problem, standing: &[i64], buffers: &mut PreviewBuffers) -> Result<Seen, Refusal> {
     calls::preview(problem, standing, buffers)
 }
 
@@ -354,6 +384,8 @@ pub struct Solved {
     pub verdict: Verdict,
     /// The steps that were taken.
     pub steps: Steps,
+    /// The rounds of the elimination, as in an [`Answer`].
+    pub rounds: u32,
     /// The value of each column.
     pub values: Vec<i64>,
     /// The stride of each column, the step by which it can change at all.
@@ -375,8 +407,8 @@ pub fn next_step(problem: &Problem, values: &[i64]) -> Result<Option<NextStep>, 
     let n = problem.columns.lower.len();
     let (mut tableau, mut after, mut strides) = (vec![0; room(problem)], vec![0; n], vec![0; n]);
     let mut buffers = PreviewBuffers { tableau: &mut tableau, after: &mut after, strides: &mut strides };
-    let step = preview(problem, values, &mut buffers)?;
-    Ok(step.map(|step| NextStep { step, changes: step::changes(values, &after), after }))
+    let Seen { step, rounds } = preview(problem, values, &mut buffers)?;
+    Ok(step.map(|step| NextStep { step, changes: step::changes(values, &after), after, rounds }))
 }
 
 /// A whole assignment of a deck's text. The curves' values come first; with [`Deck::solve`] the deck tells how many they are.
@@ -403,6 +435,6 @@ fn in_own_buffers(
     let mut tableau = vec![0; room(problem)];
     let mut strides = vec![0; problem.columns.lower.len()];
     let mut buffers = Buffers { tableau: &mut tableau, values: &mut values, strides: &mut strides };
-    let Answer { verdict, steps } = call(problem, &mut buffers)?;
-    Ok(Solved { verdict, steps, values, strides })
+    let Answer { verdict, steps, rounds } = call(problem, &mut buffers)?;
+    Ok(Solved { verdict, steps, rounds, values, strides })
 }

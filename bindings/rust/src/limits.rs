@@ -10,6 +10,8 @@ pub const MOST_COEFFICIENTS: usize = MOST_ROWS * MOST_COLUMNS;
 pub const MOST_TABLEAU: usize = MOST_COLUMNS * (MOST_ROWS + MOST_COLUMNS);
 /// The highest step limit.
 pub const MOST_STEPS: u32 = 65_535;
+/// The most rounds of an elimination for each column of its problem.
+pub const ROUNDS_PER_COLUMN: u32 = 31;
 
 // Another version may take larger problems than decks, so a deck's limits stand by themselves.
 

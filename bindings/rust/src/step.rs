@@ -53,6 +53,15 @@ pub struct Step {
     pub by: Move,
 }
 
+/// What a preview that is not refused tells beside its buffers.
+#[derive(Clone, Copy, Debug, PartialEq, Eq, Hash)]
+pub struct Seen {
+    /// The next step; `None` where no move improves.
+    pub step: Option<Step>,
+    /// The rounds of the elimination, as in an [`Answer`](crate::Answer).
+    pub rounds: u32,
+}
+
 /// A column whose value a step changes.
 #[derive(Clone, Copy, Debug, PartialEq, Eq, Hash)]
 pub struct Change {
@@ -73,6 +82,8 @@ pub struct NextStep {
     pub after: Vec<i64>,
     /// The columns that the step changes, by rising column; all others keep their values.
     pub changes: Vec<Change>,
+    /// The rounds of the elimination, as in an [`Answer`](crate::Answer).
+    pub rounds: u32,
 }
 
 /// The vectors of the basis, from the tableau that a call left which was not refused: N1 first, as a [`Move`] counts them.
@@ -89,12 +100,13 @@ pub(crate) fn changes(before: &[i64], after: &[i64]) -> Vec<Change> {
     pairs.filter(|(_, (from, to))| from != to).map(|(column, (&from, &to))| Change { column, from, to }).collect()
 }
 
-/// The numbers of a preview's report.
-pub(crate) const PREVIEW_COUNT: usize = 6;
+/// The numbers of a step, and those of a preview's report: behind the step stand the rounds.
+const STEP_COUNT: usize = 6;
+pub(crate) const PREVIEW_COUNT: usize = STEP_COUNT + 1;
 
 /// What a report says of the next step in so many columns. Only a library of another version tells what this does not know.
-pub(crate) fn step_of(report: [u32; PREVIEW_COUNT], columns: usize) -> Result<Option<Step>, Refusal> {
-    if report == [0; PREVIEW_COUNT] {
+pub(crate) fn step_of(report: [u32; STEP_COUNT], columns: usize) -> Result<Option<Step>, Refusal> {
+    if report == [0; STEP_COUNT] {
         return Ok(None);
     }
     let [part, column, first, first_sign, second, second_sign] = report;
@@ -184,7 +196,7 @@ mod tests {
 
     #[test]
     fn no_step() {
-        assert_eq!(step_of([0; PREVIEW_COUNT], 4), Ok(None));
+        assert_eq!(step_of([0; STEP_COUNT], 4), Ok(None));
     }
 
     #[test]

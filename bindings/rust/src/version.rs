@@ -35,7 +35,7 @@ mod tests {
 
     #[test]
     fn a_number_in_parts() {
-        assert_eq!(parts(7_000), (0, 7, 0));
+        assert_eq!(parts(8_000), (0, 8, 0));
         assert_eq!(parts(12_034_567), (12, 34, 567));
     }
 

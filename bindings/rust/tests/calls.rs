@@ -130,8 +130,8 @@ fn assign_refuses(posed: &Posed, refusal: Refusal, tableau: &[i64]) {
     assert_eq!(after, Lent { tableau: tableau.to_vec(), ..before });
 }
 
-fn answer(verdict: Verdict, bounds: u32, goals: u32) -> Result<Answer, Refusal> {
-    Ok(Answer { verdict, steps: Steps { bounds, goals } })
+fn answer(verdict: Verdict, bounds: u32, goals: u32, rounds: u32) -> Result<Answer, Refusal> {
+    Ok(Answer { verdict, steps: Steps { bounds, goals }, rounds })
 }
 
 // ---------------------------------------------------------------- verdicts
@@ -140,7 +140,7 @@ fn answer(verdict: Verdict, bounds: u32, goals: u32) -> Result<Answer, Refusal> 
 fn fitted_with_every_buffer() {
     let posed = Posed::tied();
     let mut lent = Lent::marked(&posed);
-    assert_eq!(assign(&posed.problem(), &mut lent.buffers()), answer(Verdict::Fitted, 4, 0));
+    assert_eq!(assign(&posed.problem(), &mut lent.buffers()), answer(Verdict::Fitted, 4, 0, 2));
     assert_eq!(lent, Lent { tableau: vec![1, 0, -1, 0, 1, 1], values: vec![5, 5], strides: vec![1, 1] });
 }
 
@@ -191,7 +191,7 @@ fn the_largest_problem() {
     posed.limit = MOST_STEPS;
     let mut lent = Lent::marked(&posed);
     assert_eq!(lent.tableau.len(), MOST_TABLEAU);
-    assert_eq!(assign(&posed.problem(), &mut lent.buffers()), answer(Verdict::Fitted, 0, 0));
+    assert_eq!(assign(&posed.problem(), &mut lent.buffers()), answer(Verdict::Fitted, 0, 0, MOST_COLUMNS as u32));
     assert_eq!((lent.values, lent.strides), (vec![0; MOST_COLUMNS], vec![1; MOST_COLUMNS]));
 }
 
@@ -346,7 +346,7 @@ fn continue_from_a_list() {
     let posed = Posed::tied();
     let mut lent = Lent::marked(&posed);
     lent.values = vec![9, 9];
-    assert_eq!(continue_from(&posed.problem(), &mut lent.buffers()), answer(Verdict::Fitted, 0, 0));
+    assert_eq!(continue_from(&posed.problem(), &mut lent.buffers()), answer(Verdict::Fitted, 0, 0, 2));
     assert_eq!(lent, Lent { tableau: vec![1, 0, -1, 0, 1, 1], values: vec![9, 9], strides: vec![1, 1] });
 }
 
@@ -369,30 +369,32 @@ fn minus(vector: usize) -> SignedVector {
     SignedVector { sign: Sign::Minus, vector }
 }
 
-/// The preview equals Continue with the limit 1 on a copy of the list: its refusals, and every buffer. The list after, and the step.
+/// The preview equals Continue with the limit 1 on a copy of the list: its refusals, its rounds, and every buffer. The list after, and the step.
 fn previewed(posed: &Posed, standing: &[i64]) -> Result<(Vec<i64>, Option<Step>), Refusal> {
     let marked = Lent::marked(posed);
     let mut seen = marked.clone();
-    let step = preview(&posed.problem(), standing, &mut seen.preview_buffers());
+    let told = preview(&posed.problem(), standing, &mut seen.preview_buffers());
     let once = Posed { limit: 1, ..posed.clone() };
     let mut copy = Lent { values: standing.to_vec(), ..marked.clone() };
     match continue_from(&once.problem(), &mut copy.buffers()) {
         Err(refusal) => {
-            assert_eq!(step, Err(refusal));
+            assert_eq!(told, Err(refusal));
             // Continue starts from its list, so that it is left as that; the preview's is left as it was lent.
             assert_eq!(seen, Lent { values: marked.values, ..copy });
         }
         Ok(answer) => {
             assert_eq!(seen, copy);
-            let part = step?.map(|step| step.part);
+            assert_eq!(told?.rounds, answer.rounds);
+            let part = told?.step.map(|step| step.part);
             let taken = |wanted| u32::from(part == Some(wanted));
             assert_eq!(answer.steps, Steps { bounds: taken(Part::Bounds), goals: taken(Part::Goals) });
         }
     }
-    if let Some(step) = step? {
+    let step = told?.step;
+    if let Some(step) = step {
         adds_up(posed, standing, &seen, step);
     }
-    Ok((seen.values, step?))
+    Ok((seen.values, step))
 }
 
 /// The list after is the standing one and the vectors of the move, and the step changes its column.
@@ -424,7 +426,8 @@ fn a_step_by_one_vector_with_every_buffer() {
     let posed = Posed::tied();
     let mut lent = Lent::marked(&posed);
     let step = Step { part: Part::Bounds, column: 1, by: Move { first: plus(0), second: None } };
-    assert_eq!(preview(&posed.problem(), &[1, 1], &mut lent.preview_buffers()), Ok(Some(step)));
+    let told = Seen { step: Some(step), rounds: 2 };
+    assert_eq!(preview(&posed.problem(), &[1, 1], &mut lent.preview_buffers()), Ok(told));
     assert_eq!(lent, Lent { tableau: vec![1, 0, -1, 0, 1, 1], values: vec![2, 2], strides: vec![1, 1] });
 }
 
@@ -478,7 +481,7 @@ fn the_next_step_in_its_own_buffers() {
     let next = next_step(&Posed::tied().problem(), &[3, 3]).unwrap().unwrap();
     assert_eq!(next.step.to_string(), "bounds part: +N1 for column 2");
     assert_eq!(next.changes, [Change { column: 0, from: 3, to: 4 }, Change { column: 1, from: 3, to: 4 }]);
-    assert_eq!(next.after, [4, 4]);
+    assert_eq!((next.after, next.rounds), (vec![4, 4], 2));
 }
 
 /// A standing list may lie at M, and not beyond it.
@@ -488,6 +491,50 @@ fn a_standing_list_at_m() {
     let step = Step { part: Part::Bounds, column: 0, by: Move { first: minus(0), second: None } };
     assert_eq!(previewed(&posed, &[M]), Ok((vec![M - 1], Some(step))));
     assert_eq!(previewed(&posed, &[M + 1]), Err(Refusal::Standing));
+}
+
+// ---------------------------------------------------------------- rounds
+
+/// Rows that add up to 0, and the rounds that all three calls tell. The last two differ by a half that goes up.
+#[test]
+fn rounds_of_a_row() {
+    let rows: [(&[i64], u32); 10] = [
+        (&[0], 1),
+        (&[2], 1),
+        (&[1, -1], 2),
+        (&[3, -2], 3),
+        (&[5, 12], 4),
+        (&[12, 29], 5),
+        (&[987, 610], 9),
+        (&[1, 1, 1], 3),
+        (&[4, 5, 6], 5),
+        (&[4, 5, -6], 4),
+    ];
+    for (row, rounds) in rows {
+        let posed = Posed::new(&[row], &[0], row.len(), -9, 9);
+        let zeros = vec![0; row.len()];
+        assert_eq!(solve(&posed.problem()).unwrap().rounds, rounds, "{row:?}");
+        assert_eq!(solve_from(&posed.problem(), &zeros).unwrap().rounds, rounds, "{row:?}");
+        let told = preview(&posed.problem(), &zeros, &mut Lent::marked(&posed).preview_buffers());
+        assert_eq!(told, Ok(Seen { step: None, rounds }), "{row:?}");
+        assert!(rounds <= posed.problem().most_rounds());
+    }
+}
+
+/// The same lists by other rows: other rounds, and nothing else.
+#[test]
+fn rows_said_otherwise_take_other_rounds() {
+    let plain = solve(&Posed::new(&[&[1, 0], &[0, 1]], &[3, 4], 2, 1, 9).problem()).unwrap();
+    let other = solve(&Posed::new(&[&[5, 2], &[2, 1]], &[23, 10], 2, 1, 9).problem()).unwrap();
+    assert_eq!((plain.rounds, other.rounds), (2, 3));
+    assert_eq!(Solved { rounds: 2, ..other }, plain);
+}
+
+#[test]
+fn the_most_rounds() {
+    for (n, most) in [(0, 0), (1, 31), (MOST_COLUMNS, 1488), (MOST_COLUMNS + 1, 1488), (1000, 1488)] {
+        assert_eq!(Posed::new(&[], &[], n, 1, 1).problem().most_rounds(), most);
+    }
 }
 
 // ---------------------------------------------------------------- refusals

@@ -1,6 +1,6 @@
 //! The tableau, in place. Left of column c the rows that are not done have only 0, so that no step touches it.
 
-use crate::problem::M;
+use crate::problem::{nearest_quotient, M};
 
 /// Has a bit above the 32nd where x lies beyond M, of either sign.
 fn beyond_bits(x: i64) -> u64 {
@@ -35,6 +35,12 @@ fn quotient(entry: i64, p: i64) -> i64 {
     } else {
         entry.div_euclid(p)
     }
+}
+
+/// Brings the row's first number, which is not below the pivot's, to at most half of it.
+fn lower(row: &mut [i64], pivot: &[i64]) -> bool {
+    let q = if pivot[0] == 1 { row[0] } else { nearest_quotient(row[0], pivot[0]) };
+    subtract(row, pivot, q)
 }
 
 /// Brings the row's first number below the pivot's, where it is not already.
@@ -76,25 +82,31 @@ fn lift(table: &mut [i64], w: usize, k: usize, j: usize, c: usize) {
     }
 }
 
-/// Gathers column c into row k, from the chosen row on.
-fn gather(table: &mut [i64], w: usize, k: usize, c: usize, mut chosen: (usize, bool)) -> bool {
+/// Gathers column c into row k, from the chosen row on; the rounds.
+fn gather(table: &mut [i64], w: usize, k: usize, c: usize, mut chosen: (usize, bool)) -> Option<u32> {
+    let mut rounds = 0;
     loop {
         let (j, alone) = chosen;
-        lift(table, w, k, j, c);
-        if alone {
-            return true;
+        // Row k alone is the last choice, which found only zeros below.
+        if alone && rounds > 0 {
+            return Some(rounds);
         }
-        let (upper, lower) = table.split_at_mut((k + 1) * w);
+        lift(table, w, k, j, c);
+        rounds += 1;
+        if alone {
+            return Some(rounds);
+        }
+        let (upper, rest) = table.split_at_mut((k + 1) * w);
         let pivot = &upper[k * w + c..];
         let done = pivot[0] == 1;
-        for row in lower.chunks_exact_mut(w) {
-            if row[c] != 0 && !reduce(&mut row[c..], pivot) {
-                return false;
+        for row in rest.chunks_exact_mut(w) {
+            if row[c] != 0 && !lower(&mut row[c..], pivot) {
+                return None;
             }
         }
         // A pivot of 1 leaves nothing below it.
         if done {
-            return true;
+            return Some(rounds);
         }
         chosen = choose(table, w, k, c).unwrap();
     }
@@ -116,8 +128,9 @@ fn fill(n: usize, m: usize, coefficients: &[i64], table: &mut [i64]) {
     }
 }
 
-fn eliminate(table: &mut [i64], n: usize, w: usize) -> bool {
+fn eliminate(table: &mut [i64], n: usize, w: usize) -> Option<u32> {
     let mut k = 0;
+    let mut rounds = 0;
     for c in 0..w {
         if k == n {
             break;
@@ -125,20 +138,26 @@ fn eliminate(table: &mut [i64], n: usize, w: usize) -> bool {
         let Some(chosen) = choose(table, w, k, c) else {
             continue;
         };
-        if !gather(table, w, k, c, chosen) || !reduce_above(table, w, k, c) {
-            return false;
+        rounds += gather(table, w, k, c, chosen)?;
+        if !reduce_above(table, w, k, c) {
+            return None;
         }
         k += 1;
     }
-    true
+    Some(rounds)
 }
 
-/// The form in the table; false, and the table all 0, where the elimination goes beyond M.
-pub fn form(n: usize, m: usize, coefficients: &[i64], table: &mut [i64]) -> bool {
+/// The form in the table, and the rounds; where the elimination goes beyond M, nothing, and the table all 0.
+pub fn counted_form(n: usize, m: usize, coefficients: &[i64], table: &mut [i64]) -> Option<u32> {
     fill(n, m, coefficients, table);
-    let formed = eliminate(table, n, m + n);
-    if !formed {
+    let rounds = eliminate(table, n, m + n);
+    if rounds.is_none() {
         table.fill(0);
     }
-    formed
+    rounds
+}
+
+/// The same without the rounds: whether there is a form.
+pub fn form(n: usize, m: usize, coefficients: &[i64], table: &mut [i64]) -> bool {
+    counted_form(n, m, coefficients, table).is_some()
 }

@@ -10,7 +10,7 @@ pub use form::form;
 use crate::problem::*;
 use basis::Basis;
 use columns::Columns;
-use form::reduce;
+use form::{counted_form, reduce};
 use search::{search, Waiting};
 
 /// The first entry of a row other than 0, from a place on.
@@ -48,7 +48,7 @@ fn seat(p: &Problem, basis: &Basis, values: &mut [i64]) -> bool {
         let vector = basis.vector(s);
         let c = lead_from(vector, next);
         next = c + 1;
-        let times = seating_quotient(ideal(p, c, values[c]) - values[c], vector[c]);
+        let times = nearest_quotient(ideal(p, c, values[c]) - values[c], vector[c]);
         if times == 0 {
             continue;
         }
@@ -65,7 +65,7 @@ fn seat(p: &Problem, basis: &Basis, values: &mut [i64]) -> bool {
 }
 
 /// Takes steps until no move improves or the limit is reached.
-fn settle(p: &Problem, basis: &Basis, values: &mut [i64]) -> Settled {
+fn settle(p: &Problem, basis: &Basis, values: &mut [i64], rounds: u32) -> Settled {
     let mut columns = Columns::new(p, values);
     let mut waiting = Waiting::new();
     let mut steps = [0, 0];
@@ -82,13 +82,11 @@ fn settle(p: &Problem, basis: &Basis, values: &mut [i64]) -> Settled {
         steps[usize::from(!outside)] += 1;
     };
     columns.write(values);
-    Settled { verdict, bounds_steps: steps[0], goals_steps: steps[1] }
+    Settled { verdict, bounds_steps: steps[0], goals_steps: steps[1], rounds }
 }
 
 pub fn assign(p: &Problem, lent: &mut Lent) -> Result<Settled, u32> {
-    if !form(p.n, p.m, p.coefficients, lent.tableau) {
-        return Err(ELIMINATION_BEYOND);
-    }
+    let rounds = counted_form(p.n, p.m, p.coefficients, lent.tableau).ok_or(ELIMINATION_BEYOND)?;
     let w = p.m + p.n;
     let mut list = [0; MAX_WIDTH];
     for (to, b) in list.iter_mut().zip(p.rights) {
@@ -105,7 +103,7 @@ pub fn assign(p: &Problem, lent: &mut Lent) -> Result<Settled, u32> {
         return Err(SEATING_BEYOND);
     }
     basis.strides(lent.strides);
-    let settled = settle(p, &basis, values);
+    let settled = settle(p, &basis, values, rounds);
     lent.values.copy_from_slice(values);
     Ok(settled)
 }
