@@ -20,6 +20,7 @@ ENTRIES = ["engine/src/lib.rt", "engine/src/preview.rt", "joining/src/lib.rt", "
 # The files of statements that docs/PROMISES.md cites, and in files of more than statements these.
 STATEMENTS = {
     "engine/specs/Demand.antt": ["Demand3"],
+    "engine/specs/Ceiling.antt": ["RoundsRefused", "RoundsReturned", "RoundsCeiling"],
     "engine/specs/Handed.antt": ["IdealsUsed", "IdealsUnread"],
     "engine/specs/OneGoal.antt": ["OneGoalKept"],
     "engine/specs/Outcomes.antt": ["KeepsRows", "VerdictMeans", "NoneExactlyWhen"],
@@ -38,10 +39,12 @@ STATEMENTS = {
     "deck/specs/Older.antt": ["OneGoalTexts", "OlderTexts"],
     "solve/specs/Cases.antt": ["DeckCases"],
     "solve/specs/GoalCases.antt": ["GoalCases"],
+    "solve/specs/RoundCases.antt": ["RoundCases"],
     "solve/specs/Program.antt": ["ListedWhole"],
     "solve/specs/Swept.antt": ["VolumesSatisfied"],
     "runs/specs/CallRuns.antt": ["NoListTwice", "assignRun", "continueRun"],
     "tableau/specs/Theorems.antt": None,
+    "tableau/specs/RoundedDown.antt": ["FormUnchanged", "FoundUnchanged", "SolveUnchanged"],
 }
 
 SPLIT = re.compile(r"[\s(){};,«»⌜⌝]+")
@@ -75,10 +78,20 @@ def file_of(module):
     return f"{m.group(1)}/specs/{m.group(2).replace('.', '/')}.antt" if m else None
 
 
+def unindented(lines):
+    """The lines, with those of a module that has parameters moved to the left."""
+    inside = False
+    for line in lines:
+        if line.strip() and not line.startswith(" "):
+            inside = line.startswith("module ")
+        if not line.startswith("module "):
+            yield line[2:] if inside else line
+
+
 def declarations(lines):
     """Name -> the lines of its declaration. Each begins at the left, after an empty line or a comment."""
     found, name = {}, None
-    for line in lines:
+    for line in unindented(lines):
         if not line.strip() or line.startswith("--"):
             name = name if line.strip() == "" else None
             continue

@@ -1,4 +1,4 @@
--- The marked deck cases hold, and those of a low and a high goal: the checker computes each from the definitions. Assumes nothing.
+-- The marked deck cases hold, those of a low and a high goal and those of rounds: the checker computes each from the definitions. Assumes nothing.
 use mathlib.Core.Path.{refl}
 use Rattle.whole.specs.Tests.{every}
 use Rattle.whole.specs.Divisor.{divisorBy, divisor}
@@ -11,6 +11,7 @@ use Rattle.problem.specs.Limits.{anyBeyond}
 use Rattle.problem.specs.Checks.{firstCause}
 use Rattle.tableau.specs.Table.{tableauFrom, tableau}
 use Rattle.tableau.specs.Elimination.{loweredBy, reduced, each, choose, exchange, clearBy, roundBy, gatherBy, passColumnBy, passColumnsBy, eliminateBy}
+use Rattle.tableau.specs.RoundCount.{gatherRounds, columnRounds, roundsFrom, rounds, formRounds}
 use Rattle.tableau.specs.RightSide.{sweep, leading, remaining, rightSide, form, solve}
 use Rattle.goals.specs.Ideals.{rootBits, wholeRoot, goalIdeal}
 use Rattle.goals.specs.Wishes.{ideal}
@@ -31,14 +32,15 @@ use Rattle.report.specs.Listing.{linesFrom, listing}
 use Rattle.solve.specs.Program.{printed}
 use Rattle.solve.specs.Cases.{DeckCases}
 use Rattle.solve.specs.GoalCases.{GoalCases}
+use Rattle.solve.specs.RoundCases.{RoundCases}
 
-computed : DeckCases × GoalCases
+computed : DeckCases × GoalCases × RoundCases
 unfolding numbersFrom neighbourWish every divisorBy divisor plus neg allZero lead dot sums stretch allDigits value decimal anyBeyond
     firstCause tableauFrom tableau loweredBy reduced each choose exchange clearBy roundBy gatherBy passColumnBy passColumnsBy eliminateBy sweep leading
     remaining rightSide form solve rootBits wholeRoot goalIdeal ideal seatOne seat singles pairsWith pairs moves moved measure isRanked
     passes improves insert rankFrom firstMove firstColumn stepAt stepOf nextStep settleFrom settle stride stridesFrom settleOn assign
     intervals terms lines isOn indices paths volumes without termsOf sweptLines readDeck slackColumns placed coefficientRows posed
-    linesFrom listing printed
+    linesFrom listing printed gatherRounds columnRounds roundsFrom rounds formRounds
 computed = (
   record {
     half = refl;
@@ -70,6 +72,7 @@ computed = (
     text = refl;
     bound-first = refl;
   },
+  record { lone = refl; three-two = refl; fitted = refl; spent = refl; none = refl; far = refl; over = refl },
 )
 
 pub deck-cases : DeckCases
@@ -77,3 +80,6 @@ deck-cases = computed .0
 
 pub goal-cases : GoalCases
 goal-cases = computed .1
+
+pub round-cases : RoundCases
+round-cases = computed .2

@@ -2,4 +2,5 @@
 pub mod Program
 pub mod Cases
 pub mod GoalCases
+pub mod RoundCases
 pub mod Swept
