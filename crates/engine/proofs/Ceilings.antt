@@ -12,14 +12,12 @@ use mathlib.Core.Bool.{Bool, true, false, cond, true≢false}
 use mathlib.Core.List.{List}
 use Prim.Native.Nat.{ℕ, _*_, _≤_}
 use native.Mathlib.Omega.{arith}
-use lib.Dec.{lit≤}
 use lib.IntN.{ℤ}
 use lib.ListN.{length}
 use Rattle.whole.specs.Lists.{zeros}
 use Rattle.whole.proofs.Never.{untrue}
 use Rattle.whole.proofs.Tests.{both-true}
 use Rattle.lattice.specs.Span.{All}
-use Rattle.lattice.proofs.FlatLaws.{flat-chop}
 use Rattle.problem.specs.Answers.{isVerdict}
 use Rattle.problem.specs.Limits.{maxCoefficient, maxRight}
 use Rattle.problem.specs.Checks.{Posed, allSpan, firstCause}
@@ -31,9 +29,8 @@ use Rattle.problem.specs.declared.Check.{Check}
 use Rattle.problem.specs.declared.Check.the-variants.{Passed, Failed}
 use Rattle.tableau.specs.RightSide.{Found, none, some}
 use Rattle.tableau.specs.Within.{Within}
-use Rattle.tableau.proofs.Forms.{span-within}
+use Rattle.tableau.proofs.Forms.{coefficients-within}
 use Rattle.tableau.proofs.RoundLaws.{form-rounds}
-use Rattle.tableau.proofs.Staying.{all-flat}
 use Rattle.settling.specs.declared.Step.{Step}
 use Rattle.settling.specs.declared.Step.the-variants.{Rest as Still, Take}
 use Rattle.settling.specs.Seating.{Seated, seated, far, seat}
@@ -161,10 +158,8 @@ rounds-returned P B = record {
 -- ---- the ceiling
 matrix-within : (P : Posed) (L : Lent) → Passes P L → All Within (matrix P)
 matrix-within P L q =
-    all-flat (matrix P)
-    (rw (flat-chop (m P) (n P) (P .coefficients) (fits P L q .coefficients-long))
-    (span-within maxCoefficient (P .coefficients) (lit≤ tt)
-    (both-true (allSpan maxCoefficient (P .coefficients)) (allSpan maxRight (P .rights)) (q .rows) .0)))
+    coefficients-within (m P) (n P) (P .coefficients) (fits P L q .coefficients-long)
+    (both-true (allSpan maxCoefficient (P .coefficients)) (allSpan maxRight (P .rights)) (q .rows) .0)
 
 below : (P : Posed) (L : Lent) (t : Bool) (k : ℕ) → Counted P L t k → k ≤ ceiling P
 below P L false k c = omega (arith, c .none refl)

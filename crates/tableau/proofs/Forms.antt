@@ -1,5 +1,5 @@
 -- Laws of the form of a problem, as it lies in the lent buffer.
---   span-within    numbers within a limit no larger than M
+--   span-within    numbers within a limit no larger than M; coefficients-within, the rows of a matrix of coefficients
 --   form-outcome   what elimination of the filled table answers and leaves is the form's
 --   Formed         what stands in the tableau's buffer then: the form's rows, each with a lead above 0, within ±M
 --   formed         so it is, where no number beyond ±M was met
@@ -9,7 +9,7 @@
 use mathlib.Core.Path.{_≡_, refl, sym, _∙_, ap, ap₂, subst}
 use mathlib.Core.Bool.{Bool, true, false, cond}
 use mathlib.Core.List.{List, [], _∷_}
-use Prim.Native.Nat.{ℕ, suc, _+_, _<_, _≤_}
+use Prim.Native.Nat.{ℕ, suc, _+_, _*_, _<_, _≤_}
 use native.Mathlib.Nat.{le-trans}
 use native.Mathlib.Omega.{arith}
 use borrow.Author.Tests.{le-ltb}
@@ -49,6 +49,9 @@ numbers-within (x ∷ l) f = rw (le-ltb M (natAbs x) (f 0 (omega arith))) (numbe
 pub span-within : (k : ℕ) (l : List ℤ) → k ≤ M → allSpan k l ≡ true → Within l
 span-within k l h e = numbers-within l (λ i p. le-trans (all-small k l e i) h)
 
+pub coefficients-within : (m n : ℕ) (a : List ℤ) → length a ≡ m * n → allSpan maxCoefficient a ≡ true → All Within (chop m n a)
+coefficients-within m n a l e = all-flat (chop m n a) (rw (flat-chop m n a l) (span-within maxCoefficient a (lit≤ tt) e))
+
 -- ---- the leads of a Hermite form
 hermite-leads : (H : Echelon) → Hermite H → All Leads (rows H)
 hermite-leads H h = all-map (Led (width H)) Leads (λ r l. l .above) (rows H) (rows-led H h)
@@ -78,12 +81,8 @@ module _ {p : Problem} {t a : List ℤ} (h : Formable p t a) where
   pub count : length A ≡ p .rows
   count = length-chop (p .rows) (p .columns) a
 
-  matrix-within : All Within A
-  matrix-within =
-      all-flat A (rw (flat-chop (p .rows) (p .columns) a (h .matrix)) (span-within maxCoefficient a (lit≤ tt) (h .small)))
-
   pub table-within : Within (flat (tableau n A))
-  table-within = tableau-within n A matrix-within
+  table-within = tableau-within n A (coefficients-within (p .rows) (p .columns) a (h .matrix) (h .small))
 
   table-wide : All (Len w) (tableau n A)
   table-wide = subst (λ (i : ℕ). All (Len (i + n)) (tableau n A)) count (tableau-length n A)

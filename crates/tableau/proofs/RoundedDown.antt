@@ -26,50 +26,44 @@ form-unchanged n A =
     quotient-unchanged nearestQuotient floorQuotient nearest-shrinks floor-shrinks (length A + n) (tableau n A) (tableau-length n A)
     (tableau-independent n A)
 
-found-any : (m : ℕ) (T : List (List ℤ)) (x y : Bool) (v : List ℤ) → rightSide m T x v .found ≡ rightSide m T y v .found
-unfolding rightSide
-found-any m T x y v = go (allZero (take m (w .row)))
-  where
-    w : Left
-    w = sweep (leading m T) v
+module _ (m : ℕ) (T : List (List ℤ)) (v : List ℤ) where
+  abbrev w : Left
+  w = sweep (leading m T) v
 
-    u : Left
-    u = sweep (remaining m T) (w .row)
+  abbrev u : Left
+  u = sweep (remaining m T) (w .row)
 
-    go : (t : Bool)
-        → cond {A = Solved} t (record { form = T; found = some (drop m (u .row)) (basis m T); over = x || (w .over || u .over) })
-        (record { form = T; found = none; over = x || w .over }) .found
-        ≡ cond {A = Solved} t (record { form = T; found = some (drop m (u .row)) (basis m T); over = y || (w .over || u .over) })
-        (record { form = T; found = none; over = y || w .over }) .found
-    go true = refl
-    go false = refl
+  -- by whether the first m numbers are 0 then, and by the form's mark
+  abbrev by : Bool → Bool → Solved
+  by t x =
+      cond {A = Solved} t (record { form = T; found = some (drop m (u .row)) (basis m T); over = x || (w .over || u .over) })
+      (record { form = T; found = none; over = x || w .over })
 
-unmarked : (m : ℕ) (T : List (List ℤ)) (x : Bool) (v : List ℤ) → rightSide m T x v .over ≡ false → x ≡ false
-unfolding rightSide
-unmarked m T x v = go (allZero (take m (w .row)))
-  where
-    w : Left
-    w = sweep (leading m T) v
+  found-any : (x y : Bool) → rightSide m T x v .found ≡ rightSide m T y v .found
+  unfolding rightSide
+  found-any x y = go (allZero (take m (w .row)))
+    where
+      go : (t : Bool) → by t x .found ≡ by t y .found
+      go true = refl
+      go false = refl
 
-    u : Left
-    u = sweep (remaining m T) (w .row)
-
-    go : (t : Bool)
-        → cond {A = Solved} t (record { form = T; found = some (drop m (u .row)) (basis m T); over = x || (w .over || u .over) })
-        (record { form = T; found = none; over = x || w .over }) .over ≡ false
-        → x ≡ false
-    go true e = neither x (w .over || u .over) e .0
-    go false e = neither x (w .over) e .0
+  unmarked : (x : Bool) → rightSide m T x v .over ≡ false → x ≡ false
+  unfolding rightSide
+  unmarked x = go (allZero (take m (w .row)))
+    where
+      go : (t : Bool) → by t x .over ≡ false → x ≡ false
+      go true e = neither x (w .over || u .over) e .0
+      go false e = neither x (w .over) e .0
 
 pub found-unchanged : FoundUnchanged
 unfolding solve solveDown
 found-unchanged n A b =
     ap (λ (T : List (List ℤ)). rightSide (length A) T (form n A .over) (neg b ++ zeros n) .found) (form-unchanged n A)
-    ∙ found-any (length A) (formDown n A .table) (form n A .over) (formDown n A .over) (neg b ++ zeros n)
+    ∙ found-any (length A) (formDown n A .table) (neg b ++ zeros n) (form n A .over) (formDown n A .over)
 
 pub solve-unchanged : SolveUnchanged
 unfolding solve solveDown
 solve-unchanged n A b h k =
-    let x : form n A .over ≡ false = unmarked (length A) (form n A .table) (form n A .over) (neg b ++ zeros n) h in
-    let y : formDown n A .over ≡ false = unmarked (length A) (formDown n A .table) (formDown n A .over) (neg b ++ zeros n) k in
+    let x : form n A .over ≡ false = unmarked (length A) (form n A .table) (neg b ++ zeros n) (form n A .over) h in
+    let y : formDown n A .over ≡ false = unmarked (length A) (formDown n A .table) (neg b ++ zeros n) (formDown n A .over) k in
     ap₂ (λ (T : List (List ℤ)) (o : Bool). rightSide (length A) T o (neg b ++ zeros n)) (form-unchanged n A) (x ∙ sym y)
