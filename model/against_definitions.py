@@ -351,7 +351,7 @@ def shut_definitions(names):
             if not file.endswith(".antt"):
                 continue
             text = open(os.path.join(folder, file), encoding="utf-8").read()
-            shut = re.findall(r"^unfoldable pub (\S+) ", text, re.M)
+            shut = re.findall(r"^ *unfoldable pub (\S+) ", text, re.M)
             if shut:
                 modules["Rattle.%s.specs.%s" % (name, file[:-5])] = shut
     return modules
