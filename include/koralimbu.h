@@ -134,8 +134,8 @@ uint32_t koralimbu_version(void);
  *
  * Rounds. The elimination that makes the form takes its columns in rounds: each time it chooses a smallest entry is one. A call with a verdict, and
  * a preview that is not refused, tells how many there were; with a refusal that is 0, also where rounds were made. There are at most
- * ROUNDS_PER_COLUMN * n. Rows that are said otherwise, so that the same lists satisfy them, may take other rounds; the rest of the report
- * is the same, unless one of the two is refused with 7. Steps are no rounds: their most is the step limit.
+ * ROUNDS_PER_COLUMN * n. Rows that are said otherwise, so that the same lists satisfy them, may take other rounds; where both problems are
+ * within the limits and neither is refused with 7, the rest of the report is the same. Steps are no rounds: their most is the step limit.
  *
  * A progress bar over several problems, as the decks or blocks of a hull, has its upper end from this: the rounds of those that are done, and
  * ROUNDS_PER_COLUMN * n for each that is still to come. A call tells its rounds when it is over, and nothing while it runs, so that the bar moves

@@ -226,8 +226,8 @@ pub struct Answer {
     pub verdict: Verdict,
     /// The steps that were taken.
     pub steps: Steps,
-    /// The rounds of the elimination, each the choice of a smallest entry: at most [`Problem::most_rounds`]. Rows that are said otherwise, so that the
-    /// same lists satisfy them, may take other rounds. A refused call tells none.
+    /// The rounds of the elimination, each the choice of a smallest entry: at most [`Problem::most_rounds`]. Rows that are said otherwise, so that
+    /// the same lists satisfy them, may take other rounds. A refused call tells none.
     pub rounds: u32,
 }
 

@@ -4,7 +4,8 @@
 --                    rounds of elimination too. `done` makes one of the five
 --   posedBy, buffers   a call's arguments, as a problem and as the buffers
 --   n, m, matrix, columns P   the problem's parts; lentOf B, the lengths of the buffers
---   refused ..       "number, counts 0", and "A refusal returns 0 rounds", with the lists as before; overLimit, refusal 7; settled, settleOn, a verdict
+--   refused ..       "number, counts 0", and "A refusal returns 0 rounds", with the lists as before; overLimit, refusal 7
+--   settled, settleOn   a verdict
 --   roundsOf P       the rounds of the tableau
 --   solved, formed   the tableau with the right side, and without it; stands P v, the list v satisfies the rows, within ±M
 --   assignFit, continueFit   past the checks; onCheck, onFound, onSeated by what is found before

@@ -3,6 +3,7 @@
 --   RoundsRefused      so it is of every problem and all lent buffers
 --   AllRounds P B      "The rounds are counted and returned": without a refusal they are those of the problem's tableau
 --   RoundsReturned     so it is of every problem and all lent buffers
+--   ceiling P          31 × n
 --   FewRounds P B      "so at most 31 × n in all": with a refusal and without
 --   RoundsCeiling      so it is of every problem and all lent buffers
 -- The theorems are `rounds-refused`, `rounds-returned` and `rounds-ceiling`, in proofs/Ceilings.

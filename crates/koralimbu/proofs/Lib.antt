@@ -5,3 +5,4 @@ pub mod CallLaws
 pub mod ReadLaws
 pub mod PreviewLaws
 pub mod JoinLaws
+pub mod Cases

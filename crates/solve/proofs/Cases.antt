@@ -10,7 +10,8 @@ use Rattle.text.specs.Decimals.{decimal}
 use Rattle.problem.specs.Limits.{anyBeyond}
 use Rattle.problem.specs.Checks.{firstCause}
 use Rattle.tableau.specs.Table.{tableauFrom, tableau}
-use Rattle.tableau.specs.Elimination.{loweredBy, reduced, each, choose, exchange, clearBy, roundBy, gatherBy, passColumnBy, passColumnsBy, eliminateBy}
+use Rattle.tableau.specs.Elimination.{loweredBy, reduced, each, choose, exchange, clearBy, roundBy, gatherBy}
+use Rattle.tableau.specs.Elimination.{passColumnBy, passColumnsBy, eliminateBy}
 use Rattle.tableau.specs.RoundCount.{gatherRounds, columnRounds, roundsFrom, rounds, formRounds}
 use Rattle.tableau.specs.RightSide.{sweep, leading, remaining, rightSide, form, solve}
 use Rattle.goals.specs.Ideals.{rootBits, wholeRoot, goalIdeal}
@@ -36,10 +37,10 @@ use Rattle.solve.specs.RoundCases.{RoundCases}
 
 computed : DeckCases × GoalCases × RoundCases
 unfolding numbersFrom neighbourWish every divisorBy divisor plus neg allZero lead dot sums stretch allDigits value decimal anyBeyond
-    firstCause tableauFrom tableau loweredBy reduced each choose exchange clearBy roundBy gatherBy passColumnBy passColumnsBy eliminateBy sweep leading
-    remaining rightSide form solve rootBits wholeRoot goalIdeal ideal seatOne seat singles pairsWith pairs moves moved measure isRanked
-    passes improves insert rankFrom firstMove firstColumn stepAt stepOf nextStep settleFrom settle stride stridesFrom settleOn assign
-    intervals terms lines isOn indices paths volumes without termsOf sweptLines readDeck slackColumns placed coefficientRows posed
+    firstCause tableauFrom tableau loweredBy reduced each choose exchange clearBy roundBy gatherBy passColumnBy passColumnsBy eliminateBy
+    sweep leading remaining rightSide form solve rootBits wholeRoot goalIdeal ideal seatOne seat singles pairsWith pairs moves moved measure
+    isRanked passes improves insert rankFrom firstMove firstColumn stepAt stepOf nextStep settleFrom settle stride stridesFrom settleOn
+    assign intervals terms lines isOn indices paths volumes without termsOf sweptLines readDeck slackColumns placed coefficientRows posed
     linesFrom listing printed gatherRounds columnRounds roundsFrom rounds formRounds
 computed = (
   record {
@@ -72,7 +73,16 @@ computed = (
     text = refl;
     bound-first = refl;
   },
-  record { lone = refl; three-two = refl; fitted = refl; spent = refl; none = refl; far = refl; over = refl },
+  record {
+    lone = refl;
+    three-two = refl;
+    fitted = refl;
+    spent = refl;
+    none = refl;
+    far = refl;
+    over = refl;
+    restated = (refl, refl);
+  },
 )
 
 pub deck-cases : DeckCases

@@ -10,9 +10,11 @@
 --   problem-table, -rounds   it is the tableau of a problem, which takes as many
 --   fibonacci       a column 8, 13 takes three rounds, where 8 has four digits
 --   down-longer     by the rounded-down quotient four rounds are too few for it: a lower entry 1 is left
+--   seven-now       the tableau of 93v1 − 835v3 = 0 and 331v1 − 925v2 = 0 meets a number beyond ±M by the nearest quotient alone
+--   seven-before    that of 863v1 − 449v2 + 350v3 = 0 and 122v1 + 247v2 + 960v3 = 0 by the rounded-down one alone
 -- Assumes nothing.
 use mathlib.Core.Path.{_≡_, refl, _∙_, ap}
-use mathlib.Core.Bool.{false}
+use mathlib.Core.Bool.{Bool, true, false}
 use mathlib.Core.List.{List, [], _∷_}
 use lib.IntN.{ℤ, pos, negsuc}
 use Rattle.whole.specs.Quotient.{floorQuotient}
@@ -22,6 +24,8 @@ use Rattle.problem.specs.Limits.{anyBeyond}
 use Rattle.tableau.specs.Table.{tableauFrom, tableau}
 use Rattle.tableau.specs.Elimination.{loweredBy, lowered, reduced, each, at, choose, exchange, clearBy, roundBy, gatherBy}
 use Rattle.tableau.specs.Elimination.{passColumnBy, passColumnsBy, eliminateBy, eliminate}
+use Rattle.tableau.specs.RightSide.{form}
+use Rattle.tableau.specs.RoundedDown.{formDown}
 use Rattle.tableau.specs.RoundCount.{gatherRounds, columnRounds, firstBits, roundsFrom, rounds, formRounds}
 
 -- rows of one number
@@ -90,3 +94,17 @@ fibonacci = (refl, refl)
 down-longer : gatherBy floorQuotient 4 0 (at 0 8) (pos 8 ∷ []) ((pos 13 ∷ []) ∷ []) .below ≡ (pos 1 ∷ []) ∷ []
 unfolding plus neg loweredBy each choose exchange clearBy roundBy gatherBy
 down-longer = refl
+
+-- ---- refusal 7
+abbrev marks : List (List ℤ) → Bool × Bool
+marks A = (form 3 A .over, formDown 3 A .over)
+
+seven-now : marks ((pos 93 ∷ pos 0 ∷ negsuc 834 ∷ []) ∷ (pos 331 ∷ negsuc 924 ∷ pos 0 ∷ []) ∷ []) ≡ (true, false)
+unfolding plus neg anyBeyond loweredBy reduced each choose exchange clearBy roundBy gatherBy passColumnBy passColumnsBy eliminateBy tableauFrom
+    tableau form formDown
+seven-now = refl
+
+seven-before : marks ((pos 863 ∷ negsuc 448 ∷ pos 350 ∷ []) ∷ (pos 122 ∷ pos 247 ∷ pos 960 ∷ []) ∷ []) ≡ (false, true)
+unfolding plus neg anyBeyond loweredBy reduced each choose exchange clearBy roundBy gatherBy passColumnBy passColumnsBy eliminateBy tableauFrom
+    tableau form formDown
+seven-before = refl

@@ -35,7 +35,8 @@ unfolding reduced
 reduced-steps c r s B = add (negℤ (floorQuotient (entry c s) (entry c r))) r s
 
 module _ (quotient : ℤ → ℤ → ℤ) where
-  passColumn-steps : (c : ℕ) (A B : List (List ℤ)) (z : Choice) → (A ++ B) ~ (passColumnBy quotient c A B z .above ++ passColumnBy quotient c A B z .below)
+  passColumn-steps : (c : ℕ) (A B : List (List ℤ)) (z : Choice)
+      → (A ++ B) ~ (passColumnBy quotient c A B z .above ++ passColumnBy quotient c A B z .below)
   unfolding passColumnBy
   passColumn-steps c A B none = same
   passColumn-steps c A [] (at j p) = same
@@ -147,7 +148,8 @@ module _ {quotient : ℤ → ℤ → ℤ} (S : Shrinks quotient) where
     none-left = i .none-left;
     is =
         ap (λ (z : Choice). passColumnsBy quotient d (suc c) (passColumnBy quotient c A B z .above) (passColumnBy quotient c A B z .below) .table) e
-        ∙ subst (λ (S : Echelon). passColumnsBy quotient d (suc c) A B .table ≡ map (residue S) A ++ (rows S ++ i .rest)) (sym (skips-skip c (i .form))) (i .is);
+        ∙ subst (λ (S : Echelon). passColumnsBy quotient d (suc c) A B .table ≡ map (residue S) A ++ (rows S ++ i .rest))
+        (sym (skips-skip c (i .form))) (i .is);
   }
 
   module _ (d c : ℕ) (A : List (List ℤ)) (b : List ℤ) (B : List (List ℤ)) (j p : ℕ) (e : choose c (b ∷ B) ≡ at j p)
@@ -207,7 +209,9 @@ module _ {quotient : ℤ → ℤ → ℤ} (S : Shrinks quotient) where
         rest = i .rest;
         none-left = i .none-left;
         is =
-            ap (λ (y : Choice). passColumnsBy quotient d (suc c) (passColumnBy quotient c A (b ∷ B) y .above) (passColumnBy quotient c A (b ∷ B) y .below) .table) e
+            ap (λ (y : Choice).
+            let x : Passed = passColumnBy quotient c A (b ∷ B) y in
+            passColumnsBy quotient d (suc c) (x .above) (x .below) .table) e
             ∙ i .is
             ∙ stack (residue (skips (suc c) K)) (residue (skips c H)) (reduced c (g .pivot)) (g .pivot) (rows (skips (suc c) K) ++ i .rest) A above-is
             ∙ ap (λ (X : List (List ℤ)). map (residue (skips c H)) A ++ (X ++ i .rest))

@@ -34,7 +34,7 @@ use Rattle.tableau.specs.RightSide.{form}
 use Rattle.tableau.proofs.TableLaws.{tableau-count, tableau-length}
 use Rattle.tableau.proofs.Theorems.{problem-form, problem-count, problem-wide}
 use Rattle.tableau.specs.RowSteps.{Leads}
-use Rattle.tableau.specs.LentTable.{Formable, matrixOf, formOf, formAfter, tallyOf, Outcome, outcome, eliminatedOf, roundsOf}
+use Rattle.tableau.specs.LentTable.{Formable, matrixOf, formOf, formAfter, tallyOf, Outcome, outcome, eliminatedOf, roundsIn}
 use Rattle.tableau.specs.RoundCount.{rounds, formRounds, refusedNone}
 use Rattle.tableau.specs.declared.Tally.{Tally}
 use Rattle.tableau.proofs.Staying.{flat-all, all-flat, eliminate-all}
@@ -99,7 +99,7 @@ module _ {p : Problem} {t a : List ℤ} (h : Formable p t a) where
   rounds-is = ap (λ (i : ℕ). rounds (i + n) (tableau n A)) (sym count)
 
   pub form-outcome : {u : List ℤ} → u ≡ flat (tableau n A) → length u ≡ length t
-      → outcome (eliminatedOf n w u) (roundsOf n w u) u ≡ outcome (formOf p a) (formRounds n A) t
+      → outcome (eliminatedOf n w u) (roundsIn n w u) u ≡ outcome (formOf p a) (formRounds n A) t
   form-outcome {u} e l =
       let T : chop n w u ≡ tableau n A = ap (chop n w) e ∙ table-rows in
       λ i. by-length ((ap (eliminate w) T ∙ form-is) i) ((ap (rounds w) T ∙ rounds-is) i) (l i)

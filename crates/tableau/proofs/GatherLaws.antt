@@ -88,7 +88,8 @@ module _ (quotient : ℤ → ℤ → ℤ) where
   gather-steps zero c z b B = same
   gather-steps (suc f) c none b B = same
   gather-steps (suc f) c (at j p) b B =
-      round-steps c b B then gather-steps f c (choose c (roundBy quotient c b B .below)) (roundBy quotient c b B .pivot) (roundBy quotient c b B .below)
+      let x : Gathered = roundBy quotient c b B in
+      round-steps c b B then gather-steps f c (choose c (x .below)) (x .pivot) (x .below)
 
 -- ---- the choice
 abbrev pub Stands : ℕ → List (List ℤ) → Choice → Type 0
@@ -134,7 +135,8 @@ record Rests (quotient : ℤ → ℤ → ℤ) (p : ℕ) (F : ℕ → Type 0) : T
   others : (x : ℤ) → F (natAbs (x +ℤ negℤ (quotient x (pos p)) *ℤ pos p))
 
 module _ (quotient : ℤ → ℤ → ℤ) (F : ℕ → Type 0) where
-  lowered-rest : (c p : ℕ) (r s : List ℤ) → Rests quotient p F → entry c r ≡ pos p → c < length s → F (natAbs (entry c (loweredBy quotient c r s .row)))
+  lowered-rest : (c p : ℕ) (r s : List ℤ) → Rests quotient p F → entry c r ≡ pos p → c < length s
+      → F (natAbs (entry c (loweredBy quotient c r s .row)))
   unfolding loweredBy
   lowered-rest c p r s f e h = go (isZero (entry c s)) (isZero-true (entry c s))
     where

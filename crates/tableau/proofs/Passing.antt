@@ -109,7 +109,8 @@ gathered {k} {w} {c} {j} {t} h g =
     let e : chop k w t ≡ b ∷ B = chop-next k w t (g .some) in
     subst (Gathering k w c) (sym (gathering-first (g .is))) (record {
       wide = steps-length w (gather-steps nearestQuotient p c (at j p) b B) (g .is .wide);
-      front = steps-all (ZeroTo c) (ZeroTo-neg c) (ZeroTo-plus c) (gather-steps nearestQuotient p c (at j p) b B) (subst (All (ZeroTo c)) e (h .front));
+      front =
+          steps-all (ZeroTo c) (ZeroTo-neg c) (ZeroTo-plus c) (gather-steps nearestQuotient p c (at j p) b B) (subst (All (ZeroTo c)) e (h .front));
       alone = gather-alone nearest-shrinks (g .is) p j p (omega arith);
       count = omega (arith, steps-count (gather-steps nearestQuotient p c (at j p) b B), length-chop (k - 1) w (drop w t));
       small = gather-all p c (at j p) b B (subst (All Within) e (all-flat (chop k w t) (rw (flat-chop k w t (h .wide)) (h .small))));

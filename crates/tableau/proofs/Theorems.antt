@@ -31,7 +31,7 @@ use Rattle.tableau.proofs.RightLaws.{basis-past, right-tells}
 use Rattle.tableau.specs.Theorems.{Eliminated, GatheringEnds, EliminationForm, FormUnique, ReducedUnique, EliminationUnique}
 use Rattle.tableau.specs.Theorems.{ReachedTells, ReachedSame, ProblemForm, ProblemCount, ProblemWide, ProblemRising, ProblemBasis, BasisRising}
 use Rattle.tableau.specs.Theorems.{SolveTells, SolveSome, SolveNone, SolveSame}
-use Rattle.tableau.specs.Theorems.{ColumnRounds, RoundsCeiling, FormRounds, QuotientUnchanged}
+use Rattle.tableau.specs.Theorems.{ColumnRounds, EliminationRounds, FormRounds, QuotientUnchanged}
 
 -- ---- elimination
 pub gathering-ends : GatheringEnds
@@ -140,8 +140,8 @@ solve-same n A A′ b b′ z z′ =
 pub column-rounds : ColumnRounds
 column-rounds = Counts.column-rounds
 
-pub rounds-ceiling : RoundsCeiling
-rounds-ceiling = Counts.eliminate-rounds
+pub elimination-rounds : EliminationRounds
+elimination-rounds = Counts.eliminate-rounds
 
 pub form-rounds : FormRounds
 form-rounds = Counts.form-rounds

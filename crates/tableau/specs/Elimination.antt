@@ -127,8 +127,8 @@ module _ (quotient : ℤ → ℤ → ℤ) where
       let x : List ℤ × List (List ℤ) = exchange (choose c (b ∷ B)) b B in
       clearBy c (signed (entry c (x .0)) (x .0)) (x .1)
 
-  -- "Repeat until all lower entries are 0": a round, and more while the lower rows have a choice. The magnitude chosen falls with each round, so
-  -- that as many rounds as the first one's are enough
+  -- "Repeat until all lower entries are 0": a round, and more while the lower rows have a choice. Where the quotient leaves less than the pivot, the
+  -- magnitude chosen falls with each round, so that as many rounds as the first one's are enough
   unfoldable pub gatherBy : ℕ → ℕ → Choice → List ℤ → List (List ℤ) → Gathered
   gatherBy zero c z b B = record { pivot = b; below = B; over = false }
   gatherBy (suc f) c none b B = record { pivot = b; below = B; over = false }

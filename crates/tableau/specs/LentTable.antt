@@ -8,7 +8,7 @@
 --   formTally p a    that of the form
 --   Outcome          what is answered, and what the lent table holds then
 --   outcome x k t    that of the steps x, which take k rounds, on the table that lay in t
---   eliminatedOf k w t, roundsOf k w t   the elimination of the k rows of w numbers in t, and its rounds
+--   eliminatedOf k w t, roundsIn k w t   the elimination of the k rows of w numbers in t, and its rounds
 -- Assumes nothing.
 use mathlib.Core.Path.{_≡_}
 use mathlib.Core.Bool.{true, cond}
@@ -58,5 +58,5 @@ outcome x k t = record { tally = tallyOf x k; left = formAfter x t }
 abbrev pub eliminatedOf : ℕ → ℕ → List ℤ → Run
 eliminatedOf k w t = eliminate w (chop k w t)
 
-abbrev pub roundsOf : ℕ → ℕ → List ℤ → ℕ
-roundsOf k w t = rounds w (chop k w t)
+abbrev pub roundsIn : ℕ → ℕ → List ℤ → ℕ
+roundsIn k w t = rounds w (chop k w t)

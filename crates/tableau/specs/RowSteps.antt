@@ -3,7 +3,7 @@
 --                      there is none, the list l
 --   StopsRow, StopsRun   that of a row after a subtraction, and of a table after steps
 --   quotientOf way     the quotient by which a pivot is taken from the rows below it, or from those above
---   rowStep way c r     a row's step by the row r at column c: gathering's in the lower rows, or that in the rows above
+--   rowStep way c r    a row's step by the row r at column c: gathering's in the lower rows, or that in the rows above
 --   eachOf way c r k   that of each of k rows in one list
 --   Pivot w c r        r has w numbers within ±M, 0 before column c and above 0 there
 --   Leads r            r's first number other than 0 is above 0: it has one

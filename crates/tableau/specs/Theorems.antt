@@ -17,7 +17,7 @@
 --   SolveNone           there is no such list exactly when "none" is found
 --   SolveSame           two problems find the same exactly when the same lists satisfy their rows
 --   ColumnRounds        the rounds of a column are at most the bit length of its first pivot
---   RoundsCeiling       those of a table within ±M at most 31 for each row, where no subtraction leaves a number beyond ±M
+--   EliminationRounds       those of a table within ±M at most 31 for each row, where no subtraction leaves a number beyond ±M
 --   FormRounds          those of a problem's tableau at most 31 for each column of the problem
 --   QuotientUnchanged   elimination leaves the same table, whichever quotient gathering takes
 -- The terms: Span, Same, Independent (lattice, Span); Echelon, Led, Rising, Hermite, Reduced (lattice, Hermite); Describes (lattice, Coset);
@@ -154,8 +154,8 @@ ColumnRounds =
     (n c : ℕ) (B : List (List ℤ)) → c < n → All (Len n) B → columnRounds c B (choose c B) ≤ firstBits (choose c B)
 
 -- "so at most 31 × n in all": a pivot within ±M has at most 31 digits, and each column that is not passed over uses up one of the table's rows.
-abbrev pub RoundsCeiling : Type 0
-RoundsCeiling =
+abbrev pub EliminationRounds : Type 0
+EliminationRounds =
     (w : ℕ) (T : List (List ℤ)) → All (Len w) T → All Within T → eliminate w T .over ≡ false → rounds w T ≤ 31 * length T
 
 -- The same of a problem of n columns: its tableau has n rows. A refused one counts none, "A refusal returns 0 rounds.".

@@ -2,7 +2,7 @@ ghost use mathlib.Core.Path.{_≡_};
 ghost use Prim.Native.Nat.{_*_, _-_, _<_, _≤_};
 ghost use lib.ListN.{length, drop};
 ghost use Rattle.tableau.specs.Table.{maxWidth};
-ghost use Rattle.tableau.specs.LentTable.{eliminatedOf, roundsOf};
+ghost use Rattle.tableau.specs.LentTable.{eliminatedOf, roundsIn};
 ghost use Rattle.tableau.specs.Choices.{Chooses};
 ghost use Rattle.tableau.specs.ColumnPass.{Standing, belowOf, passedOf, passedRounds, rejoined};
 ghost use Rattle.tableau.specs.RoundCount.{refusedNone};
@@ -44,7 +44,7 @@ pub(crate) fn pass_all(t: &mut [i64], rows: usize, pivot: &mut [i64]) -> Tally
     requires { ⌜ (length (now t) ≡ rows * length (now pivot)) × (length (now pivot) ≤ maxWidth) ⌝ }
     requires { ⌜ Within (now t) ⌝ }
     ensures { λ r. ⌜ StopsRun (eliminatedOf rows (length (now (pivot .entry))) (now (t .entry))) (r .over) (now (t .exit)) ⌝ }
-    ensures { λ r. ⌜ r .rounds ≡ refusedNone (r .over) (roundsOf rows (length (now (pivot .entry))) (now (t .entry))) ⌝ }
+    ensures { λ r. ⌜ r .rounds ≡ refusedNone (r .over) (roundsIn rows (length (now (pivot .entry))) (now (t .entry))) ⌝ }
 {
     let w = pivot.len();
     let mut count = 0;

@@ -6,7 +6,7 @@ ghost use Rattle.tableau.specs.Table.{maxWidth};
 ghost use Rattle.tableau.specs.Elimination.{reduced};
 ghost use Rattle.tableau.specs.RowSteps.{Pivot, leftAfter};
 ghost use Rattle.tableau.specs.Within.{Within};
-ghost use Rattle.tableau.specs.LentTable.{Formable, formOf, formAfter, formTally, outcome, eliminatedOf, roundsOf};
+ghost use Rattle.tableau.specs.LentTable.{Formable, formOf, formAfter, formTally, outcome, eliminatedOf, roundsIn};
 
 mod elimination;
 mod filling;
@@ -51,7 +51,7 @@ pub fn eliminate(t: &mut [i64], rows: usize, w: usize) -> Tally
     requires { ⌜ (length (now t) ≡ rows * w) × (w ≤ maxWidth) ⌝ }
     requires { ⌜ Within (now t) ⌝ }
     ensures { λ r. ⌜ record { tally = r; left = now (t .exit) }
-        ≡ outcome (eliminatedOf rows w (now (t .entry))) (roundsOf rows w (now (t .entry))) (now (t .entry)) ⌝ }
+        ≡ outcome (eliminatedOf rows w (now (t .entry))) (roundsIn rows w (now (t .entry))) (now (t .entry)) ⌝ }
 {
     let mut pivot = [0i64; MAX_WIDTH];
     let tally = pass_all(t, rows, &mut pivot[..w]);

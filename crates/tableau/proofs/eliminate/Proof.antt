@@ -9,7 +9,7 @@ use lib.Seq.{length-take-le}
 use Rattle.whole.specs.Lists.{zeros}
 use Rattle.tableau.specs.Elimination.{Run}
 use Rattle.tableau.specs.RowSteps.{StopsRun}
-use Rattle.tableau.specs.LentTable.{eliminatedOf, roundsOf}
+use Rattle.tableau.specs.LentTable.{eliminatedOf, roundsIn}
 use Rattle.tableau.specs.RoundCount.{refusedNone}
 use Rattle.lattice.specs.Rows.{flat}
 use Rattle.tableau.proofs.Forms.{outcome-by}
@@ -22,7 +22,7 @@ abbrev goal : tie.Start → Run
 goal s = eliminatedOf (s .args .rows) (s .args .w) (s .args .t .now)
 
 abbrev count : tie.Start → ℕ
-count s = roundsOf (s .args .rows) (s .args .w) (s .args .t .now)
+count s = roundsIn (s .args .rows) (s .args .w) (s .args .t .now)
 
 -- what all columns answer and leave
 ran :

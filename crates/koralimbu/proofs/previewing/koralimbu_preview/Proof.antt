@@ -63,7 +63,8 @@ returns-2 c =
     let after-tell = c .before .before .before in
     let k = previewed (after-tell .before) in
     let a = start k in
-    is-shown (P a) (a .args .standing .now) (B a) (k .preview .result .seen) _ _ _ _ (k .preview .ensures) (a .args .report .now) _ _ (else1 k .if1 .left)
+    is-shown (P a) (a .args .standing .now) (B a) (k .preview .result .seen) _ _ _ _ (k .preview .ensures)
+    (a .args .report .now) _ _ (else1 k .if1 .left)
     (after-tell .tell-step .ensures) (c .seen-number .ensures)
 
 pub koralimbu-preview-spec : {M : Type 1} → statement M

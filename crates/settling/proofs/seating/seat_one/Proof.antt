@@ -70,7 +70,8 @@ shared-slice-copy-out-nearest-quotient c = let s = c .before .before in omega (a
 
 nearest-quotient-requires : tie.Need-nearest-quotient-requires
 nearest-quotient-requires c κs =
-    let s = c .before .before .before in rw (read-gap (c .before), read-pivot c) (omega (arith, small s), omega (arith, s .pre .1 .row-small (k s)), s .pre .2 .above)
+    let s = c .before .before .before in
+    rw (read-gap (c .before), read-pivot c) (omega (arith, small s), omega (arith, s .pre .1 .row-small (k s)), s .pre .2 .above)
 
 add-row-requires : tie.Need-add-row-requires
 add-row-requires c κs =

@@ -29,7 +29,8 @@ told :
     let start = c .before .before .before in
     let a = start .args in
     let w : ℕ = length (a .pivot .now) in
-    Gathers (gatheringOf (a .rows - a .k) w (a .c) (drop (a .k * w) (a .t .now))) (c .gather .result .over) (c .gather .last .0) (c .gather .last .1 .1 .0)
+    Gathers (gatheringOf (a .rows - a .k) w (a .c) (drop (a .k * w) (a .t .now))) (c .gather .result .over) (c .gather .last .0)
+    (c .gather .last .1 .1 .0)
     × (c .gather .result .rounds
     ≡ refusedNone (c .gather .result .over) (gatheringRoundsOf (a .rows - a .k) w (a .c) (drop (a .k * w) (a .t .now))))
 told c =

@@ -84,7 +84,8 @@ told :
     (c : tie.After-pass Inv-loop μ-loop) →
     let m = turn c in
     let a = m .before .args in
-    StopsRun (rejoined (passedOf (a .rows) (length (a .pivot .now)) (m .loop .c) (m .loop .k) (m .loop .t))) (c .pass .result .over) (c .pass .last .0)
+    StopsRun (rejoined (passedOf (a .rows) (length (a .pivot .now)) (m .loop .c) (m .loop .k) (m .loop .t)))
+    (c .pass .result .over) (c .pass .last .0)
     × (c .pass .result .rounds
     ≡ refusedNone (c .pass .result .over) (passedRounds (a .rows) (length (a .pivot .now)) (m .loop .c) (m .loop .k) (m .loop .t)))
 told c = rw (turn c .loop .inv .wide) at (c .pass .ensures)
