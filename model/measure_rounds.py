@@ -2,8 +2,8 @@
 
     python3 model/measure_rounds.py [PROBLEMS SEED]
 
-Prints a line for the benchmark's decks, family by family, and one for dense random problems of
-each size and range of coefficients, PROBLEMS of each: how many meet refusal 7 in the table or
+Prints a line for the benchmark's decks, family by family, one for dense random problems of each
+size and range of coefficients, PROBLEMS of each, and one for sparse ones: how many meet refusal 7 in the table or
 the right side by document 01's rounded-down quotient, by document 02's nearest one, and by one
 of them alone; and of those that neither refuses the mean and the largest rounds by each, and
 the ceiling of 31 for each column. The right sides of the random problems are 0.
@@ -30,6 +30,15 @@ HEAD = ("n x m", "7 down", "7 nearest", "down alone", "nearest alone", "both for
 def dense(rng, n, m, size):
     """Coefficients from -size to size, all as likely."""
     coefficients = [rng.randint(-size, size) for _ in range(m * n)]
+    return Problem(n, m, coefficients, [0] * m, [0] * n, [9] * n, *twice([0] * n), *unset(n), 0)
+
+
+def sparse(rng, n, m, size, terms):
+    """Rows of some terms, with coefficients from -size to size but 0."""
+    coefficients = [0] * (m * n)
+    for row in range(m):
+        for j in rng.sample(range(n), terms):
+            coefficients[row * n + j] = rng.choice((-1, 1)) * rng.randint(1, size)
     return Problem(n, m, coefficients, [0] * m, [0] * n, [9] * n, *twice([0] * n), *unset(n), 0)
 
 
@@ -84,6 +93,15 @@ def main(arguments):
                 problems = [dense(rng_for(seed, number), n, m, size)
                             for number in range(1, count + 1)]
                 told(measured("%d x %d" % (n, m), problems))
+    for size in (1, 5):
+        print()
+        told(("sparse, coefficients to %d, n x m, terms" % size,) + HEAD[1:])
+        told(["---"] * len(HEAD))
+        for n in (8, 16, 32):
+            for terms in (2, 3, 4):
+                problems = [sparse(rng_for(seed, number), n, n - 2, size, terms)
+                            for number in range(1, count + 1)]
+                told(measured("%d x %d, %d" % (n, n - 2, terms), problems))
     return 0
 
 
