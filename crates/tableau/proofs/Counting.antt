@@ -15,7 +15,7 @@ use lib.IntN.{ℤ}
 use lib.ListN.{take, drop}
 use Rattle.lattice.specs.Rows.{chop}
 use Rattle.lattice.proofs.FlatLaws.{chop-next, chop-rows, flat-chop}
-use Rattle.tableau.specs.Elimination.{Choice, none, choose, Passed, passColumnBy, passColumn}
+use Rattle.tableau.specs.Elimination.{Choice, none, choose, passColumnBy, passColumn}
 use Rattle.tableau.specs.RoundCount.{columnRounds, roundsFrom, rounds}
 use Rattle.tableau.specs.Tails.{Tail, Picked, gatheringRoundsOf}
 use Rattle.tableau.specs.ColumnPass.{Standing, aboveOf, belowOf, passedRounds}
@@ -23,12 +23,9 @@ use Rattle.tableau.proofs.RoundLaws.{gatheringRounds-first, column-bits
 use Rattle.tableau.proofs.Passing.{tail-of}
 use Rattle.tableau.proofs.Staying.{all-flat}
 
-module _ (d c : ℕ) (A B : List (List ℤ)) where
-  abbrev found : Passed
-  found = passColumn c A B (choose c B)
-
-  abbrev from : Choice → ℕ
-  from z = columnRounds c B z + roundsFrom (d - 1) (c + 1) (passColumn c A B z .above) (passColumn c A B z .below)
+-- those of d columns, by the choice in the first
+abbrev from : ℕ → ℕ → List (List ℤ) → List (List ℤ) → Choice → ℕ
+from d c A B z = columnRounds c B z + roundsFrom (d - 1) (c + 1) (passColumn c A B z .above) (passColumn c A B z .below)
 
 pub rounds-on : (d c : ℕ) (A B : List (List ℤ)) → 0 < d → roundsFrom d c A B ≡ from d c A B (choose c B)
 unfolding roundsFrom
