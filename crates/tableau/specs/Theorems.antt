@@ -17,9 +17,9 @@
 --   SolveNone           there is no such list exactly when "none" is found
 --   SolveSame           two problems find the same exactly when the same lists satisfy their rows
 --   ColumnRounds        the rounds of a column are at most the bit length of its first pivot
---   EliminationRounds       those of a table within ±M at most 31 for each row, where no subtraction leaves a number beyond ±M
---   FormRounds          those of a problem's tableau at most 31 for each column of the problem
---   QuotientUnchanged   elimination leaves the same table, whichever quotient gathering takes
+--   EliminationRounds   those of a table within ±M at most 31 for each row, where no subtraction leaves a number beyond ±M
+--   FormRounds          those of a problem's tableau at most 31 for each column of the problem, under the same conditions
+--   QuotientUnchanged   elimination leaves the same table, whichever quotient gathering takes of those that leave less than the pivot
 -- The terms: Span, Same, Independent (lattice, Span); Echelon, Led, Rising, Hermite, Reduced (lattice, Hermite); Describes (lattice, Coset);
 -- Satisfies (lattice, Sums); Generators, Reaches, Tells, Sized (Generators); Chosen, Alone, Shrinks (Gathering). Each is proved in
 -- proofs/Theorems, under its name in small letters, as `gathering-ends`.
@@ -158,7 +158,7 @@ abbrev pub EliminationRounds : Type 0
 EliminationRounds =
     (w : ℕ) (T : List (List ℤ)) → All (Len w) T → All Within T → eliminate w T .over ≡ false → rounds w T ≤ 31 * length T
 
--- The same of a problem of n columns: its tableau has n rows. A refused one counts none, "A refusal returns 0 rounds.".
+-- The same of a problem of n columns: its tableau has n rows. What a call returns of it, 0 with a refusal, is in crate engine, Ceiling.
 abbrev pub FormRounds : Type 0
 FormRounds =
     (n : ℕ) (A : List (List ℤ)) → All Within A → form n A .over ≡ false → formRounds n A ≤ 31 * n
