@@ -1,5 +1,6 @@
 // Whole assignments and Continue: document 01's calls on lent buffers. They have no `requires`: what a problem can break is an answer.
-// Past the checks the lists of bounds, goals and ideals are packed once into a table of columns, which is all that is lent on of them.
+// Once there is a list to settle, the lists of bounds, goals and ideals are packed into a table of columns, which is all that is lent on of them:
+// what is refused before then packs nothing.
 ghost use mathlib.Core.Path.{_≡_};
 ghost use Rattle.engine.specs.Assign.{posedBy, buffers, done};
 ghost use Rattle.engine.specs.Replies.{replyOf};
@@ -93,10 +94,7 @@ pub fn assign(
     ) {
         return reply_of(Answer::Refused(why), 0);
     }
-    let mut columns = [0i64; WIDTH * Problem::MAX_COLUMNS];
     let n = p.columns;
-    let k = WIDTH * n;
-    pack(&mut columns[..k], lower, upper, low, high, given, ideals);
     let mut start = [0i64; Problem::MAX_COLUMNS];
     let solved = rightside::solve(tableau, p, coefficients, rights, &mut start[..n]);
     let solution = solved.solution;
@@ -104,6 +102,9 @@ pub fn assign(
         Solution::Over => reply_of(Answer::Refused(Refusal::Elimination), 0),
         Solution::None => reply_of(Answer::Refused(Refusal::NoWholeNumbers), 0),
         Solution::Found => {
+            let mut columns = [0i64; WIDTH * Problem::MAX_COLUMNS];
+            let k = WIDTH * n;
+            pack(&mut columns[..k], lower, upper, low, high, given, ideals);
             let answer = finish(p, &columns[..k], tableau, &mut start[..n], values, strides);
             reply_of(answer, solved.rounds)
         }

@@ -1,4 +1,4 @@
--- A goal written twice is as document 01 has it: `ideal-kept` and `fit-kept`. Assumes nothing.
+-- A goal written twice is as document 01 has it: `ideal-kept` and `fit-kept`; `root-square`, its whole root is the goal's thousands. Assumes nothing.
 use mathlib.Core.Path.{_≡_, refl, _∙_, ap}
 use mathlib.Core.Bool.{Bool, true, false, cond, not, _&&_, _||_}
 use Prim.Native.Nat.{ℕ, zero, suc, _+_, _*_, _/_, _≤_}
@@ -26,7 +26,7 @@ thousands g = record {
     above : g + 1 ≤ (g / 1000 + 1) * 1000
     above = omega arith
 
-root-square : (g : ℕ) → g ≤ maxGoal → wholeRoot (g * g) ≡ g / 1000
+pub root-square : (g : ℕ) → g ≤ maxGoal → wholeRoot (g * g) ≡ g / 1000
 root-square g h = root-alone (g * g) _ _ (root-is (g * g) (product-small g g h h)) (thousands g)
 
 same : (g k : ℕ) → idealFrom (g * g) k ≡ oneFrom g k

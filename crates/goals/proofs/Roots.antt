@@ -3,7 +3,7 @@
 --   root-is          and `wholeRoot` is it
 --   root-small       it is at most 1,000,000
 --   product-small    the product of two goals is at most `maxProduct`
---   ideal-small      an ideal is at most 1,000,001
+--   ideal-small      the ideal of two goals is at most 1,000,001
 -- Assumes nothing.
 use mathlib.Core.Path.{_≡_, refl, subst}
 use mathlib.Core.Bool.{Bool, true, false, cond}
@@ -13,7 +13,7 @@ use native.Mathlib.Omega.{arith}
 use borrow.Author.Tests.{leb-true, leb-false}
 use lib.Dec.{leb, ltb}
 use Rattle.problem.specs.Limits.{maxGoal}
-use Rattle.goals.specs.Ideals.{raised, rootBits, wholeRoot, idealFrom, maxProduct, IsRoot, RootIs, RootAlone}
+use Rattle.goals.specs.Ideals.{raised, rootBits, wholeRoot, idealFrom, goalIdeal, maxProduct, IsRoot, RootIs, RootAlone}
 
 -- ---- one root
 square-mono : (k j : ℕ) → k ≤ j → k * k * 1000000 ≤ j * j * 1000000
@@ -69,6 +69,8 @@ from-small p (suc k) = go (ltb (suc k * (suc k + 1) * 1000000) p)
     go true = omega arith
     go false = omega arith
 
--- of a product
-pub ideal-small : (p : ℕ) → p ≤ maxProduct → idealFrom p (wholeRoot p) ≤ 1000001
-ideal-small p h = omega (arith, from-small p (wholeRoot p), root-small p h)
+pub ideal-small : (low high : ℕ) → low ≤ maxGoal → high ≤ maxGoal → goalIdeal low high ≤ 1000001
+unfolding goalIdeal
+ideal-small low high h g =
+    let p = low * high in
+    omega (arith, from-small p (wholeRoot p), root-small p (product-small low high h g))

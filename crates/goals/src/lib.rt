@@ -1,10 +1,10 @@
 // What a column is to come to: the ideal of a low and a high goal, by the whole part of a root and without floating point; without a goal the one
 // that is handed in; and how either is brought into the bounds.
 ghost use mathlib.Core.Path.{_≡_};
-ghost use Prim.Native.Nat.{_+_, _^_, _<_, _≤_};
+ghost use Prim.Native.Nat.{_+_, _*_, _^_, _<_, _≤_};
 ghost use lib.IntN.{pos, natAbs};
 ghost use Rattle.problem.specs.Limits.{maxGoal};
-ghost use Rattle.goals.specs.Ideals.{raised, wholeRoot, idealFrom, goalIdeal, maxProduct};
+ghost use Rattle.goals.specs.Ideals.{raised, wholeRoot, goalIdeal};
 ghost use Rattle.goals.specs.Wishes.{wishOf, wishMark, wishNumber, columnWish, into};
 ghost use Rattle.goals.specs.Wishes as Wishes;
 use whole::magnitude;
@@ -24,11 +24,16 @@ fn with_bit(p: u64, k: u64, b: u32) -> u64
     if t * t * 1000000 <= p { t } else { k }
 }
 
-// The whole part of the root of p, over 1,000: the largest k with k × k × 1,000,000 at most p. Its twenty bits, the largest first.
-fn whole_root(p: u64) -> u64
-    requires { ⌜ p ≤ maxProduct ⌝ }
-    ensures { λ r. ⌜ r ≡ wholeRoot p ⌝ }
+// The whole part of the root of low × high, over 1,000: the largest k with k × k × 1,000,000 at most their product. Its twenty bits, the largest
+// first; but of equal goals it needs no search, since the root of g × g is g.
+fn whole_root(low: u64, high: u64) -> u64
+    requires { ⌜ (low ≤ maxGoal) × (high ≤ maxGoal) ⌝ }
+    ensures { λ r. ⌜ r ≡ wholeRoot (low * high) ⌝ }
 {
+    if low == high {
+        return low / 1000;
+    }
+    let p = low * high;
     let mut k = 0;
     let mut b = 20;
     while 0 < b {
@@ -38,15 +43,16 @@ fn whole_root(p: u64) -> u64
     k
 }
 
-// The ideal of two goals whose product is p. The products stay below 2^60.
-fn ideal_of(p: u64) -> u64
-    requires { ⌜ p ≤ maxProduct ⌝ }
-    ensures { λ r. ⌜ r ≡ idealFrom p (wholeRoot p) ⌝ }
+// The ideal of two goals. The products stay below 2^60.
+fn ideal_of(low: u64, high: u64) -> u64
+    requires { ⌜ (low ≤ maxGoal) × (high ≤ maxGoal) ⌝ }
+    ensures { λ r. ⌜ r ≡ goalIdeal low high ⌝ }
 {
-    let k = whole_root(p);
+    let k = whole_root(low, high);
     if k == 0 {
         return 1;
     }
+    let p = low * high;
     if k * (k + 1) * 1000000 < p { k + 1 } else { k }
 }
 
@@ -55,7 +61,7 @@ pub fn goal_ideal(low: i64, high: i64) -> i64
     requires { ⌜ (natAbs low ≤ maxGoal) × (natAbs high ≤ maxGoal) ⌝ }
     ensures { λ r. ⌜ r ≡ pos (goalIdeal (natAbs low) (natAbs high)) ⌝ }
 {
-    ideal_of(magnitude(low) * magnitude(high)) as i64
+    ideal_of(magnitude(low), magnitude(high)) as i64
 }
 
 // The wish that a mark and a number stand for: nothing for the mark 0.

@@ -5,7 +5,6 @@ use mathlib.Core.Bool.{Bool, false, cond}
 use mathlib.Core.List.{List, _++_}
 use Prim.Native.Nat.{ℕ}
 use native.Mathlib.Omega.{arith}
-use borrow.Author.Needs.{needs}
 use lib.Seq.{length-take-le}
 use lib.IntN.{ℤ}
 use lib.ListN.{length, take, drop}
@@ -54,21 +53,10 @@ module _ (w : tie.After-enum-told) where
   abbrev f : Fits (P at) (lentOf (B at))
   f = fits (P at) (lentOf (B at)) q
 
--- its columns, packed
-module _ (k : tie.After-pack) where
-  abbrev by : tie.Start
-  by = at (k .before .before)
-
-  packed : PackedIn (P by) (k .pack .last .0)
-  packed = packed-in (P by) (lentOf (B by)) (f (k .before .before)) (k .pack .last .0) (k .pack .ensures)
-
 -- what is left in the tableau, that it is the form where the problem is not past the limit, and the starting list
 module _ (v : tie.After-solve) where
-  abbrev after-pack : tie.After-pack
-  after-pack = v .before .before .before .before
-
   abbrev checked : tie.After-enum-told
-  checked = after-pack .before .before
+  checked = v .before .before .before
 
   abbrev from : tie.Start
   from = at checked
@@ -115,14 +103,33 @@ module _ (v : tie.After-solve) where
         (solution-found (solved (P from)) r))
         ∙ sym (assign-passed (P from) (B from) (passed checked))
 
+-- where a starting list is found
+module _ (w : tie.After-enum-told4) where
+  abbrev over : tie.After-solve
+  over = w .before .before .before .before
+
+  abbrev fit : Fits (P (from over)) (lentOf (B (from over)))
+  fit = f (checked over)
+
+  met : Found ≡ solutionOf (solved (P (from over)))
+  met = answered over (w .enum-told4 .given .1)
+
+-- its columns, packed
+module _ (k : tie.After-pack) where
+  abbrev found : tie.After-enum-told4
+  found = k .before .before
+
+  packed : PackedIn (P (from (over found))) (k .pack .last .0)
+  packed = packed-in (P (from (over found))) (lentOf (B (from (over found)))) (fit found) (k .pack .last .0) (k .pack .ensures)
+
 first-cause-requires : tie.Need-first-cause-requires
-first-cause-requires c κs = search needs
+first-cause-requires c κs = tt
 
 enum-known-why : tie.Need-enum-known-why
-enum-known-why c = search needs
+enum-known-why c = c .match .keys1
 
 reply-of-requires : tie.Need-reply-of-requires
-reply-of-requires c κs = search needs
+reply-of-requires c κs = tt
 
 returns : tie.Need-returns
 returns c =
@@ -131,85 +138,86 @@ returns c =
     ∙ sym (assign-failed (P a) (B a) (sym (c .before .before .before .before .first-cause .ensures) ∙ c .before .before .why .given .1))
 
 enum-told : tie.Need-enum-told
-enum-told c = search needs
-
-mul-k : tie.Need-mul-k
-mul-k c = omega (arith, f c .few-columns)
-
-array-borrow-prefix-columns : tie.Need-array-borrow-prefix-columns
-array-borrow-prefix-columns c = omega (arith, f c .few-columns)
-
-slice-aggregate-pack : tie.Need-slice-aggregate-pack
-slice-aggregate-pack c = part-length (cells (P (at (c .before)))) _ (omega (arith, f (c .before) .few-columns))
-
-pack-requires : tie.Need-pack-requires
-pack-requires c κs =
-    let s = at (c .before) in
-    let g = f (c .before) in
-    packable (P s) (lentOf (B s)) g _ (part-length (cells (P s)) _ (omega (arith, g .few-columns)))
+enum-told c = c .match .keys2
 
 array-borrow-prefix-start : tie.Need-array-borrow-prefix-start
-array-borrow-prefix-start c = f (c .before .before .before .before) .few-columns
+array-borrow-prefix-start c = f (c .before) .few-columns
 
 slice-aggregate-solve : tie.Need-slice-aggregate-solve
-slice-aggregate-solve c = sym (length-take-le _ _ (f (c .before .before .before .before .before) .few-columns))
+slice-aggregate-solve c = sym (length-take-le _ _ (f (c .before .before) .few-columns))
 
 solve-requires : tie.Need-solve-requires
 solve-requires c κs =
-    let w = c .before .before .before .before .before in
+    let w = c .before .before in
     let s = at w in
     solvable (P s) (lentOf (B s)) (q w) (s .args .tableau .now) _ refl (length-take-le _ _ (f w .few-columns))
 
 enum-told-2 : tie.Need-enum-told-2
-enum-told-2 c = search needs
+enum-told-2 c = c .match2 .keys1
 
 reply-of-requires-2 : tie.Need-reply-of-requires-2
-reply-of-requires-2 c κs = search needs
+reply-of-requires-2 c κs = tt
 
 enum-told-3 : tie.Need-enum-told-3
-enum-told-3 c = search needs
+enum-told-3 c = c .match2 .keys2
 
 reply-of-requires-3 : tie.Need-reply-of-requires-3
-reply-of-requires-3 c κs = search needs
+reply-of-requires-3 c κs = tt
 
 enum-told-4 : tie.Need-enum-told-4
-enum-told-4 c = search needs
+enum-told-4 c = c .match2 .keys3
+
+mul-k : tie.Need-mul-k
+mul-k c = omega (arith, fit c .few-columns)
+
+array-borrow-prefix-columns : tie.Need-array-borrow-prefix-columns
+array-borrow-prefix-columns c = omega (arith, fit c .few-columns)
+
+slice-aggregate-pack : tie.Need-slice-aggregate-pack
+slice-aggregate-pack c = part-length (cells (P (from (over (c .before))))) _ (omega (arith, fit (c .before) .few-columns))
+
+pack-requires : tie.Need-pack-requires
+pack-requires c κs =
+    let s = from (over (c .before)) in
+    let g = fit (c .before) in
+    packable (P s) (lentOf (B s)) g _ (part-length (cells (P s)) _ (omega (arith, g .few-columns)))
 
 array-share-prefix-columns : tie.Need-array-share-prefix-columns
-array-share-prefix-columns c =
-    let after-solve = c .before .before .before .before in
-    packed-fits (packed (after-pack after-solve)) _
+array-share-prefix-columns c = packed-fits (packed (c .before)) _
 
 slice-aggregate-finish : tie.Need-slice-aggregate-finish
-slice-aggregate-finish c =
-    let after-solve = c .before .before .before .before .before in
-    packed-long (packed (after-pack after-solve)) _
+slice-aggregate-finish c = packed-long (packed (c .before .before)) _
 
 array-borrow-prefix-start-2 : tie.Need-array-borrow-prefix-start-2
 array-borrow-prefix-start-2 c =
-    let before-finish = c .before .before in
-    let v = before-finish .before .before .before .before in
+    let v = over (found (c .before .before .before)) in
     part-fits (from v .args .p .columns) (v .solve .last .1 .1 .1 .1 .0) _ (long v)
 
 slice-aggregate-finish-2 : tie.Need-slice-aggregate-finish-2
 slice-aggregate-finish-2 c =
-    let before-finish = c .before .before .before in
-    let v = before-finish .before .before .before .before in
+    let v = over (found (c .before .before .before .before)) in
     sym (ap length (part-back (from v .args .p .columns) (v .solve .last .1 .1 .1 .1 .0) _ (long v)) ∙ long v)
 
 finish-requires : tie.Need-finish-requires
 finish-requires c κs =
-    let found = c .before .before .before .before .before in
-    let after-solve = found .before .before .before .before in
-    let r : Found ≡ solutionOf (solved (P (from after-solve))) = answered after-solve (found .enum-told4 .given .1) in
-    let x = some-is (solved (P (from after-solve))) r in
-    finishing after-solve r x _ _ (begins after-solve r x _) (packed-back (packed (after-pack after-solve)) _)
+    let k = c .before .before .before .before .before .before in
+    let v = over (found k) in
+    let r = met (found k) in
+    let x = some-is (solved (P (from v))) r in
+    finishing v r x _ _ (begins v r x _) (packed-back (packed k) _)
+
+module _ (c : tie.After-reply-of4) where
+  abbrev finish-of : tie.After-finish
+  finish-of = c .before .before .before .before .before
+
+  abbrev pack-of : tie.After-pack
+  pack-of = finish-of .before .before .before .before .before .before .before
 
 reply-of-requires-4 : tie.Need-reply-of-requires-4
-reply-of-requires-4 c κs = search needs
+reply-of-requires-4 c κs = tt
 
 same-length : tie.Need-same-length
-same-length c = search needs
+same-length c = c .before .before .before .before .before .solve .kept .0
 
 returns-2 : tie.Need-returns-2
 returns-2 c =
@@ -221,7 +229,7 @@ returns-2 c =
     ∙ sym (assign-passed (P s) (B s) (passed (checked v)))
 
 same-length-2 : tie.Need-same-length-2
-same-length-2 c = search needs
+same-length-2 c = c .before .before .before .before .before .solve .kept .0
 
 returns-3 : tie.Need-returns-3
 returns-3 c =
@@ -233,27 +241,24 @@ returns-3 c =
     ∙ sym (assign-passed (P s) (B s) (passed (checked v)))
 
 same-length-3 : tie.Need-same-length-3
-same-length-3 c = search needs
+same-length-3 c = over (found (pack-of c)) .solve .kept .0
 
 same-length-4 : tie.Need-same-length-4
-same-length-4 c = search needs
+same-length-4 c = finish-of c .finish .kept .1 .1 .1 .1 .0
 
 same-length-5 : tie.Need-same-length-5
-same-length-5 c = search needs
+same-length-5 c = finish-of c .finish .kept .1 .1 .1 .1 .1 .0
 
 returns-4 : tie.Need-returns-4
 returns-4 c =
-    let after-finish = c .before .before .before .before .before in
-    let before-finish = after-finish .before .before .before .before .before in
-    let after-solve = before-finish .before .before .before .before .before in
-    let r : Found ≡ solutionOf (solved (P (from after-solve))) =
-    answered after-solve (before-finish .before .enum-told4 .given .1) in
-    let x = some-is (solved (P (from after-solve))) r in
-    let values = after-finish .finish .last .1 .1 .1 .1 .0 in
-    let strides = after-finish .finish .last .1 .1 .1 .1 .1 .0 in
-    ap (λ (y : Reply). doneBy y (after-solve .solve .last .0) values strides) (c .reply-of4 .ensures)
-    ∙ ap₂ (λ (k : ℕ) (y : Finished). doneWith k (after-solve .solve .last .0) y) (counted after-solve r) (after-finish .finish .ensures)
-    ∙ ending after-solve r x _ _ (begins after-solve r x _) (packed-back (packed (after-pack after-solve)) _)
+    let k = pack-of c in
+    let v = over (found k) in
+    let r = met (found k) in
+    let x = some-is (solved (P (from v))) r in
+    let e = finish-of c .finish in
+    ap (λ (y : Reply). doneBy y (v .solve .last .0) (e .last .1 .1 .1 .1 .0) (e .last .1 .1 .1 .1 .1 .0)) (c .reply-of4 .ensures)
+    ∙ ap₂ (λ (k : ℕ) (y : Finished). doneWith k (v .solve .last .0) y) (counted v r) (e .ensures)
+    ∙ ending v r x _ _ (begins v r x _) (packed-back (packed k) _)
 
 pub assign-spec : {M : Type 1} → statement M
 assign-spec =
@@ -264,10 +269,6 @@ assign-spec =
     reply-of-requires
     returns
     enum-told
-    mul-k
-    array-borrow-prefix-columns
-    slice-aggregate-pack
-    pack-requires
     array-borrow-prefix-start
     slice-aggregate-solve
     solve-requires
@@ -276,6 +277,10 @@ assign-spec =
     enum-told-3
     reply-of-requires-3
     enum-told-4
+    mul-k
+    array-borrow-prefix-columns
+    slice-aggregate-pack
+    pack-requires
     array-share-prefix-columns
     slice-aggregate-finish
     array-borrow-prefix-start-2
