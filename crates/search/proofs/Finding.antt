@@ -5,7 +5,8 @@
 --   hold-..               for the loop that adds it, from the first place on
 --   Filled B b n S H      the sets have the first n vectors of the view B of b
 --   fill-..               for the loop over the vectors
---   cleared                 a list of empty sets, as it is made
+--   cleared               a list of empty sets, as it is made
+--   unnoted               a list of notes, as it is made
 -- Assumes nothing.
 use mathlib.Core.Path.{_≡_, refl, sym, _∙_, ap, ap₂, subst}
 use mathlib.Core.Logic.{⊎-elim}
@@ -28,6 +29,7 @@ use Rattle.settling.specs.declared.Basis.{Basis}
 use Rattle.settling.specs.Moves.{vector}
 use Rattle.settling.specs.Views.{vectors, Viewed}
 use Rattle.settling.proofs.Views.{vector-long}
+use Rattle.search.specs.Notes.{notesLong, Noted}
 use Rattle.search.specs.Sets.{has, firstOf, restOf, supportOf, touches, Indexed, Held, Holdable, Blank}
 use Rattle.search.proofs.Setting.{none-has, double-first, double-later, add-has, add-small, first-has, rest-has, rest-in}
 
@@ -236,3 +238,6 @@ alike x (suc n) (suc j) = alike x n j
 
 pub cleared : Blank (replicate maxColumns 0)
 cleared = record { long = refl; none = alike 0 maxColumns }
+
+pub unnoted : (n : ℕ) → Noted n (replicate notesLong 0)
+unnoted n = record { long = refl; each = λ h c. omega (arith, alike 0 notesLong c) }

@@ -9,10 +9,11 @@ pub mod Kept
 pub mod Ranked
 pub mod Indexing
 pub mod Dominance
-pub mod Placing
+pub mod Alone
+pub mod Testing
 pub mod Pairing
+pub mod Partners
+pub mod Singles
+pub mod Placing
 pub mod Reached
 pub mod Turning
-pub mod Testing
-pub mod Noting
-pub mod Visiting

@@ -2,7 +2,7 @@
 --   mark-small         a mark is 0 or 1
 --   sign-is, -one      the sign of a mark is a sign, and so of magnitude 1
 --   mark-sign          and has that mark
---   single-is          the number of a single
+--   single-is, pair-is   the number of a single, and of a pair
 --   number-single      that of a single lies below firstPair
 --   number-pair        that of a pair does not
 --   number-small, number-listed   both lie below span, for vectors below maxColumns, and so for listed moves
@@ -62,7 +62,7 @@ pub single-is : (s : ℕ) (a : ℤ) → numberOf (single s a) ≡ 2 * s + mark a
 unfolding numberOf
 single-is s a = refl
 
-pair-is : (s : ℕ) (a : ℤ) (t : ℕ) (b : ℤ) → Sign b
+pub pair-is : (s : ℕ) (a : ℤ) (t : ℕ) (b : ℤ) → Sign b
     → numberOf (pair s a t b) ≡ firstPair + (4 * (maxColumns * s + t) + (2 * mark a + mark b))
 unfolding numberOf
 pair-is s a t b (inl e) = rw e

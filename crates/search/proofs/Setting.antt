@@ -3,20 +3,27 @@
 --   double-first, -later  a place more below the others, which go up by one
 --   add-has, -small       a place more above the others
 --   first-has, -small, -le   the first place is in its set, and its digit is one of the word
+--   first-least           no place of the set is below it
 --   rest-has, -less       the rest of a set has its other places
 --   first-in, rest-in     what is in a set is its first place or in the rest, and what is in the rest is in the set
+--   meet-has, union-has   the places of both of two sets, or of either
+--   subset-le             a set whose places are all in another is no larger
+--   minus-has             a set without such a one has its other places
+--   below-has, only-has   the places below n, and n alone
 --   Walk I D Q w          a loop over a set: the places of w are left, and I holds of them; Q holds of the others of which D speaks
 --   walk-..               for its turns, from the first place on
 -- Assumes nothing.
 use mathlib.Core.Path.{_≡_, refl, sym, _∙_, ap, ap₂, subst}
 use mathlib.Core.Logic.{_⊎_, inl, inr, ⊎-elim}
 use mathlib.Core.Bool.{Bool, true, false, not, _&&_, _||_, and-true, or-false, and-eq-true-iff, true≢false}
-use Prim.Native.Nat.{ℕ, zero, suc, _+_, _-_, _*_, _/_, _%_, _^_, _≤_, _<_}
-use native.Mathlib.Nat.{pow-succ'}
+use Prim.Native.Nat.{ℕ, zero, suc, _+_, _-_, _*_, _/_, _%_, _^_, _≤_, _<_, min, max}
+use native.Mathlib.Nat.{pow-succ', min-le-left, max-le, zero-add}
 use native.Mathlib.Omega.{arith}
-use borrow.Author.Tests.{eq-eqb, eqb-true}
+use borrow.Author.Tests.{eq-eqb, eqb-true, lt-ltb, le-ltb}
+use lib.Arith.{bin-ind}
+use lib.Bits.{bitAnd, bitOr, and-step, or-step}
 use lib.Count.{trailingZeros, under}
-use lib.Dec.{eqb, eqb·zero-suc, eqb·suc-zero, eqb·suc-suc}
+use lib.Dec.{eqb, ltb, leb·suc-suc, eqb·zero-suc, eqb·suc-zero, eqb·suc-suc}
 use lib.Pow.{pow-pos}
 use Rattle.search.specs.Sets.{has, firstOf, restOf}
 
@@ -72,12 +79,13 @@ record Lowest (k w t : ℕ) : Type 0 where
   pub inside : has w t ≡ true
   pub small : t < k
   pub power : 2 ^ t ≤ w
+  pub least : (j : ℕ) → has w j ≡ true → t ≤ j
   pub others : (j : ℕ) → has (w - 2 ^ t) j ≡ has w j && not (eqb j t)
 
 module _ (k w : ℕ) where
   lowest-odd : w % 2 ≡ 1 → Lowest (suc k) w 0
   unfolding has
-  lowest-odd e = record { inside = odd; small = omega arith; power = omega arith; others = others }
+  lowest-odd e = record { inside = odd; small = omega arith; power = omega arith; least = λ j f. omega arith; others = others }
     where
       odd : eqb (w % 2) 1 ≡ true
       odd = eq-eqb (w % 2) 1 e
@@ -96,8 +104,18 @@ module _ (k w : ℕ) where
   lowest-even : (t : ℕ) → w % 2 ≡ 0 → Lowest k (w / 2) t → Lowest (suc k) w (suc t)
   unfolding has
   lowest-even t e l =
-      record { inside = l .inside; small = omega (arith, l .small); power = omega (arith, pow-succ' 2 t, l .power); others = others }
+      record {
+        inside = l .inside;
+        small = omega (arith, l .small);
+        power = omega (arith, pow-succ' 2 t, l .power);
+        least = least;
+        others = others;
+      }
     where
+      least : (j : ℕ) → has w j ≡ true → suc t ≤ j
+      least zero f = absurd (omega (arith, e, eqb-true (w % 2) 1 f))
+      least (suc j) f = omega (arith, l .least j f)
+
       even : (w - 2 ^ suc t) % 2 ≡ 0
       even = omega (arith, pow-succ' 2 t)
 
@@ -128,6 +146,9 @@ module _ (w : ℕ) (h : 0 < w) (l : w < 2 ^ 64) where
   pub first-le : 2 ^ firstOf w ≤ w
   first-le = lowest 64 w h l .power
 
+  pub first-least : (j : ℕ) → has w j ≡ true → firstOf w ≤ j
+  first-least = lowest 64 w h l .least
+
   pub rest-less : restOf w < w
   rest-less = omega (arith, pow-pos (firstOf w))
 
@@ -144,6 +165,106 @@ module _ (w : ℕ) (h : 0 < w) (l : w < 2 ^ 64) where
 
   pub rest-in : (j : ℕ) → has (restOf w) j ≡ true → has w j ≡ true
   rest-in j e = and-eq-true-iff (has w j) (not (eqb j (firstOf w))) .0 (sym (rest-has j) ∙ e) .0
+
+-- ---- two sets, digit by digit
+module _
+    (op f : ℕ → ℕ → ℕ) (g : Bool → Bool → Bool) (step : (a b : ℕ) → op a b ≡ op (a / 2) (b / 2) * 2 + f (a % 2) (b % 2))
+    (small : (x y : ℕ) → x < 2 → y < 2 → f x y < 2) (told : (x y : ℕ) → x < 2 → y < 2 → eqb (f x y) 1 ≡ g (eqb x 1) (eqb y 1))
+  where
+    each-has : (a b s : ℕ) → has (op a b) s ≡ g (has a s) (has b s)
+    unfolding has
+    each-has a b zero = ap (λ (x : ℕ). eqb x 1) low ∙ told (a % 2) (b % 2) (omega arith) (omega arith)
+      where
+        low : op a b % 2 ≡ f (a % 2) (b % 2)
+        low = omega (arith, step a b, small (a % 2) (b % 2) (omega arith) (omega arith))
+    each-has a b (suc s) = ap (λ (w : ℕ). has w s) high ∙ each-has (a / 2) (b / 2) s
+      where
+        high : op a b / 2 ≡ op (a / 2) (b / 2)
+        high = omega (arith, step a b, small (a % 2) (b % 2) (omega arith) (omega arith))
+
+pub meet-has : (a b s : ℕ) → has (bitAnd a b) s ≡ has a s && has b s
+meet-has = each-has bitAnd min _&&_ and-step small told
+  where
+    small : (x y : ℕ) → x < 2 → y < 2 → min x y < 2
+    small x y h k = omega (arith, min-le-left x y)
+
+    told : (x y : ℕ) → x < 2 → y < 2 → eqb (min x y) 1 ≡ eqb x 1 && eqb y 1
+    told zero zero h k = refl
+    told zero (suc zero) h k = refl
+    told (suc zero) zero h k = refl
+    told (suc zero) (suc zero) h k = refl
+    told (suc (suc x)) y h k = absurd (omega arith)
+    told zero (suc (suc y)) h k = absurd (omega arith)
+    told (suc zero) (suc (suc y)) h k = absurd (omega arith)
+
+pub union-has : (a b s : ℕ) → has (bitOr a b) s ≡ has a s || has b s
+union-has = each-has bitOr max _||_ or-step small told
+  where
+    small : (x y : ℕ) → x < 2 → y < 2 → max x y < 2
+    small x y h k = let m : max x y ≤ 1 = max-le (omega arith) (omega arith) in omega arith
+
+    told : (x y : ℕ) → x < 2 → y < 2 → eqb (max x y) 1 ≡ eqb x 1 || eqb y 1
+    told zero zero h k = refl
+    told zero (suc zero) h k = refl
+    told (suc zero) zero h k = refl
+    told (suc zero) (suc zero) h k = refl
+    told (suc (suc x)) y h k = absurd (omega arith)
+    told zero (suc (suc y)) h k = absurd (omega arith)
+    told (suc zero) (suc (suc y)) h k = absurd (omega arith)
+
+-- ---- a set whose places are all in another
+digit-le : (x y : ℕ) → x < 2 → (eqb x 1 ≡ true → eqb y 1 ≡ true) → x ≤ y
+digit-le zero y h f = omega arith
+digit-le (suc zero) y h f = omega (arith, eqb-true y 1 (f refl))
+digit-le (suc (suc x)) y h f = absurd (omega arith)
+
+low-le : (u w : ℕ) → ((t : ℕ) → has w t ≡ true → has u t ≡ true) → w % 2 ≤ u % 2
+unfolding has
+low-le u w h = digit-le (w % 2) (u % 2) (omega arith) (h 0)
+
+halves : (u w : ℕ) → ((t : ℕ) → has w t ≡ true → has u t ≡ true) → (t : ℕ) → has (w / 2) t ≡ true → has (u / 2) t ≡ true
+unfolding has
+halves u w h t = h (suc t)
+
+pub subset-le : (u w : ℕ) → ((t : ℕ) → has w t ≡ true → has u t ≡ true) → w ≤ u
+subset-le u w =
+    bin-ind (λ (n : ℕ). (u : ℕ) → ((t : ℕ) → has n t ≡ true → has u t ≡ true) → n ≤ u)
+    (λ u h. omega arith) (λ n ih u h. omega (arith, ih (u / 2) (halves u n h), low-le u n h)) w u
+
+pub minus-has : (u w : ℕ) → ((t : ℕ) → has w t ≡ true → has u t ≡ true) → (s : ℕ) → has (u - w) s ≡ has u s && not (has w s)
+unfolding has
+minus-has u w h zero = ap (λ (x : ℕ). eqb x 1) low ∙ told (u % 2) (w % 2) (omega arith) (low-le u w h)
+  where
+    low : (u - w) % 2 ≡ u % 2 - w % 2
+    low = omega (arith, subset-le (u / 2) (w / 2) (halves u w h), low-le u w h)
+
+    told : (x y : ℕ) → x < 2 → y ≤ x → eqb (x - y) 1 ≡ eqb x 1 && not (eqb y 1)
+    told zero zero k l = refl
+    told zero (suc y) k l = absurd (omega arith)
+    told (suc zero) zero k l = refl
+    told (suc zero) (suc zero) k l = refl
+    told (suc zero) (suc (suc y)) k l = absurd (omega arith)
+    told (suc (suc x)) y k l = absurd (omega arith)
+minus-has u w h (suc s) = ap (λ (x : ℕ). has x s) high ∙ minus-has (u / 2) (w / 2) (halves u w h) s
+  where
+    high : (u - w) / 2 ≡ u / 2 - w / 2
+    high = omega (arith, subset-le (u / 2) (w / 2) (halves u w h), low-le u w h)
+
+-- ---- the places below n, and n alone
+pub below-has : (n s : ℕ) → has (2 ^ n - 1) s ≡ ltb s n
+unfolding has
+below-has zero s = none-has s ∙ sym (le-ltb s 0 (omega arith))
+below-has (suc n) zero = ap (λ (x : ℕ). eqb x 1) low ∙ sym (lt-ltb 0 (suc n) (omega arith))
+  where
+    low : (2 ^ suc n - 1) % 2 ≡ 1
+    low = omega (arith, pow-succ' 2 n, pow-pos n)
+below-has (suc n) (suc s) = ap (λ (x : ℕ). has x s) high ∙ below-has n s ∙ sym (leb·suc-suc (suc s) n)
+  where
+    high : (2 ^ suc n - 1) / 2 ≡ 2 ^ n - 1
+    high = omega (arith, pow-succ' 2 n, pow-pos n)
+
+pub only-has : (n s : ℕ) → has (2 ^ n) s ≡ eqb s n
+only-has n s = ap (λ (w : ℕ). has w s) (sym (zero-add (2 ^ n))) ∙ add-has n 0 s (pow-pos n) ∙ ap (λ (b : Bool). b || eqb s n) (none-has s)
 
 -- ---- a loop over a set
 pub record Walk (I D Q : ℕ → Type 0) (w : ℕ) : Type 0 where

@@ -1,151 +1,143 @@
 -- Laws of the tests of one move.
---   sum-still             a column to which 0 is added passes
---   sum-within, -near     how large what is added is, and the value after it
---   covered-pass          where the columns of the sets pass that cover what is changed, all do
---   sumOf S o q           the sum that a move stands for
---   Tries S b o q w x y   w is that sum, and x and y are the rows of its vectors
---   testable              such a sum can be tested
---   every-, blocking-rows and its tests tell which columns pass under the move
---   covered               the sets of both vectors cover what it changes
+--   moved-passes          whether a column passes, by what is added to it
+--   still-passes          a column to which 0 is added passes
+--   change-small, moved-near   how large what is added is, and the value after it
+--   both-, alone-covered  the sets of a move's vectors have the columns that it changes
+--   blocking-every        by a blocking column, whether all pass
+--   Seeking n f w j      a loop over a set of columns: j is tried, those of w are left, and the others pass
+--   seek-..              for its turns, from the first column on
 -- Assumes nothing.
 use mathlib.Core.Path.{_≡_, refl, sym, _∙_, ap}
-use mathlib.Core.Logic.{_⊎_, ⊎-elim}
-use mathlib.Core.Bool.{Bool, true, false, _&&_, and-eq-true-iff}
+use mathlib.Core.Logic.{_⊎_, inl, inr, ⊎-elim}
+use mathlib.Core.Bool.{Bool, true, false, not, _&&_, _||_, and-eq-true-iff, true≢false}
 use mathlib.Core.List.{List}
-use Prim.Native.Nat.{ℕ, _*_, _<_, _≤_}
+use Prim.Native.Nat.{ℕ, _*_, _^_, _<_, _≤_}
 use native.Mathlib.Omega.{arith}
-use borrow.Author.Tests.{lt-ltb, ltb-true, not-false}
-use lib.Dec.{ltb}
+use borrow.Author.Tests.{lt-ltb, ltb-true, leb-true, leb-false, not-false}
+use lib.Dec.{ltb, leb}
 use lib.IntN.{ℤ, natAbs, _+ℤ_, _*ℤ_, +ℤ-idr, *ℤ-zero}
-use lib.ListN.{length, getD}
-use Rattle.whole.proofs.Counted.{every-all, every-same}
+use lib.ListN.{getD}
+use Rattle.whole.proofs.Counted.{every-all, every-not}
 use Rattle.whole.proofs.Integers.{add-none, isZero-true}
 use Rattle.whole.specs.Lists.{entry}
 use Rattle.whole.specs.Tests.{isZero, every}
 use Rattle.whole.proofs.Signed.{abs-add}
 use Rattle.problem.specs.Limits.{M}
-use Rattle.settling.specs.declared.Measure.{Measure}
+use Rattle.settling.specs.declared.Basis.{Basis}
 use Rattle.settling.specs.declared.Move.{Move}
-use Rattle.settling.specs.Columns.{width, valued, columnAt}
-use Rattle.settling.specs.Moves.{vector, change}
-use Rattle.settling.specs.Sizes.{Crossable}
+use Rattle.settling.specs.Columns.{valued, columnAt}
+use Rattle.settling.specs.Moves.{vector, change, changes}
 use Rattle.settling.specs.Steps.{isAllowed, passes}
 use Rattle.settling.specs.Views.{vectors, OfBasis}
-use Rattle.settling.proofs.Views.{vector-long, vector-small, sum-small, moved-at}
+use Rattle.settling.proofs.Views.{vector-small, sum-small, moved-at}
 use Rattle.settling.proofs.Passing.{passes-still}
-use Rattle.search.specs.declared.Search.{Search}
-use Rattle.search.specs.declared.probes.Sum.{Sum}
-use Rattle.search.specs.Probes.{sumAt, passesBy, Testable, Covered, Blocking, Supported}
-use Rattle.search.specs.Searches.{passing, Searchable}
-use Rattle.search.specs.Sets.{has, touches}
+use Rattle.search.specs.declared.probes.Trial.{Trial}
+use Rattle.search.specs.Probes.{Triable, Covered, Blocking, Supported}
+use Rattle.search.specs.Progress.{alone}
+use Rattle.search.specs.Searches.{passing}
+use Rattle.search.specs.Sets.{has, firstOf, restOf, touches}
+use Rattle.search.proofs.Alone.{alone-basis}
+use Rattle.search.proofs.Setting.{Walk, walk-first, walk-on, walk-end}
 
 -- ---- one column
+module _ (t : Trial) (T v b : List ℤ) (h : Triable t T v b) (j : ℕ) where
+  abbrev added : ℤ
+  added = change (vectors (t .search .view) b) (t .o) j
+
+  pub moved-passes : j < t .search .view .columns
+      → passing (t .search) T v b (t .o) (t .q) j ≡ passes (t .search .part) (valued (columnAt T j) (entry j v +ℤ added)) added (t .q)
+  moved-passes l =
+      ap (λ (z : ℤ). passes (t .search .part) (valued (columnAt T j) z) added (t .q))
+      (moved-at (vectors (t .search .view) b) (t .o) v j (omega (arith, h .searchable .ready .values-long)))
+
+  pub still-passes : j < t .search .view .columns → isZero added ≡ true → passing (t .search) T v b (t .o) (t .q) j ≡ true
+  still-passes l z =
+      moved-passes l
+      ∙ passes-still (t .search .part) (valued (columnAt T j) (entry j v +ℤ added)) added (t .q)
+      (ap (λ (x : ℤ). isAllowed (t .search .part) (valued (columnAt T j) (entry j v +ℤ x))) (isZero-true added z)
+      ∙ ap (λ (x : ℤ). isAllowed (t .search .part) (valued (columnAt T j) x)) (+ℤ-idr (entry j v))
+      ∙ h .searchable .allowed j l) z
+
+  pub change-small : natAbs added ≤ 2 * M
+  change-small = sum-small (t .o .a) _ (t .o .b) _ (of .a) (of .b) (small (t .o .s) (of .s)) (small (t .o .t) (of .t))
+    where
+      of : OfBasis (t .search .view .vectors) (t .o)
+      of = h .of-basis
+
+      small : (s : ℕ) → s < t .search .view .vectors → natAbs (entry j (vector (vectors (t .search .view) b) s)) ≤ M
+      small s k = vector-small (t .search .view) b s (h .searchable .ready .basis) k j
+
+  pub moved-near : natAbs (entry j v +ℤ added) ≤ 3 * M
+  moved-near = omega (arith, abs-add (entry j v) added, h .searchable .ready .values-small j, change-small)
+
+-- ---- the columns that a move changes
 none-added : (a x b y : ℤ) → isZero x ≡ true → isZero y ≡ true → isZero (a *ℤ x +ℤ b *ℤ y) ≡ true
 none-added a x b y e f =
     ap isZero (add-none b (a *ℤ x) y (isZero-true y f) ∙ ap (λ (z : ℤ). a *ℤ z) (isZero-true x e) ∙ *ℤ-zero a)
 
-module _ (T v : List ℤ) (p : Sum) (x y : List ℤ) (t : Testable T v p x y) (j : ℕ) where
-  pub sum-still : j < length v → isZero (sumAt p x y j) ≡ true → passesBy T v p x y j ≡ true
-  sum-still h e =
-      passes-still (p .part) (valued (columnAt T j) (entry j v +ℤ sumAt p x y j)) (sumAt p x y j) (p .q)
-      (ap (λ (z : ℤ). isAllowed (p .part) (valued (columnAt T j) (entry j v +ℤ z))) (isZero-true (sumAt p x y j) e)
-      ∙ ap (λ (z : ℤ). isAllowed (p .part) (valued (columnAt T j) z)) (+ℤ-idr (entry j v))
-      ∙ t .allowed j h) e
+module _ (B : Basis) (b : List ℤ) (U : List ℕ) (u : Supported B b U) where
+  inside : (s : ℕ) → s < B .vectors → (j : ℕ) → has (getD U s 0) j ≡ true → j < B .columns
+  inside s h j e = ltb-true j (B .columns) (and-eq-true-iff (ltb j (B .columns)) (touches B b s j) .0 (sym (u .is s h j) ∙ e) .0)
 
-  pub sum-within : natAbs (sumAt p x y j) ≤ 2 * M
-  sum-within = sum-small (p .a) (entry j x) (p .b) (entry j y) (t .a-small) (t .b-small) (t .x-small j) (t .y-small j)
+  none : (s : ℕ) → s < B .vectors → (j : ℕ) → j < B .columns → has (getD U s 0) j ≡ false → isZero (entry j (vector (vectors B b) s)) ≡ true
+  none s h j l e = not-false _ (sym (u .is s h j ∙ ap (λ (d : Bool). d && touches B b s j) (lt-ltb j (B .columns) l)) ∙ e)
 
-  pub sum-near : natAbs (entry j v +ℤ sumAt p x y j) ≤ 3 * M
-  sum-near = omega (arith, abs-add (entry j v) (sumAt p x y j), t .values-small j, sum-within)
+  pub both-covered : (o : Move) → OfBasis (B .vectors) o → (w : ℕ) → ((j : ℕ) → has w j ≡ has (getD U (o .s) 0) j || has (getD U (o .t) 0) j)
+      → Covered (B .columns) (changes (vectors B b) o) w
+  both-covered o of w f = record { inside = λ j e. some j _ refl _ refl (sym (f j) ∙ e); outside = λ j l e. still j l _ refl _ refl (sym (f j) ∙ e) }
+    where
+      some : (j : ℕ) (x : Bool) → has (getD U (o .s) 0) j ≡ x → (y : Bool) → has (getD U (o .t) 0) j ≡ y → x || y ≡ true → j < B .columns
+      some j true p y q e = inside (o .s) (of .s) j p
+      some j false p true q e = inside (o .t) (of .t) j q
+      some j false p false q e = absurd (true≢false (sym e))
 
--- ---- the columns of two sets
-pub covered-pass : (T v : List ℤ) (p : Sum) (x y : List ℤ) → Testable T v p x y → (w u : ℕ) → Covered (length v) p x y w u
-    → ((j : ℕ) → has w j ≡ true → passesBy T v p x y j ≡ true) → ((j : ℕ) → has u j ≡ true → passesBy T v p x y j ≡ true)
-    → every (length v) (passesBy T v p x y) ≡ true
-covered-pass T v p x y t w u c f g = every-all (length v) (passesBy T v p x y) (λ j h. go j h (has w j) refl (has u j) refl)
+      still : (j : ℕ) → j < B .columns → (x : Bool) → has (getD U (o .s) 0) j ≡ x → (y : Bool) → has (getD U (o .t) 0) j ≡ y
+          → x || y ≡ false → changes (vectors B b) o j ≡ false
+      still j l true p y q e = absurd (true≢false e)
+      still j l false p true q e = absurd (true≢false e)
+      still j l false p false q e = ap not (none-added (o .a) _ (o .b) _ (none (o .s) (of .s) j l p) (none (o .t) (of .t) j l q))
+
+  pub alone-covered : (s x : ℕ) → s < B .vectors → Covered (B .columns) (changes (vectors B b) (alone s x)) (getD U s 0)
+  alone-covered s x h = both-covered (alone s x) (alone-basis (B .vectors) s x h) (getD U s 0) (λ j. twice (has (getD U s 0) j))
+    where
+      twice : (d : Bool) → d ≡ d || d
+      twice true = refl
+      twice false = refl
+
+-- ---- all columns
+pub blocking-every : (n : ℕ) (f : ℕ → Bool) (k : ℕ) → Blocking n f k → leb n k ≡ every n f
+blocking-every n f k g = go (leb n k) refl
   where
-    go : (j : ℕ) → j < length v → (d : Bool) → has w j ≡ d → (e : Bool) → has u j ≡ e → passesBy T v p x y j ≡ true
-    go j h true k e l = f j k
-    go j h false k true l = g j l
-    go j h false k false l = sum-still T v p x y t j h (c .still j h k l)
+    go : (d : Bool) → leb n k ≡ d → d ≡ every n f
+    go true e = sym (g .good (leb-true n k e))
+    go false e = let m : k < n = leb-false n k e in sym (every-not n f k m (g .bad m))
 
--- ---- the rows of a move
-abbrev pub sumOf : Search → Move → Measure → Sum
-sumOf S o q = record { part = S .part; a = o .a; b = o .b; q = q }
+-- ---- a loop over a set of columns
+pub record Seeking (n : ℕ) (f : ℕ → Bool) (w j : ℕ) : Type 0 where
+  pub at : j < n
+  pub walk : Walk (λ t. t < n) (λ t. t < n) (λ t. (t ≡ j) ⊎ (f t ≡ true)) w
 
-pub record Tries (S : Search) (b : List ℤ) (o : Move) (q : Measure) (w : Sum) (x y : List ℤ) : Type 0 where
-  pub sum : w ≡ sumOf S o q
-  pub left : x ≡ vector (vectors (S .view) b) (o .s)
-  pub right : y ≡ vector (vectors (S .view) b) (o .t)
+module _ {n : ℕ} {f : ℕ → Bool} where
+  -- the columns that are not in the set pass
+  pub seek-starts : (w j : ℕ) → w < 2 ^ 64 → j < n → ((t : ℕ) → has w t ≡ true → t < n) → ((t : ℕ) → t < n → has w t ≡ false → f t ≡ true)
+      → Seeking n f w j
+  seek-starts w j h l i o = record { at = l; walk = record { word = h; inside = i; left = λ t k. go t k (has w t) refl } }
+    where
+      go : (t : ℕ) → t < n → (d : Bool) → has w t ≡ d → (has w t ≡ true) ⊎ ((t ≡ j) ⊎ (f t ≡ true))
+      go t k true e = inl e
+      go t k false e = inr (inr (o t k e))
 
-module _
-    (S : Search) (T v b : List ℤ) (o : Move) (q : Measure) (s : Searchable S T v b) (of : OfBasis (S .view .vectors) o)
-    (w : Sum) (x y : List ℤ) (t : Tries S b o q w x y)
-  where
-    abbrev N : List (List ℤ)
-    N = vectors (S .view) b
+  module _ {w j : ℕ} (g : Seeking n f w j) where
+    pub seek-fails : f j ≡ false → Blocking n f j
+    seek-fails e = record { bad = λ _. e; good = λ h. absurd (omega (arith, g .at)) }
 
-    pub testable : Crossable q → Testable T v w x y
-    testable r = rw (t .sum, t .left, t .right) plain
-      where
-        plain : Testable T v (sumOf S o q) (vector N (o .s)) (vector N (o .t))
-        plain =
-            let e = s .ready .values-long in
-            record {
-              long = s .ready .table-long ∙ ap (λ (n : ℕ). width * n) (sym e);
-              x-long = vector-long (S .view) b (o .s) (s .ready .basis) (of .s) ∙ sym e;
-              y-long = vector-long (S .view) b (o .t) (s .ready .basis) (of .t) ∙ sym e;
-              columns = s .ready .columns;
-              values-small = s .ready .values-small;
-              x-small = vector-small (S .view) b (o .s) (s .ready .basis) (of .s);
-              y-small = vector-small (S .view) b (o .t) (s .ready .basis) (of .t);
-              a-small = of .a;
-              b-small = of .b;
-              room = r;
-              allowed = λ j h. s .allowed j (omega arith);
-            }
+    module _ (p : f j ≡ true) where
+      done : (t : ℕ) → (t ≡ j) ⊎ (f t ≡ true) → f t ≡ true
+      done t = ⊎-elim (λ e. ap f e ∙ p) (λ q. q)
 
-    by-rows : (j : ℕ) → j < S .view .columns → passesBy T v w x y j ≡ passing S T v b o q j
-    by-rows j h =
-        (λ i. passesBy T v (t .sum i) (t .left i) (t .right i) j)
-        ∙ sym (ap (λ (z : ℤ). passes (S .part) (valued (columnAt T j) z) (change N o j) q) (moved-at N o v j (omega (arith, s .ready .values-long))))
+      pub seek-ends : w ≡ 0 → (k : ℕ) → n ≤ k → Blocking n f k
+      seek-ends e k h =
+          record { bad = λ l. absurd (omega arith); good = λ _. every-all n f (λ t l. done t (walk-end (g .walk) e t l)) }
 
-    pub every-rows : every (length v) (passesBy T v w x y) ≡ every (S .view .columns) (passing S T v b o q)
-    every-rows =
-        ap (λ (n : ℕ). every n (passesBy T v w x y)) (s .ready .values-long)
-        ∙ every-same (S .view .columns) (passesBy T v w x y) (passing S T v b o q) by-rows
-
-    pub blocking-rows : (k : ℕ) → Blocking (length v) (passesBy T v w x y) k → Blocking (S .view .columns) (passing S T v b o q) k
-    blocking-rows k f = record {
-      bad = λ h. sym (by-rows k h) ∙ f .bad (omega (arith, s .ready .values-long));
-      good = λ h. sym every-rows ∙ f .good (omega (arith, s .ready .values-long));
-    }
-
-    module _ (U : List ℕ) (u : Supported (S .view) b U) where
-      inside : (i : ℕ) → i < S .view .vectors → (j : ℕ) → has (getD U i 0) j ≡ true → j < length v
-      inside i h j e =
-          omega (
-            arith,
-            ltb-true j (S .view .columns)
-                (and-eq-true-iff (ltb j (S .view .columns)) (touches (S .view) b i j) .0 (sym (u .is i h j) ∙ e) .0),
-            s .ready .values-long,
-          )
-
-      none : (i : ℕ) → i < S .view .vectors → (j : ℕ) → j < length v → has (getD U i 0) j ≡ false → isZero (entry j (vector N i)) ≡ true
-      none i h j l e =
-          not-false _ (sym (u .is i h j ∙ ap (λ (d : Bool). d && touches (S .view) b i j)
-          (lt-ltb j (S .view .columns) (omega (arith, s .ready .values-long)))) ∙ e)
-
-      still : (j : ℕ) → j < length v → has (getD U (o .s) 0) j ≡ false → has (getD U (o .t) 0) j ≡ false → isZero (sumAt w x y j) ≡ true
-      still j l e f =
-          ap isZero (λ i. sumAt (t .sum i) (t .left i) (t .right i) j)
-          ∙ none-added (o .a) _ (o .b) _ (none (o .s) (of .s) j l e) (none (o .t) (of .t) j l f)
-
-      pub covered : (i k : ℕ) → ((i ≡ o .s) × (k ≡ o .t)) ⊎ ((i ≡ o .t) × (k ≡ o .s)) → Covered (length v) w x y (getD U k 0) (getD U i 0)
-      covered i k e = ⊎-elim (λ h. rw (h .0, h .1) crossed) (λ h. rw (h .0, h .1) straight) e
-        where
-          straight : Covered (length v) w x y (getD U (o .s) 0) (getD U (o .t) 0)
-          straight = record { one = inside (o .s) (of .s); other = inside (o .t) (of .t); still = still }
-
-          crossed : Covered (length v) w x y (getD U (o .t) 0) (getD U (o .s) 0)
-          crossed = record { one = inside (o .t) (of .t); other = inside (o .s) (of .s); still = λ j l e f. still j l f e }
+      pub seek-on : 0 < w → Seeking n f (restOf w) (firstOf w)
+      seek-on h = record { at = walk-first (g .walk) h; walk = walk-on (g .walk) h (λ t q. inr (done t q)) (λ _. inl refl) }

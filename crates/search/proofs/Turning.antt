@@ -1,20 +1,24 @@
 -- From one step to the next.
 --   part-goals, -bounds  the part that is reached, by whether a column is ranked in the bounds part
+--   reached-rankable     the columns can be ranked in that part
+--   gathered-ranked        its columns, put into their ranking
 --   ranked-part          a ranking that is kept is of that part
 --   ready-turnable       ready columns can be ranked in the part that is reached
 --   ranked-setup         a ranking of that part can be searched
 --   turned               the step along the ranking is the next step
 --   arranged-none, -next   what is kept at first, and after a step
+--   arranged-listed      in the goals part that has its columns
 -- Assumes nothing.
 use mathlib.Core.Path.{_≡_, refl, sym, _∙_, ap, ap₂, subst}
 use mathlib.Core.Bool.{Bool, true, false}
-use mathlib.Core.List.{List, [], _∷_}
+use mathlib.Core.List.{List, [], _∷_, _++_}
 use Prim.Native.Nat.{ℕ, _<_, _≤_}
 use native.Mathlib.Omega.{arith}
 use borrow.Author.Tests.{eqb-true, eq-eqb, ltb-true, ltb-false}
 use lib.Dec.{ltb, eqb}
 use lib.IntN.{ℤ}
-use lib.ListN.{length, take, getD, length-take}
+use lib.ListN.{length, take, drop, getD, length-take}
+use lib.Seq.{take-at}
 use Rattle.whole.proofs.Counted.{every-at, every-all}
 use Rattle.whole.proofs.Never.{never}
 use Rattle.problem.specs.Limits.{maxColumns}
@@ -36,14 +40,14 @@ use Rattle.settling.proofs.Insertion.{each-at, each-ranked, ranked-each}
 use Rattle.settling.proofs.Rankings.{ranking-below, ranking-in, ranking-falls}
 use Rattle.settling.proofs.Stepping.{next-taken, taken-allowed}
 use Rattle.search.specs.declared.turns.Ranked.{Ranked}
-use Rattle.search.specs.Ranked.{Rankable}
+use Rattle.search.specs.Ranked.{Rankable, Permuted}
 use Rattle.search.specs.Searches.{InOrder, Setup, stepAlong}
-use Rattle.search.specs.Turning.{unranked, Turnable, Arranged, RankedIn}
+use Rattle.search.specs.Turning.{unranked, Turnable, Arranged, Gathered, RankedIn}
 use Rattle.search.proofs.Ranked.{goals-permuted}
 use Rattle.search.proofs.Reached.{searchOf, ready-measurable, ready-searchable, search-measurable, search-proper}
 
 -- ---- the part, by the columns out of bounds
-module _ (C : Columns) (v : List ℤ) where
+module _ (C : Columns) (v : List ℤ) (L : List ℕ) (m : Permuted (rankedAt Bounds C v) (C .count) L) where
   inside : (d : ℕ) → (ltb 0 d ≡ true → ⊥) → eqb d 0 ≡ true
   inside d f = go (ltb 0 d) refl
     where
@@ -51,37 +55,47 @@ module _ (C : Columns) (v : List ℤ) where
       go true e = absurd (f e)
       go false e = eq-eqb d 0 (omega (arith, ltb-false 0 d e))
 
-  none-ranked : ranking Bounds C v ≡ [] → inBounds C v ≡ true
+  none-ranked : L ≡ [] → inBounds C v ≡ true
   unfolding isRanked
   none-ranked e =
       every-all (C .count) (λ j. eqb (distance (cell C v j)) 0)
       (λ j h. inside (distance (cell C v j)) (λ r.
-      ranked-each (λ i. ⊥) (rankedAt Bounds C v) (largerAt Bounds C v) (C .count) 0 j
-      (subst (Each (λ i. ⊥)) (sym e) tt) (omega arith) (omega arith) r))
+      ranked-each (λ i. ⊥) (rankedAt Bounds C v) (m .by) (C .count) 0 j
+      (subst (Each (λ i. ⊥)) (sym e ∙ m .is) tt) (omega arith) (omega arith) r))
 
-  some-ranked : 0 < length (ranking Bounds C v) → inBounds C v ≡ true → ⊥
+  some-ranked : 0 < length L → inBounds C v ≡ true → ⊥
   unfolding isRanked
   some-ranked h e =
-      let q = each-at (λ j. (j < C .count) × (rankedAt Bounds C v j ≡ true)) 0 (ranking Bounds C v) 0
-      (each-ranked (λ j. (j < C .count) × (rankedAt Bounds C v j ≡ true)) (rankedAt Bounds C v) (largerAt Bounds C v) (C .count) 0
-      (λ j l g r. (omega arith, r))) h in
-      let i = getD (ranking Bounds C v) 0 0 in
+      let q = each-at (λ j. (j < C .count) × (rankedAt Bounds C v j ≡ true)) 0 L 0
+      (subst (Each (λ j. (j < C .count) × (rankedAt Bounds C v j ≡ true))) (sym (m .is))
+      (each-ranked (λ j. (j < C .count) × (rankedAt Bounds C v j ≡ true)) (rankedAt Bounds C v) (m .by) (C .count) 0
+      (λ j l g r. (omega arith, r)))) h in
+      let i = getD L 0 0 in
       let z : distance (cell C v i) ≡ 0 = eqb-true _ 0 (every-at (C .count) (λ j. eqb (distance (cell C v j)) 0) i e (q .0)) in
       omega (arith, ltb-true 0 (distance (cell C v i)) (q .1))
 
-  pub part-goals : length (ranking Bounds C v) ≡ 0 → partOf C v ≡ Goals
-  part-goals e = ap partIf (none-ranked (empty (ranking Bounds C v) e))
+  pub part-goals : length L ≡ 0 → partOf C v ≡ Goals
+  part-goals e = ap partIf (none-ranked (empty L e))
     where
-      empty : (L : List ℕ) → length L ≡ 0 → L ≡ []
+      empty : (S : List ℕ) → length S ≡ 0 → S ≡ []
       empty [] e = refl
-      empty (x ∷ L) e = absurd (omega arith)
+      empty (x ∷ S) e = absurd (omega arith)
 
-  pub part-bounds : 0 < length (ranking Bounds C v) → partOf C v ≡ Bounds
+  pub part-bounds : 0 < length L → partOf C v ≡ Bounds
   part-bounds h = ap partIf (go (inBounds C v) refl)
     where
       go : (t : Bool) → inBounds C v ≡ t → inBounds C v ≡ false
       go true e = absurd (some-ranked h e)
       go false e = e
+
+-- ---- the part that is reached
+pub reached-rankable : (T v : List ℤ) → Turnable T v → (p : Part) → p ≡ partOf (columnsIn (length v) T) v → Rankable p T v
+reached-rankable T v t Bounds e = t .bounds
+reached-rankable T v t Goals e = t .goals (sym e)
+
+pub gathered-ranked : (T v : List ℤ) (l K : List ℕ) (x : Ranked) → x .part ≡ partOf (columnsIn (length v) T) v → Gathered T v l x → length K ≡ x .len
+    → K ≡ ranking (x .part) (columnsIn (length v) T) v → RankedIn T v (K ++ drop (x .len) l) x
+gathered-ranked T v l K x p g e f = record { part = p; few = g .few; columns = take-at K (drop (x .len) l) (x .len) e ∙ f }
 
 -- ---- ready columns
 module _ {B : Basis} {T v b : List ℤ} (r : Ready B v T b) where
@@ -161,6 +175,16 @@ arranged-none T v l x none = record { part = λ e. absurd (apart e); few = λ e.
   where
     apart : x .part ≡ Goals → ⊥
     apart e = let b : x .part ≡ Bounds = ap (λ (y : Ranked). y .part) none in never (cc)
+
+pub arranged-listed : (T v : List ℤ) (l : List ℕ) (x : Ranked) → Arranged T v l x → x .part ≡ Goals
+    → (x .part ≡ partOf (columnsIn (length v) T) v) × Gathered T v l x
+arranged-listed T v l x a e = (
+  e ∙ sym (a .part e),
+  record {
+    few = a .few e;
+    columns = subst (λ (p : Part). Permuted (rankedAt p (columnsIn (length v) T) v) (length v) (take (x .len) l)) (sym e) (a .columns e);
+  },
+)
 
 module _
     {B : Basis} {T v b : List ℤ} (r : Ready B v T b) {l : List ℕ} {x : Ranked} (q : RankedIn T v l x) {i : ℕ} {o : Move}

@@ -5,7 +5,6 @@ pub mod Numbers
 pub mod Notes
 pub mod Probes
 pub mod Progress
-pub mod Places
 pub mod Sorting
 pub mod Kept
 pub mod Ranked

@@ -1,21 +1,23 @@
--- What a search notes of each vector, in one list of numbers: where it was visited, and its blocking columns.
---   noteWidth, notesLong   how many numbers a note has, and how many all have
---   visitedAt l s          the place of the ranking at which vector s was visited; maxColumns where it was not
---   blockingAt l s x       its blocking column with the sign of mark x: it fails there alone, against the measure of that place
+-- What a search notes of each vector, in one list of numbers: for either sign a column at which it failed alone.
+--   noteWidth, notesLong   how many numbers a vector has, and how many all have
+--   blockingAt l s x       the column noted for vector s with the sign of mark x
+--   Noted n l              a list of notes that name columns, of n; at first they may be any
 -- Assumes nothing.
+use mathlib.Core.Path.{_≡_}
 use mathlib.Core.List.{List}
-use Prim.Native.Nat.{ℕ, _+_, _*_}
-use lib.ListN.{getD}
+use Prim.Native.Nat.{ℕ, _+_, _*_, _<_}
+use lib.ListN.{length, getD}
 use Rattle.problem.specs.Limits.{maxColumns}
 
 abbrev pub noteWidth : ℕ
-noteWidth = 3
+noteWidth = 2
 
 abbrev pub notesLong : ℕ
 notesLong = noteWidth * maxColumns
 
-abbrev pub visitedAt : List ℕ → ℕ → ℕ
-visitedAt l s = getD l (noteWidth * s) 0
-
 abbrev pub blockingAt : List ℕ → ℕ → ℕ → ℕ
-blockingAt l s x = getD l (noteWidth * s + 1 + x) 0
+blockingAt l s x = getD l (noteWidth * s + x) 0
+
+pub record Noted (n : ℕ) (l : List ℕ) : Type 0 where
+  pub long : length l ≡ notesLong
+  pub each : 0 < n → (c : ℕ) → getD l c 0 < n

@@ -3,6 +3,7 @@
 --   unranked             what is kept before the first step
 --   Turnable T v         the columns can be ranked in the bounds part, and in the goals part once it is reached
 --   Arranged T v l x     the list l begins with the columns of the last ranking x, if that was of the goals part, which still goes on
+--   Gathered T v l x     the list l begins with the columns of the part of x, however arranged
 --   RankedIn T v l x     x is the ranking of the part that is reached, with which the list l begins
 -- Assumes nothing.
 use mathlib.Core.Path.{_≡_}
@@ -27,6 +28,10 @@ pub record Arranged (T v : List ℤ) (l : List ℕ) (x : Ranked) : Type 0 where
   pub part : x .part ≡ Goals → partOf (columnsIn (length v) T) v ≡ Goals
   pub few : x .part ≡ Goals → x .len ≤ length v
   pub columns : x .part ≡ Goals → Permuted (rankedAt Goals (columnsIn (length v) T) v) (length v) (take (x .len) l)
+
+pub record Gathered (T v : List ℤ) (l : List ℕ) (x : Ranked) : Type 0 where
+  pub few : x .len ≤ length v
+  pub columns : Permuted (rankedAt (x .part) (columnsIn (length v) T) v) (length v) (take (x .len) l)
 
 pub record RankedIn (T v : List ℤ) (l : List ℕ) (x : Ranked) : Type 0 where
   pub part : x .part ≡ partOf (columnsIn (length v) T) v

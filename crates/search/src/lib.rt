@@ -4,7 +4,7 @@ ghost use Rattle.settling.specs.Columns.{columnsIn};
 ghost use Rattle.settling.specs.Ready.{Ready};
 ghost use Rattle.settling.specs.Steps.{nextStep, turnOf};
 ghost use Rattle.settling.specs.Views.{vectors};
-use notes::NOTE_WIDTH;
+use places::NOTE_WIDTH;
 use places::first_step;
 use problem::Problem;
 use ranking::SIZE_WIDTH;
@@ -16,7 +16,6 @@ use settling::Turn;
 use turns::rank_next;
 use turns::unranked;
 
-mod notes;
 mod numbers;
 mod places;
 mod probes;

@@ -1,11 +1,13 @@
 // Sets of columns or of vectors: a word for each.
 ghost use mathlib.Core.Path.{_≡_};
-ghost use Prim.Native.Nat.{_<_, _≤_};
+ghost use mathlib.Core.Bool.{true, not, _&&_, _||_};
+ghost use Prim.Native.Nat.{ℕ, _<_, _≤_};
+ghost use lib.Dec.{eqb, ltb};
 ghost use lib.ListN.{length};
 ghost use Rattle.problem.specs.Limits.{maxColumns};
 ghost use Rattle.settling.specs.Moves.{vector};
 ghost use Rattle.settling.specs.Views.{vectors, Viewed};
-ghost use Rattle.search.specs.Sets.{firstOf, restOf, supportOf, Indexed, Held, Holdable, Blank};
+ghost use Rattle.search.specs.Sets.{has, firstOf, restOf, supportOf, Indexed, Held, Holdable, Blank};
 use settling::Basis;
 use settling::measures::is_zero;
 
@@ -25,6 +27,44 @@ pub(crate) fn rest(set: Set) -> Set
     ensures { λ r. ⌜ r ≡ restOf set ⌝ }
 {
     set - (1u64 << u64::trailing_zeros(set))
+}
+
+// The places below n.
+pub(crate) fn below(n: usize) -> Set
+    requires { ⌜ n < 64 ⌝ }
+    ensures { λ r. ⌜ ((s : ℕ) → has r s ≡ ltb s n) ⌝ }
+{
+    (1u64 << n) - 1
+}
+
+// The places of both of two sets.
+pub(crate) fn meet(a: Set, b: Set) -> Set
+    ensures { λ r. ⌜ ((s : ℕ) → has r s ≡ has a s && has b s) ⌝ }
+{
+    a & b
+}
+
+// The places of either of two sets.
+pub(crate) fn union(a: Set, b: Set) -> Set
+    ensures { λ r. ⌜ ((s : ℕ) → has r s ≡ has a s || has b s) ⌝ }
+{
+    a | b
+}
+
+// A set without the places of another, which are all in it.
+pub(crate) fn without(a: Set, b: Set) -> Set
+    requires { ⌜ ((s : ℕ) → has b s ≡ true → has a s ≡ true) ⌝ }
+    ensures { λ r. ⌜ ((s : ℕ) → has r s ≡ has a s && not (has b s)) ⌝ }
+{
+    a - b
+}
+
+// A set of one place.
+pub(crate) fn only(n: usize) -> Set
+    requires { ⌜ n < 64 ⌝ }
+    ensures { λ r. ⌜ ((s : ℕ) → has r s ≡ eqb s n) ⌝ }
+{
+    1u64 << n
 }
 
 // The places at which a row is not 0, from the last on.

@@ -8,7 +8,7 @@ ghost use Rattle.settling.specs.Ready.{Ready};
 ghost use Rattle.settling.specs.Settle as Settle;
 ghost use Rattle.settling.specs.Views.{vectors};
 use crate::Search;
-use crate::notes::NOTE_WIDTH;
+use crate::places::NOTE_WIDTH;
 use crate::places::first_step;
 use crate::ranking::SIZE_WIDTH;
 use crate::sets::find_sets;

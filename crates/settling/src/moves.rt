@@ -21,7 +21,7 @@ pub fn combine(a: i64, x: i64, b: i64, y: i64) -> i64
 }
 
 // What a move adds to column j.
-fn change(basis: &[i64], view: Basis, o: Move, j: usize) -> i64
+pub fn change(basis: &[i64], view: Basis, o: Move, j: usize) -> i64
     requires { ⌜ Viewed view (now basis) × OfBasis (view .vectors) o × (j < view .columns) ⌝ }
     ensures { λ r. ⌜ r ≡ Moves.change (vectors view (now (basis .entry))) o j ⌝ }
 {

@@ -1,30 +1,29 @@
 -- `search::turn_at` meets its contract: the part that is reached is ranked, and searched place by place. Assumes nothing.
 use mathlib.Core.Path.{refl, sym, _∙_}
 use native.Mathlib.Omega.{arith}
-use borrow.Author.Needs.{needs}
 use lib.ListN.{length-take}
-use Rattle.search.proofs.Finding.{cleared}
+use Rattle.search.proofs.Finding.{cleared, unnoted}
 use Rattle.search.proofs.Turning.{arranged-none, ready-turnable, ranked-part, ranked-setup, turned}
 use Rattle.search.proofs.turn_at.Statement.{statement}
 use Rattle.search.proofs.turn_at.Tie as tie
 
 slice-aggregate-find-sets : tie.Need-slice-aggregate-find-sets
-slice-aggregate-find-sets c = search needs
+slice-aggregate-find-sets c = refl
 
 slice-aggregate-find-sets-2 : tie.Need-slice-aggregate-find-sets-2
-slice-aggregate-find-sets-2 c = search needs
+slice-aggregate-find-sets-2 c = refl
 
 find-sets-requires : tie.Need-find-sets-requires
 find-sets-requires c κs = let s = c .before .before in (s .pre .basis, s .pre .few, s .pre .few-vectors, refl, cleared)
 
 unranked-requires : tie.Need-unranked-requires
-unranked-requires c κs = search needs
+unranked-requires c κs = tt
 
 slice-aggregate-rank-next : tie.Need-slice-aggregate-rank-next
-slice-aggregate-rank-next c = search needs
+slice-aggregate-rank-next c = refl
 
 slice-aggregate-rank-next-2 : tie.Need-slice-aggregate-rank-next-2
-slice-aggregate-rank-next-2 c = search needs
+slice-aggregate-rank-next-2 c = refl
 
 rank-next-requires : tie.Need-rank-next-requires
 rank-next-requires c κs =
@@ -49,20 +48,24 @@ slice-aggregate-first-step c =
     sym (length-take (k .result .len) (k .last .1 .1 .1 .1 .0) ∙ omega (arith, k .ensures .few, k .kept .1 .1 .1 .1 .0, p .few, p .values-long))
 
 slice-aggregate-first-step-2 : tie.Need-slice-aggregate-first-step-2
-slice-aggregate-first-step-2 c = search needs
+slice-aggregate-first-step-2 c =
+    let after-find-sets = c .before .before .before .before .before .before .before .before .before .before in
+    sym (after-find-sets .find-sets .ensures .supports-long)
 
 slice-aggregate-first-step-3 : tie.Need-slice-aggregate-first-step-3
-slice-aggregate-first-step-3 c = search needs
+slice-aggregate-first-step-3 c =
+    let after-find-sets = c .before .before .before .before .before .before .before .before .before .before .before in
+    sym (after-find-sets .find-sets .ensures .holders-long)
 
 slice-aggregate-first-step-4 : tie.Need-slice-aggregate-first-step-4
-slice-aggregate-first-step-4 c = search needs
+slice-aggregate-first-step-4 c = refl
 
 first-step-requires : tie.Need-first-step-requires
 first-step-requires c κs =
     let after-sizes2 = c .before .before .before .before .before in
     let k = after-sizes2 .before in
     let after-unranked = k .before .before .before in
-    (ranked-setup (start k .pre) (k .rank-next .ensures), after-unranked .before .before .before .find-sets .ensures, refl)
+    (ranked-setup (start k .pre) (k .rank-next .ensures), after-unranked .before .before .before .find-sets .ensures, unnoted _)
 
 returns : tie.Need-returns
 returns c =
@@ -70,7 +73,7 @@ returns c =
     let after-order2 = after-first-step .before .before .before .before .before in
     let k = after-order2 .before .before in
     let part = ranked-part (start k .pre) (k .rank-next .ensures) in
-    let step = c .before .first-step .ensures ∙ turned (start k .pre) (k .rank-next .ensures) in
+    let step = c .before .first-step .ensures .0 ∙ turned (start k .pre) (k .rank-next .ensures) in
     (λ i. record { part = part i; step = step i })
 
 pub turn-at-spec : {M : Type 1} → statement M

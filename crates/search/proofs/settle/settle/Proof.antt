@@ -3,7 +3,6 @@ use mathlib.Core.Path.{_≡_, refl, sym, _∙_, ap, subst}
 use mathlib.Core.List.{List}
 use Prim.Native.Nat.{_+_, _-_, _*_, _≤_}
 use native.Mathlib.Omega.{arith}
-use borrow.Author.Needs.{needs}
 use lib.IntN.{ℤ}
 use lib.ListN.{length, length-take}
 use Rattle.problem.specs.Limits.{maxColumns}
@@ -17,10 +16,10 @@ use Rattle.settling.specs.Steps as Steps
 use Rattle.settling.specs.Views.{vectors}
 use Rattle.settling.proofs.Settlings.{counted-sum, taken-ready, settle-rest, settle-spent, settle-on}
 use Rattle.search.specs.Kept.{sizeWidth}
-use Rattle.search.specs.Notes.{notesLong}
+use Rattle.search.specs.Notes.{Noted}
 use Rattle.search.specs.Sets.{Indexed}
 use Rattle.search.specs.Turning.{Arranged}
-use Rattle.search.proofs.Finding.{cleared}
+use Rattle.search.proofs.Finding.{cleared, unnoted}
 use Rattle.search.proofs.Turning.{arranged-none, arranged-next, ready-turnable, ranked-part, ranked-setup, turned}
 use Rattle.search.proofs.settle.settle.Statement.{statement}
 use Rattle.search.proofs.settle.settle.Tie as tie
@@ -30,7 +29,7 @@ Inv-loop values₀ columns basis view limit supports holders order₀ sizes₀ n
     Ready view values columns basis × (length values ≡ length values₀) × (counts .bounds + counts .goals + left ≤ limit)
     × (Settle.settleFrom left (columnsIn (view .columns) columns) (vectors view basis) counts values
     ≡ Settle.settle limit (columnsIn (view .columns) columns) (vectors view basis) values₀)
-    × Indexed view basis supports holders × (length order ≡ maxColumns) × (length sizes ≡ sizeWidth * maxColumns) × (length notes ≡ notesLong)
+    × Indexed view basis supports holders × (length order ≡ maxColumns) × (length sizes ≡ sizeWidth * maxColumns) × Noted (view .columns) notes
     × Arranged columns values order ranked
 
 abbrev μ-loop : tie.MeasureT-loop
@@ -63,22 +62,22 @@ found :
     (t : tie.After-first-step Inv-loop μ-loop) →
     let l = turn (ranked t) in
     Steps.nextStep (C (start l)) (N (start l)) (l .loop .values) ≡ t .first-step .result
-found t = let k = ranked t in sym (t .first-step .ensures ∙ turned (turn k .loop .inv .0) (k .rank-next .ensures))
+found t = let k = ranked t in sym (t .first-step .ensures .0 ∙ turned (turn k .loop .inv .0) (k .rank-next .ensures))
 
 slice-aggregate-find-sets : tie.Need-slice-aggregate-find-sets Inv-loop μ-loop
-slice-aggregate-find-sets c = search needs
+slice-aggregate-find-sets c = refl
 
 slice-aggregate-find-sets-2 : tie.Need-slice-aggregate-find-sets-2 Inv-loop μ-loop
-slice-aggregate-find-sets-2 c = search needs
+slice-aggregate-find-sets-2 c = refl
 
 find-sets-requires : tie.Need-find-sets-requires Inv-loop μ-loop
 find-sets-requires c κs = let s = c .before .before in (s .pre .basis, s .pre .few, s .pre .few-vectors, refl, cleared)
 
 unranked-requires : tie.Need-unranked-requires Inv-loop μ-loop
-unranked-requires c κs = search needs
+unranked-requires c κs = tt
 
 no-steps-requires : tie.Need-no-steps-requires Inv-loop μ-loop
-no-steps-requires c κs = search needs
+no-steps-requires c κs = tt
 
 loop-holds : tie.Need-loop-holds Inv-loop μ-loop
 unfolding Settle.settle
@@ -93,7 +92,7 @@ loop-holds c =
       f .find-sets .ensures,
       refl,
       refl,
-      refl,
+      unnoted (s .args .view .columns),
       arranged-none _ _ _ _ (c .before .unranked .ensures),
     )
 
@@ -123,15 +122,15 @@ slice-aggregate-first-step c =
     ∙ omega (arith, k .ensures .few, k .kept .1 .1 .1 .1 .0, i .0 .few, i .0 .values-long, i .5))
 
 slice-aggregate-first-step-2 : tie.Need-slice-aggregate-first-step-2 Inv-loop μ-loop
-slice-aggregate-first-step-2 c = search needs
+slice-aggregate-first-step-2 c = sym (turn (c .before .before .before .before .before) .loop .inv .4 .supports-long)
 
 slice-aggregate-first-step-3 : tie.Need-slice-aggregate-first-step-3 Inv-loop μ-loop
-slice-aggregate-first-step-3 c = search needs
+slice-aggregate-first-step-3 c = sym (turn (c .before .before .before .before .before .before) .loop .inv .4 .holders-long)
 
 slice-aggregate-first-step-4 : tie.Need-slice-aggregate-first-step-4 Inv-loop μ-loop
 slice-aggregate-first-step-4 c =
     let after-order2 = c .before .before .before .before .before in
-    sym (turn (after-order2 .before .before) .loop .inv .7)
+    sym (turn (after-order2 .before .before) .loop .inv .7 .long)
 
 first-step-requires : tie.Need-first-step-requires Inv-loop μ-loop
 first-step-requires c κs =
@@ -141,10 +140,10 @@ first-step-requires c κs =
     (ranked-setup (i .0) (k .rank-next .ensures), i .4, i .7)
 
 enum-told : tie.Need-enum-told Inv-loop μ-loop
-enum-told c = search needs
+enum-told c = c .match .keys1
 
 at-rest-requires : tie.Need-at-rest-requires Inv-loop μ-loop
-at-rest-requires c κs = search needs
+at-rest-requires c κs = tt
 
 same-length : tie.Need-same-length Inv-loop μ-loop
 same-length c = turn (ranked (c .before .before .before .before)) .loop .inv .1
@@ -159,7 +158,7 @@ returns c =
     (sym (c .at-rest .ensures ∙ ap (λ (p : Part). Settle.atRest p (l .counts)) (reached (ranked t)))))
 
 enum-known-step : tie.Need-enum-known-step Inv-loop μ-loop
-enum-known-step c = search needs
+enum-known-step c = c .match .keys2
 
 same-length-2 : tie.Need-same-length-2 Inv-loop μ-loop
 same-length-2 c = turn (ranked (c .before .before .before .before .before)) .loop .inv .1
@@ -218,7 +217,7 @@ loop-again c =
       l .inv .4,
       k .kept .1 .1 .1 .1 .0 ∙ l .inv .5,
       k .kept .1 .1 .1 .0 ∙ l .inv .6,
-      t .first-step .kept .1 .1 .1 .1 .1 .1 .1 .0 ∙ l .inv .7,
+      t .first-step .ensures .1,
       subst (λ (v : List ℤ). Arranged (s .args .columns .now) v (k .last .1 .1 .1 .1 .0) (k .result)) (sym (m .ensures))
           (arranged-next (l .inv .0) (k .ensures) e),
     )

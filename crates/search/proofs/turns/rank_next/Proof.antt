@@ -1,46 +1,46 @@
--- `search::turns::rank_next` meets its contract: a column out of bounds tells the part; in the goals part the order has its columns already.
--- Assumes nothing.
-use mathlib.Core.Path.{_≡_, sym, _∙_, ap}
-use Prim.Native.Nat.{_≤_}
+-- `search::turns::rank_next` meets its contract: the columns of the part that is reached, sorted, are its ranking. Assumes nothing.
+use mathlib.Core.Path.{_≡_, sym, _∙_}
+use mathlib.Core.List.{List}
+use Prim.Native.Nat.{ℕ}
 use native.Mathlib.Omega.{arith}
+use lib.ListN.{length, take}
+use lib.Seq.{length-take-le}
+use Rattle.search.proofs.Turning.{reached-rankable, gathered-ranked}
 use borrow.Author.Needs.{needs}
-use lib.ListN.{length, length-take}
-use lib.Seq.{take-at}
-use Rattle.settling.specs.declared.Part.the-variants.{Bounds, Goals}
-use Rattle.settling.specs.Columns.{columnsIn}
-use Rattle.settling.specs.Steps.{partOf, ranking}
-use Rattle.search.proofs.Turning.{part-goals, part-bounds}
 use Rattle.search.proofs.turns.rank_next.Statement.{statement}
 use Rattle.search.proofs.turns.rank_next.Tie as tie
 
-abbrev start : tie.After-rank → tie.Start
-start k = k .before .before .before .before .before .before .before
+module _ (g : tie.After-gather-next) where
+  abbrev s : tie.Start
+  s = g .before .before .before .before
 
--- how many columns lie out of bounds
-outside :
-    (c : tie.After-rank) →
-    let a = start c .args in
-    length (ranking Bounds (columnsIn (length (a .values .now)) (a .columns .now)) (a .values .now)) ≡ c .rank .result
-outside c =
-    sym (ap length (c .rank .ensures .1)) ∙ length-take (c .rank .result) (c .rank .last .1 .1 .1 .1 .0)
-    ∙ omega (arith, c .rank .ensures .0, c .rank .kept .1 .1 .1 .1 .0, start c .pre .2)
+  abbrev L : List ℕ
+  L = g .gather-next .last .1 .1 .1 .0
 
--- then the goals part is reached
-reached :
-    (c : tie.After-rank) →
-    let a = start c .args in
-    c .rank .result ≤ 0 → partOf (columnsIn (length (a .values .now)) (a .columns .now)) (a .values .now) ≡ Goals
-reached c h =
-    let a = start c .args in
-    part-goals (columnsIn (length (a .values .now)) (a .columns .now)) (a .values .now) (omega (arith, outside c))
+  abbrev len : ℕ
+  len = g .gather-next .result .len
 
-enum-told : tie.Need-enum-told
-enum-told c = search needs
+  -- the columns gathered lie in the order
+  gathered : length (take len L) ≡ len
+  gathered = length-take-le len L (omega (arith, g .gather-next .ensures .1 .few, g .gather-next .kept .1 .1 .1 .0, s .pre .2))
 
-rank-requires : tie.Need-rank-requires
-rank-requires c κs =
-    let entered = c .before .before .before .before .before in
-    let s = entered .before in (s .pre .0 .bounds, s .pre .1, s .pre .2)
+gather-next-requires : tie.Need-gather-next-requires
+gather-next-requires c κs = let p = c .before .before .before .pre in (p .0, p .2, p .3)
+
+slice-relend-prefix-sort : tie.Need-slice-relend-prefix-sort
+slice-relend-prefix-sort c =
+    let g = c .before .before .before in
+    omega (arith, g .gather-next .ensures .1 .few, g .gather-next .kept .1 .1 .1 .0, s g .pre .2)
+
+slice-aggregate-sort : tie.Need-slice-aggregate-sort
+slice-aggregate-sort c = sym (gathered (c .before .before .before .before))
+
+sort-requires : tie.Need-sort-requires
+sort-requires c κs =
+    let g = c .before .before .before .before in
+    let a = s g .args in
+    let n = g .gather-next in
+    (reached-rankable (a .columns .now) (a .values .now) (s g .pre .0) (n .result .part) (n .ensures .0), s g .pre .1, n .ensures .1 .columns)
 
 same-length : tie.Need-same-length
 same-length c = search needs
@@ -50,99 +50,21 @@ same-length-2 c = search needs
 
 returns : tie.Need-returns
 returns c =
-    let k = c .before .before .before .before .before in
-    let a = start k .args in
-    record {
-      part = sym (part-bounds (columnsIn (length (a .values .now)) (a .columns .now)) (a .values .now) (omega (arith, outside k, c .if1 .taken)));
-      few = k .rank .ensures .0;
-      columns = k .rank .ensures .1;
-    }
-
-rank-requires-2 : tie.Need-rank-requires-2
-rank-requires-2 c κs =
-    let else1 = c .before .before in
-    let k = else1 .before .before .before .before .before in
-    let p = start k .pre in (
-      p .0 .goals (reached k (omega (arith, c .before .before .if1 .left))),
-      omega (arith, p .1, k .rank .kept .1 .1 .1 .0),
-      omega (arith, p .2, k .rank .kept .1 .1 .1 .1 .0),
-    )
-
-enum-told-2 : tie.Need-enum-told-2
-enum-told-2 c = search needs
-
-slice-relend-prefix-rank-again : tie.Need-slice-relend-prefix-rank-again
-slice-relend-prefix-rank-again c =
-    let p = c .before .before .before .before .before .pre in
-    omega (arith, p .3 .few (c .before .enum-told2 .given .1), p .2)
-
-slice-aggregate-rank-again : tie.Need-slice-aggregate-rank-again
-slice-aggregate-rank-again c =
-    let entered = c .before .before .before .before .before in
-    let s = entered .before in
-    sym (length-take (s .args .last .len) (s .args .order .now) ∙ omega (arith, s .pre .3 .few (c .before .before .enum-told2 .given .1), s .pre .2))
-
-rank-again-requires : tie.Need-rank-again-requires
-rank-again-requires c κs =
-    let entered = c .before .before .before .before .before in
-    let s = entered .before in
-    let e = c .before .before .enum-told2 .given .1 in
-    (s .pre .0 .goals (s .pre .3 .part e), s .pre .1, s .pre .3 .columns e)
-
-same-length-3 : tie.Need-same-length-3
-same-length-3 c = search needs
-
-same-length-4 : tie.Need-same-length-4
-same-length-4 c = search needs
-
-returns-2 : tie.Need-returns-2
-returns-2 c =
-    let k = c .before .before .before .before in
-    let n = k .before .before .before in
-    record {
-      part = sym (reached (n .before .before .before .before .before) (omega (arith, n .if1 .left)));
-      few = k .rank2 .ensures .0;
-      columns = k .rank2 .ensures .1;
-    }
-
-same-length-5 : tie.Need-same-length-5
-same-length-5 c = search needs
-
-same-length-6 : tie.Need-same-length-6
-same-length-6 c = search needs
-
-returns-3 : tie.Need-returns-3
-returns-3 c =
-    let after-rank-again = c .before .before .before .before in
-    let t = after-rank-again .before .before .before in
-    let s = t .before .before .before .before in
-    let e = t .enum-told2 .given .1 in
-    let k = after-rank-again .rank-again in
-    let long : length (k .last .1 .1 .1 .1 .0) ≡ s .args .last .len =
-    k .kept .1 .1 .1 .1 .0 ∙ length-take (s .args .last .len) (s .args .order .now) ∙ omega (arith, s .pre .3 .few e, s .pre .2) in
-    record {
-      part = sym (s .pre .3 .part e);
-      few = s .pre .3 .few e;
-      columns = take-at (k .last .1 .1 .1 .1 .0) _ (s .args .last .len) long ∙ k .ensures;
-    }
+    let after-sort = c .before .before .before .before in
+    let g = after-sort .before .before .before .before .before in
+    let a = s g .args in
+    let r = after-sort .sort in
+    gathered-ranked (a .columns .now) (a .values .now) (L g) (r .last .1 .1 .1 .1 .0) (g .gather-next .result)
+    (g .gather-next .ensures .0) (g .gather-next .ensures .1) (r .kept .1 .1 .1 .1 .0 ∙ gathered g) (r .ensures)
 
 pub rank-next-spec : {M : Type 1} → statement M
 rank-next-spec =
     tie.close
     (tie.spec
-    enum-told
-    rank-requires
+    gather-next-requires
+    slice-relend-prefix-sort
+    slice-aggregate-sort
+    sort-requires
     same-length
     same-length-2
-    returns
-    rank-requires-2
-    enum-told-2
-    slice-relend-prefix-rank-again
-    slice-aggregate-rank-again
-    rank-again-requires
-    same-length-3
-    same-length-4
-    returns-2
-    same-length-5
-    same-length-6
-    returns-3)
+    returns)
