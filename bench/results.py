@@ -1,5 +1,7 @@
 """What was measured, as a table, a list of targets and the plot's series."""
 
+import statistics
+
 VERDICTS = {1: "FITTED", 2: "OUTSIDE", 3: "SPENT"}
 REFUSALS = {7: "refused 7", 8: "NONE", 9: "refused 9"}
 
@@ -38,6 +40,7 @@ class Result:
         self.number, self.verdict = number, verdict
         self.steps = (bounds, goals)
         self.times = {}
+        self.rounds = {}
         self.notes = {}
         self.counts = {}
         self.has_goals = True
@@ -47,11 +50,23 @@ class Result:
             return REFUSALS[self.number]
         return "%s %d %d" % (VERDICTS[self.verdict], *self.steps)
 
+    def add_rounds(self, engine, rounds):
+        """The times of an engine's rounds; their median is its time."""
+        self.rounds[engine] = rounds
+        self.times[engine] = statistics.median(rounds)
+
     def ratio(self, one, other):
-        """How many times one engine's time is the other's; None where either is missing."""
+        """How many times one engine's time is the other's; None where either is missing.
+
+        Where both have all rounds it is the median of the rounds' own ratios: in a round both are timed
+        right after each other, so that a machine that goes slower for a while slows both.
+        """
         if one not in self.times or other not in self.times:
             return None
-        return self.times[one] / self.times[other]
+        ones, others = self.rounds[one], self.rounds[other]
+        if len(ones) != len(others):
+            return self.times[one] / self.times[other]
+        return statistics.median(a / b for a, b in zip(ones, others))
 
 
 # ------------------------------------------------------------------- the table

@@ -110,8 +110,8 @@ def time_deck(path, rounds):
     answer, *times = program("times", str(rounds), path)
     result = results.Result(answer[1], *map(int, answer[2:]))
     result.has_goals = has_goals(path)
-    for _, _, engine, time, note in times:
-        result.times[engine] = float(time)
+    for _, _, engine, rounds, note in times:
+        result.add_rounds(engine, [float(time) for time in rounds.split()])
         result.notes[engine] = note
     return result
 

@@ -1,4 +1,4 @@
-// Times: every engine and library in turn, several rounds, the median of each.
+// Times: every engine and library in turn, several rounds.
 #include <algorithm>
 #include <chrono>
 #include <cstdio>
@@ -49,9 +49,15 @@ struct Entry {
         }
     }
 
-    double median() {
-        std::sort(times.begin(), times.end());
-        return times[times.size() / 2];
+    // The time of each round.
+    std::string told() {
+        std::string words;
+        for (double time : times) {
+            char word[32];
+            snprintf(word, sizeof word, "%s%.4f", words.empty() ? "" : " ", time);
+            words += word;
+        }
+        return words;
     }
 };
 
@@ -59,8 +65,11 @@ struct Entry {
 
 static std::vector<Entry> entries_for(const Deck &deck) {
     std::vector<Entry> list;
+    // The engines' whole calls right after each other, since they are compared round by round.
     for (const Engine &engine : engines()) {
         list.emplace_back(engine.name, whole(engine, deck));
+    }
+    for (const Engine &engine : engines()) {
         list.emplace_back(std::string(engine.name) + " form", form(engine, deck));
     }
 #ifdef WITH_FLINT
@@ -126,7 +135,7 @@ void time_deck(const Deck &deck, int rounds) {
         }
     }
     for (Entry &entry : entries) {
-        printf("time\t%s\t%s\t%.3f\t%s\n", deck.name.c_str(), entry.name.c_str(), entry.median(), entry.note.c_str());
+        printf("time\t%s\t%s\t%s\t%s\n", deck.name.c_str(), entry.name.c_str(), entry.told().c_str(), entry.note.c_str());
     }
     fflush(stdout);
 }
