@@ -45,7 +45,7 @@ use Rattle.search.proofs.Numbering.{sign-is, sign-one, number-pair, num
 
 -- ---- a pair of two vectors with the signs of two marks
 module _ (s x t y : ℕ) where
-  pub both-cases : (P : Move → Type 0) → (s < t → P (pair s (signOf x) t (signOf y))) → (t ≤ s → P (pair t (signOf y) s (signOf x))) → P (both s x t y)
+  both-cases : (P : Move → Type 0) → (s < t → P (pair s (signOf x) t (signOf y))) → (t ≤ s → P (pair t (signOf y) s (signOf x))) → P (both s x t y)
   both-cases P f g = go (ltb s t) refl
     where
       go : (c : Bool) → ltb s t ≡ c → P (cond c (pair s (signOf x) t (signOf y)) (pair t (signOf y) s (signOf x)))
@@ -58,37 +58,32 @@ module _ (s x t y : ℕ) where
   pub both-down : t < s → both s x t y ≡ pair t (signOf y) s (signOf x)
   both-down h = rw (le-ltb s t (omega arith))
 
-  pub both-late : firstPair ≤ numberOf (both s x t y)
+  both-late : firstPair ≤ numberOf (both s x t y)
   both-late =
       both-cases (λ o. firstPair ≤ numberOf o)
       (λ h. number-pair s (signOf x) t (signOf y) (sign-is y)) (λ h. number-pair t (signOf y) s (signOf x) (sign-is x))
 
   -- what it adds does not depend on which vector comes first
-  pub both-change : (N : List (List ℤ)) (j : ℕ) → change N (both s x t y) j ≡ signOf x *ℤ entry j (vector N s) +ℤ signOf y *ℤ entry j (vector N t)
+  both-change : (N : List (List ℤ)) (j : ℕ) → change N (both s x t y) j ≡ signOf x *ℤ entry j (vector N s) +ℤ signOf y *ℤ entry j (vector N t)
   both-change N j =
       both-cases (λ o. change N o j ≡ signOf x *ℤ entry j (vector N s) +ℤ signOf y *ℤ entry j (vector N t))
       (λ h. refl) (λ h. +ℤ-comm (signOf y *ℤ entry j (vector N t)) (signOf x *ℤ entry j (vector N s)))
 
   module _ (r : ℕ) (h : s < r) (k : t < r) where
-    pub both-of : OfBasis r (both s x t y)
+    both-of : OfBasis r (both s x t y)
     both-of =
         both-cases (OfBasis r)
         (λ _. record { s = h; t = k; a = omega (arith, sign-one x); b = omega (arith, sign-one y) })
         (λ _. record { s = k; t = h; a = omega (arith, sign-one y); b = omega (arith, sign-one x) })
 
-    pub both-listed : (t ≡ s → ⊥) → Listed (both s x t y) (moves r)
+    both-listed : (t ≡ s → ⊥) → Listed (both s x t y) (moves r)
     both-listed d =
         both-cases (λ o. Listed o (moves r))
         (λ l. listed-pair r s (signOf x) t (signOf y) l k (sign-is x) (sign-is y))
         (λ l. ⊎-elim (λ e. absurd (d e)) (λ m. listed-pair r t (signOf y) s (signOf x) m h (sign-is y) (sign-is x)) (eq-or-lt-of-le l))
 
-pub both-swap : (s x t y : ℕ) → (t ≡ s → ⊥) → both t y s x ≡ both s x t y
-both-swap s x t y d =
-    both-cases s x t y (λ o. both t y s x ≡ o)
-    (λ h. both-down t y s x h) (λ h. ⊎-elim (λ e. absurd (d e)) (both-up t y s x) (eq-or-lt-of-le h))
-
 -- a column passes under two moves alike that change it alike
-pub passes-alike : (p : Part) (C : Columns) (N : List (List ℤ)) (v : List ℤ) (o u : Move) (q : Measure) (j : ℕ) → j < length v
+passes-alike : (p : Part) (C : Columns) (N : List (List ℤ)) (v : List ℤ) (o u : Move) (q : Measure) (j : ℕ) → j < length v
     → change N o j ≡ change N u j → passesAt p C N v o q j ≡ passesAt p C N v u q j
 passes-alike p C N v o u q j h e =
     ap₂ (λ (y d : ℤ). passes p (valued (C .column j) y) d q)
@@ -96,12 +91,12 @@ passes-alike p C N v o u q j h e =
 
 -- ---- along a ranking
 module _ (S : Search) (T v b : List ℤ) (L : List ℕ) where
-  pub both-still : (s x t y k : ℕ) → ZeroBefore (S .view) b L s k → ZeroBefore (S .view) b L t k → Still S T v b L (both s x t y) k
+  both-still : (s x t y k : ℕ) → ZeroBefore (S .view) b L s k → ZeroBefore (S .view) b L t k → Still S T v b L (both s x t y) k
   both-still s x t y k p q =
       both-cases s x t y (λ o. Still S T v b L o k)
       (λ h. zero-still S T v b L (pair s (signOf x) t (signOf y)) k p q) (λ h. zero-still S T v b L (pair t (signOf y) s (signOf x)) k q p)
 
-  pub improving-pair : (s x t y k : ℕ) → S .view .vectors ≤ maxColumns → s < S .view .vectors → t < S .view .vectors → (t ≡ s → ⊥)
+  improving-pair : (s x t y k : ℕ) → S .view .vectors ≤ maxColumns → s < S .view .vectors → t < S .view .vectors → (t ≡ s → ⊥)
       → k < length L → better S T v b (both s x t y) (getD L k 0) ≡ true → PairIncumbent S T v b L (numberAt k (both s x t y))
   improving-pair s x t y k m h g d l e =
       record {
@@ -133,7 +128,9 @@ module _ {h : Place} {b : List ℤ} {L : List ℕ} {o : Move} (d : Paired h b L 
   as-both P f = subst P (sym (d .is)) f
 
   pub paired-of : OfBasis (h .search .view .vectors) o
-  paired-of = as-both (OfBasis (h .search .view .vectors)) (both-of (d .s) (d .x) (d .t) (d .y) (h .search .view .vectors) (d .s-inside) (d .t-inside))
+  paired-of =
+      as-both (OfBasis (h .search .view .vectors))
+      (both-of (d .s) (d .x) (d .t) (d .y) (h .search .view .vectors) (d .s-inside) (d .t-inside))
 
   module _ (T v : List ℤ) where
     pub paired-still : Still (h .search) T v b L o (h .at)

@@ -13,7 +13,7 @@ use crate::measures::is_zero;
 use crate::seating::plus_product;
 
 // a x + b y.
-pub fn combine(a: i64, x: i64, b: i64, y: i64) -> i64
+fn combine(a: i64, x: i64, b: i64, y: i64) -> i64
     requires { ⌜ (natAbs a ≤ 1) × (natAbs b ≤ 1) × (natAbs x ≤ M) × (natAbs y ≤ M) ⌝ }
     ensures { λ r. ⌜ r ≡ a *ℤ x +ℤ b *ℤ y ⌝ }
 {
