@@ -15,7 +15,7 @@ ghost use Rattle.search.specs.Numbers.{firstPair, span};
 ghost use Rattle.search.specs.Probes.{Blocking, Supported};
 ghost use Rattle.search.specs.Progress as Progress;
 ghost use Rattle.search.specs.Progress.{Here, Dominated, PairIncumbent, NoWorse, FirstChanged, Unseen, Before, Searched};
-ghost use Rattle.search.specs.Progress.{ZeroBefore, Fresh, Blocked, Singled, Led, Others, Paired};
+ghost use Rattle.search.specs.Progress.{ZeroBefore, Fresh, Singled, Led, Others, Paired};
 ghost use Rattle.search.specs.Searches.{columnsOf, passing, stepAlong, Searchable, Setup};
 ghost use Rattle.search.specs.Sets.{has, touches, Indexed};
 use crate::Search;
@@ -27,10 +27,10 @@ use crate::numbers::step_in;
 use crate::probes::Trial;
 use crate::probes::find_blocking;
 use crate::sets::Set;
-use crate::sets::below;
 use crate::sets::first;
 use crate::sets::meet;
 use crate::sets::only;
+use crate::sets::places_below;
 use crate::sets::rest;
 use crate::sets::union;
 use crate::sets::without;
@@ -460,7 +460,7 @@ pub(crate) fn first_step(
 {
     let len = order.len();
     let part = search.part;
-    let mut unseen = below(search.view.vectors);
+    let mut unseen = places_below(search.view.vectors);
     let mut z = len * SPAN;
     let mut k = 0;
     while k < len {

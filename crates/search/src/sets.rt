@@ -30,7 +30,7 @@ pub(crate) fn rest(set: Set) -> Set
 }
 
 // The places below n.
-pub(crate) fn below(n: usize) -> Set
+pub(crate) fn places_below(n: usize) -> Set
     requires { ⌜ n < 64 ⌝ }
     ensures { λ r. ⌜ ((s : ℕ) → has r s ≡ ltb s n) ⌝ }
 {

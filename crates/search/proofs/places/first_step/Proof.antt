@@ -55,8 +55,8 @@ here-is c =
     c .measure .ensures
     ∙ ap (measure (start (c .before .before .before .before .before .before .before) .args .search .part)) (c .before .cell-at .ensures)
 
-below-requires : tie.Need-below-requires Inv-loop μ-loop
-below-requires c κs = omega (arith, c .before .before .before .before .pre .0 .searchable .ready .few-vectors)
+places-below-requires : tie.Need-places-below-requires Inv-loop μ-loop
+places-below-requires c κs = omega (arith, c .before .before .before .before .pre .0 .searchable .ready .few-vectors)
 
 mul-z : tie.Need-mul-z Inv-loop μ-loop
 mul-z c = omega (arith, c .before .before .before .before .before .pre .0 .order .few)
@@ -67,7 +67,7 @@ loop-holds c =
     let a = s .args in (
       s .pre .2,
       omega arith,
-      inr (before-none (a .search) (a .columns .now) (a .values .now) (a .basis .now) (a .order .now) (c .below .result) (c .below .ensures)),
+      inr (before-none (a .search) (a .columns .now) (a .values .now) (a .basis .now) (a .order .now) (c .places-below .result) (c .places-below .ensures)),
     )
 
 mul-if1 : tie.Need-mul-if1 Inv-loop μ-loop
@@ -186,7 +186,7 @@ first-step-spec =
     (tie.spec
     Inv-loop
     μ-loop
-    below-requires
+    places-below-requires
     mul-z
     loop-holds
     mul-if1
