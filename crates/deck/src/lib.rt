@@ -1,3 +1,5 @@
+#![tactic(auto)]
+
 // The text reader: its sections, one after the other, and then the lent lists.
 mod tables;
 

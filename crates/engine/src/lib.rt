@@ -1,3 +1,5 @@
+#![tactic(auto)]
+
 // Whole assignments and Continue: document 01's calls on lent buffers. They have no `requires`: what a problem can break is an answer.
 // Once there is a list to settle, the lists of bounds, goals and ideals are packed into a table of columns, which is all that is lent on of them:
 // what is refused before then packs nothing.

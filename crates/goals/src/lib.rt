@@ -1,3 +1,5 @@
+#![tactic(auto)]
+
 // What a column is to come to: the ideal of a low and a high goal, by the whole part of a root and without floating point; without a goal the one
 // that is handed in; and how either is brought into the bounds.
 ghost use Rattle.std.specs.Prelude.{◌≡◌, ◌+◌, ◌*◌, ◌^◌, ◌<◌, ◌≤◌, pos, nat_abs};

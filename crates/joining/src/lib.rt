@@ -1,3 +1,5 @@
+#![tactic(auto)]
+
 // Joining two problems over a list of pairs: document 02, (vi).
 ghost use Rattle.std.specs.Prelude.{◌≡◌};
 ghost use Rattle.pairing.specs.Parts.{lists, part_of};

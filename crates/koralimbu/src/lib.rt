@@ -1,3 +1,5 @@
+#![tactic(auto)]
+
 // The engine's calls for C: include/koralimbu.h. The preview's stands in previewing.rt, the reader's in reading.rt, the join's in joins.rt, the
 // version in version.rt.
 // They have no `requires`: what a caller can break is an answer.

@@ -1,3 +1,5 @@
+#![tactic(auto)]
+
 // The listing program: a text from standard input, its listing to standard output. What goes wrong with either is told on standard error.
 ghost use Rattle.std.specs.Prelude.{◌≡◌, ◌+◌, ◌≤◌, length};
 ghost use Rattle.io.specs.Counts.{IsPrefixLen};

@@ -1,3 +1,5 @@
+#![tactic(auto)]
+
 // Document 02, (ii): the ideals that the reader hands in for plain intervals, made from those of their neighbours.
 ghost use Rattle.std.specs.Prelude.{◌≡◌, not, ◌&&◌, ◌*◌, ◌<◌, ◌≤◌, pos, nat_abs, length};
 ghost use Rattle.whole.specs.Lists.{entry};

@@ -1,3 +1,5 @@
+#![tactic(auto)]
+
 // The two parts of a join and the pairs between them: document 02, (vi).
 pub mod pairs;
 pub mod parts;

@@ -1,3 +1,5 @@
+#![tactic(auto)]
+
 ghost use Rattle.std.specs.Prelude.{◌≡◌};
 ghost use Rattle.problem.specs.Limits.{limits};
 ghost use Rattle.problem.specs.Kinds.{slack_count};

@@ -1,3 +1,5 @@
+#![tactic(auto)]
+
 // The listing: its length is found first, so that a buffer that is too short stays as it was.
 ghost use Rattle.std.specs.Prelude.{◌≡◌, ◌+◌, ◌≤◌, leb, length};
 ghost use Rattle.text.specs.Overwriting.{Wrote};

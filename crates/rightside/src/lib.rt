@@ -1,3 +1,5 @@
+#![tactic(auto)]
+
 // The right side of a formed tableau, and the solution of a problem. The definitions are in specs/ and in crate tableau.
 ghost use Rattle.std.specs.Prelude.{◌≡◌, ◌++◌, ◌*◌, ◌≤◌, length, drop};
 ghost use Rattle.lattice.specs.Rows.{neg, chop};

@@ -1,3 +1,5 @@
+#![tactic(auto)]
+
 // The next step of settling, and settling: the definitions are those of crate settling.
 ghost use Rattle.std.specs.Prelude.{◌≡◌};
 ghost use Rattle.settling.specs.Columns.{columns_in};

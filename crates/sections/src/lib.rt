@@ -1,3 +1,5 @@
+#![tactic(auto)]
+
 // The first two sections of a text. Each takes the cursor that the one before left, and hands one on; a refused one leaves its buffers 0.
 mod columns;
 pub mod intervals;

@@ -1,3 +1,5 @@
+#![tactic(auto)]
+
 // From a text to the listing's bytes. Each function has the arrays that it lends.
 ghost use Rattle.std.specs.Prelude.{◌≡◌, [], ◌≤◌};
 ghost use Rattle.sections.specs.Sections.{deck_columns, deck_rows};

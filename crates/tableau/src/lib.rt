@@ -1,3 +1,5 @@
+#![tactic(auto)]
+
 // The tableau: a problem's table and its elimination. The definitions are in specs/.
 ghost use Rattle.std.specs.Prelude.{◌≡◌, ◌*◌, ◌≤◌, length};
 ghost use Rattle.tableau.specs.Table.{max_width};

@@ -1,3 +1,5 @@
+#![tactic(auto)]
+
 // The bytes of texts and listings: numbers are read by `scanner` and written by `decimals`. Lists are copied by `buffers`.
 pub mod buffers;
 pub mod decimals;

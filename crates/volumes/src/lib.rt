@@ -1,3 +1,5 @@
+#![tactic(auto)]
+
 // Document 02, (iii): the section of volumes. A path is read into a line of 0 and 1, a 1 for each of its intervals; the row of a later path is
 // path 1's line less its own. The right sides behind the rows are 0 already, as these rows' are.
 ghost use Rattle.std.specs.Prelude.{◌≡◌, [], ◌+◌, ◌-◌, ◌<◌, ◌≤◌, length};

@@ -1,3 +1,5 @@
+#![tactic(auto)]
+
 pub mod buffers;
 
 ghost use Rattle.std.specs.Prelude.{◌≡◌, ◌<◌, ◌≤◌, ℤ, pos, nat_abs, neg_ℤ, ◌+ℤ◌, ◌*ℤ◌, ◌<ℤ◌};
