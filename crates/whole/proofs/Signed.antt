@@ -60,7 +60,7 @@ pub sfits_abs : (z : ℤ) → nat_abs z < 2 ^ 63 → SFits w64 z
 sfits_abs z h = record { sfits = lt_of_le_of_lt (mag_le z) h }
 
 pub back : (z : ℤ) → mag z < 2 ^ 63 → to_z w64 (of_z w64 z) ≡ z
-back z h = to_z-of_z (record { sfits = h })
+back z h = to_z-of_z {w = w64} (record { sfits = h })
 
 -- ---- −1 − z, the other sign's number at the same place
 abbrev pub flip : ℤ → ℤ
