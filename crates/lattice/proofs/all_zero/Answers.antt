@@ -6,14 +6,14 @@ use lib.IntN.{nat_abs}
 use Rattle.whole.specs.Lists.{entry}
 use Rattle.whole.proofs.Signed.{back}
 use Rattle.lattice.proofs.Scanning.{zero_on, zero_at, zero_end}
+use Rattle.lattice.proofs.all_zero.Goals.{After-magnitude}
 use Rattle.lattice.proofs.all_zero.Goals as goal
 
 -- what the call answers at the place that the loop has come to
 tested :
-    (c : goal.After-magnitude) →
-    let l = c.before.before.before in
-    c.magnitude.result ≡ nat_abs (entry l.loop-i.i l.before.args.row.now)
-tested c = rw (back _ c.before.magnitude-arg-1.given) at c.magnitude.ensures
+    (c : After-magnitude) →
+    c.magnitude.result ≡ nat_abs (entry c.loop-i.i c.args.row.now)
+tested c = rw (back _ c.magnitude-arg-1.given) at c.magnitude.ensures
 
 pub loop-i-init : goal.loop-i-init
 loop-i-init c = (omega arith, refl)
@@ -24,7 +24,7 @@ bounds-row-i c = omega arith
 pub returns-then-magnitude-ne0 : goal.returns-then-magnitude-ne0
 returns-then-magnitude-ne0 c =
     let d = c.before.before.before in
-    sym (zero_at _ _ d.loop-i-test.true (rw (tested c.before) at c.if-magnitude-ne0.true)) ∙ d.before.loop-i.invariant.1
+    sym (zero_at _ _ d.loop-i-test.true (rw (tested c.before) at c.if-magnitude-ne0.true)) ∙ d.loop-i.invariant.1
 
 pub overflow_add-i : goal.overflow_add-i
 overflow_add-i c = omega arith
@@ -35,7 +35,7 @@ loop-i-smaller c = omega arith
 pub loop-i-preserved : goal.loop-i-preserved
 loop-i-preserved c =
     let d = c.before.before.before in
-    (omega arith, sym (zero_on _ _ d.loop-i-test.true (rw (tested c.before) at c.if-magnitude-ne0.false)) ∙ d.before.loop-i.invariant.1)
+    (omega arith, sym (zero_on _ _ d.loop-i-test.true (rw (tested c.before) at c.if-magnitude-ne0.false)) ∙ d.loop-i.invariant.1)
 
 pub returns : goal.returns
-returns c = sym (zero_end _ _ c.loop-i-test.false) ∙ c.before.loop-i.invariant.1
+returns c = sym (zero_end _ _ c.loop-i-test.false) ∙ c.loop-i.invariant.1

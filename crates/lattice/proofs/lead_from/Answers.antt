@@ -7,14 +7,14 @@ use lib.IntN.{nat_abs}
 use Rattle.whole.specs.Lists.{entry}
 use Rattle.whole.proofs.Signed.{back}
 use Rattle.lattice.proofs.Scanning.{lead_on, lead_at_lem, lead_end}
+use Rattle.lattice.proofs.lead_from.Goals.{After-magnitude}
 use Rattle.lattice.proofs.lead_from.Goals as goal
 
 -- what the call answers at the place that the loop has come to
 tested :
-    (c : goal.After-magnitude) →
-    let l = c.before.before.before in
-    c.magnitude.result ≡ nat_abs (entry l.loop-i.i l.before.args.row.now)
-tested c = rw (back _ c.before.magnitude-arg-1.given) at c.magnitude.ensures
+    (c : After-magnitude) →
+    c.magnitude.result ≡ nat_abs (entry c.loop-i.i c.args.row.now)
+tested c = rw (back _ c.magnitude-arg-1.given) at c.magnitude.ensures
 
 pub loop-i-init : goal.loop-i-init
 loop-i-init c = refl
@@ -25,7 +25,7 @@ bounds-row-i c = omega arith
 pub returns-then-magnitude-ne0 : goal.returns-then-magnitude-ne0
 returns-then-magnitude-ne0 c =
     let d = c.before.before.before in
-    lead_at_lem _ _ d.loop-i-test.true (rw (tested c.before) at c.if-magnitude-ne0.true) ∙ d.before.loop-i.invariant
+    lead_at_lem _ _ d.loop-i-test.true (rw (tested c.before) at c.if-magnitude-ne0.true) ∙ d.loop-i.invariant
 
 pub overflow_add-i : goal.overflow_add-i
 overflow_add-i c = omega arith
@@ -36,7 +36,7 @@ loop-i-smaller c = omega arith
 pub loop-i-preserved : goal.loop-i-preserved
 loop-i-preserved c =
     let d = c.before.before.before in
-    sym (lead_on _ _ d.loop-i-test.true (rw (tested c.before) at c.if-magnitude-ne0.false)) ∙ d.before.loop-i.invariant
+    sym (lead_on _ _ d.loop-i-test.true (rw (tested c.before) at c.if-magnitude-ne0.false)) ∙ d.loop-i.invariant
 
 pub returns : goal.returns
-returns c = lead_end _ _ c.loop-i-test.false ∙ c.before.loop-i.invariant
+returns c = lead_end _ _ c.loop-i-test.false ∙ c.loop-i.invariant

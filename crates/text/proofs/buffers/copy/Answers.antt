@@ -8,5 +8,5 @@ use Rattle.text.proofs.buffers.copy.Goals as goal
 
 pub returns : goal.returns
 returns c =
-    let a = c.before.before.before.args in
-    rw (Post-is a.at (a.at + length a.numbers.now) a.out-1.now (omega arith), c.before.copy.ensures)
+    let a = c.args in
+    rw (Post-is a.at (a.at + length a.numbers.now) a.out.now (omega arith), c.copy.ensures)

@@ -26,8 +26,8 @@ loop-i-smaller c = omega arith
 
 pub loop-i-preserved : goal.loop-i-preserved
 loop-i-preserved c =
-    let s = c.before.before.before.args in
-    let l = c.before.before.loop-i in (
+    let s = c.args in
+    let l = c.loop-i in (
       length-set l.out (s.at + l.i) (get_or s.word.now l.i 0) ∙ l.invariant.0,
       omega arith,
       copied_more s.out.now l.out s.at l.i s.word.now 0 (omega arith) (omega arith) l.invariant.2,
@@ -37,10 +37,10 @@ pub overflow_add-result : goal.overflow_add-result
 overflow_add-result c = omega arith
 
 pub shape_of-out : goal.shape_of-out
-shape_of-out c = c.before.loop-i.invariant.0
+shape_of-out c = c.loop-i.invariant.0
 
 pub returns : goal.returns
 returns c =
-    let s = c.before.before.args in
-    let l = c.before.loop-i in
+    let s = c.args in
+    let l = c.loop-i in
     record { next = refl; text = copied_all s.out.now l.out s.at l.i s.word.now (omega arith) l.invariant.2 }

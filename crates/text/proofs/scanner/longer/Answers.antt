@@ -3,4 +3,4 @@ use Rattle.text.proofs.Scanning.{digit_low}
 use Rattle.text.proofs.scanner.longer.Goals as goal
 
 pub overflow_sub-result : goal.overflow_sub-result
-overflow_sub-result c = digit_low c.args.b c.requires.1
+overflow_sub-result c = digit_low c.args.b c.requires.b_value

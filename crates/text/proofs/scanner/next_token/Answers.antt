@@ -8,22 +8,20 @@ use Rattle.text.proofs.scanner.next_token.Goals as goal
 
 pub slice_bounds-token_of-end : goal.slice_bounds-token_of-end
 slice_bounds-token_of-end c =
-    let s = c.before.before.before.before.args.s.now in
-    let a : ℕ = c.before.before.stretch_end-a.result in
+    let s = c.args.s.now in
+    let a : ℕ = c.stretch_end-a.result in
     omega (arith, run_le (drop a s), length-drop a s)
 
 pub returns-then-a-s : goal.returns-then-a-s
 returns-then-a-s c =
-    let after_stretch_end = c.before.before.before.before in
-    let start = after_stretch_end.before.before in
-    let x = start.args in
-    let a = after_stretch_end.stretch_end-a in
-    let e = c.before.before.stretch_end-e in
-    sym (next_is x.s.now x.at a.result e.result _ a.ensures c.before.before.before.if-a-s.true e.ensures
+    let x = c.args in
+    let a = c.stretch_end-a in
+    let e = c.stretch_end-e in
+    sym (next_is x.s.now x.at a.result e.result _ a.ensures c.if-a-s.true e.ensures
     c.token_of-t.ensures)
 
 pub returns-else-a-s : goal.returns-else-a-s
 returns-else-a-s c =
-    let x = c.before.before.before.args in
-    let a = c.before.stretch_end-a in
+    let x = c.args in
+    let a = c.stretch_end-a in
     sym (next_end x.s.now x.at a.result a.ensures c.if-a-s.false)

@@ -8,7 +8,7 @@ returns-then-w-gt-MAX_DIGITS c = rw (lt-leb _ _ c.if-w-gt-MAX_DIGITS.true)
 
 pub returns-then-is_needed : goal.returns-then-is_needed
 returns-then-is_needed c =
-    rw (le-leb _ _ c.before.before.before.if-w-gt-MAX_DIGITS.false, sym c.before.before.is_needed.ensures ∙ c.before.if-is_needed.true) c.worth_of.ensures
+    rw (le-leb _ _ c.if-w-gt-MAX_DIGITS.false, sym c.is_needed.ensures ∙ c.if-is_needed.true) c.worth_of.ensures
 
 pub returns-else-is_needed : goal.returns-else-is_needed
-returns-else-is_needed c = rw (le-leb _ _ c.before.before.if-w-gt-MAX_DIGITS.false, sym c.before.is_needed.ensures ∙ c.if-is_needed.false)
+returns-else-is_needed c = rw (le-leb _ _ c.if-w-gt-MAX_DIGITS.false, sym c.is_needed.ensures ∙ c.if-is_needed.false)

@@ -16,17 +16,15 @@ loop-i-smaller c = omega arith
 
 pub loop-i-preserved : goal.loop-i-preserved
 loop-i-preserved c =
-    let l = c.before.before.before.before in
-    let a = l.before.before.args in
-    omega (arith, stretch_more a.blank a.s.now l.loop-i.i (omega arith) (sym c.before.belongs.ensures ∙ c.if-belongs.true))
+    let a = c.args in
+    omega (arith, stretch_more a.blank a.s.now c.loop-i.i (omega arith) (sym c.belongs.ensures ∙ c.if-belongs.true))
 
 pub returns-else-belongs : goal.returns-else-belongs
 returns-else-belongs c =
-    let l = c.before.before.before.before in
-    let a = l.before.before.args in
-    omega (arith, stretch_stop a.blank a.s.now l.loop-i.i (omega arith) (sym c.before.belongs.ensures ∙ c.if-belongs.false))
+    let a = c.args in
+    omega (arith, stretch_stop a.blank a.s.now c.loop-i.i (omega arith) (sym c.belongs.ensures ∙ c.if-belongs.false))
 
 pub returns : goal.returns
 returns c =
-    let a = c.before.before.before.args in
-    omega (arith, stretch_end a.blank a.s.now c.before.loop-i.i (omega arith))
+    let a = c.args in
+    omega (arith, stretch_end a.blank a.s.now c.loop-i.i (omega arith))

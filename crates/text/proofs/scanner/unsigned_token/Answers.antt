@@ -1,4 +1,5 @@
 -- `text::scanner::unsigned_token` meets its contract: digits that are worth something are a number. Assumes nothing.
+use mir.Syntax.{w64}
 use mathlib.Core.Path.{sym, ◌∙◌, ap}
 use native.Mathlib.Omega.{arith}
 use borrow.Author.Rules.{sfits_of}
@@ -11,17 +12,15 @@ pub positive-requires : goal.positive-requires
 positive-requires c =
     omega (
       arith,
-      plain_below c.before.before.before.before.before.args.w.now c.before.p-1.given.0.0
-          (sym c.before.before.before.plain_worth-p.ensures ∙ c.before.p-1.given.1),
+      plain_below c.args.w.now c.in-Digits.v
+          (sym c.plain_worth-p.ensures ∙ c.in-Digits.is),
     )
 
 pub returns-in-Digits : goal.returns-in-Digits
 returns-in-Digits c =
-    let after_p = c.before.before in
-    let start = after_p.before.before.before.before in
-    ap Number (to_z-of_z (sfits_of c.positive.type_inv) ∙ c.positive.ensures) ∙
-    sym (unsigned_is start.args.w.now after_p.p-1.given.0.0 (sym after_p.before.before.plain_worth-p.ensures ∙ after_p.p-1.given.1))
+    ap Number (to_z-of_z {w = w64} (sfits_of c.positive.type_inv) ∙ c.positive.ensures) ∙
+    sym (unsigned_is c.args.w.now c.in-Digits.v (sym c.plain_worth-p.ensures ∙ c.in-Digits.is))
 
 pub returns-in-Other : goal.returns-in-Other
 returns-in-Other c =
-    sym (unsigned_not c.before.before.before.before.args.w.now (sym c.before.before.plain_worth-p.ensures ∙ c.enum_told-1.given.1))
+    sym (unsigned_not c.args.w.now (sym c.plain_worth-p.ensures ∙ c.in-Other.is))
