@@ -21,7 +21,7 @@ use volumes::read_volumes;
 use whole::buffers::{copy, wipe};
 
 // What the reader returns: n, m and how many of the n columns are intervals, or why the text is turned back.
-#[derive(Drop)]
+#[derive(Clone, Copy)]
 pub enum Reading {
     Read(usize, usize, usize),
     Refused(Refusal),

@@ -10,7 +10,7 @@ use problem::{Check, Lent, Problem, Refusal};
 use settling::columns::{WIDTH, pack};
 
 // What is found, and the rounds that the form took; 0 with a refusal.
-#[derive(Drop)]
+#[derive(Clone, Copy)]
 pub(crate) struct Ground {
     pub check: Check,
     pub rounds: u32,

@@ -22,7 +22,7 @@ mod standing;
 mod views;
 
 // What a call returns: the answer, and the rounds that its tableau took. A refusal returns 0 rounds.
-#[derive(Drop)]
+#[derive(Clone, Copy)]
 pub struct Reply {
     pub answer: Answer,
     pub rounds: u32,

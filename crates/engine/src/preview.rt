@@ -18,7 +18,7 @@ use settling::{Basis, Move, Part, Step, Turn};
 use whole::buffers::copy;
 
 // What a preview tells: why it is turned back, that no move improves, or the next step: its part, the column that it improves and its move.
-#[derive(Drop)]
+#[derive(Clone, Copy)]
 pub enum Seen {
     Refused(Refusal),
     Rest,
@@ -26,7 +26,7 @@ pub enum Seen {
 }
 
 // What a preview returns: what it tells, and the rounds that its tableau took. A refusal returns 0 rounds.
-#[derive(Drop)]
+#[derive(Clone, Copy)]
 pub struct Sight {
     pub seen: Seen,
     pub rounds: u32,

@@ -7,7 +7,7 @@ use rightside::leading_rows;
 use settling::Basis;
 
 // How the basis lies in the tableau, and where it starts.
-#[derive(Drop)]
+#[derive(Clone, Copy)]
 pub(crate) struct Place {
     pub view: Basis,
     pub at: usize,

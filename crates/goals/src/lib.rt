@@ -11,7 +11,7 @@ ghost use Rattle.goals.specs.Wishes as Wishes;
 use whole::magnitude;
 
 // What a column is to come to when it is seated: a number, or its present value.
-#[derive(Drop)]
+#[derive(Clone, Copy)]
 pub enum Wish {
     Unset,
     Set(i64),

@@ -11,7 +11,7 @@ use whole::buffers::copy;
 use whole::magnitude;
 
 // The list that a number of a shared column is for.
-#[derive(Drop)]
+#[derive(Clone, Copy)]
 pub enum Rule {
     Lower,
     Upper,

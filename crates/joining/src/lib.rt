@@ -15,7 +15,7 @@ use problem::checks::sizes_fit;
 use problem::{Check, Problem, Refusal};
 
 // What a join answers.
-#[derive(Drop)]
+#[derive(Clone, Copy)]
 pub enum Joining {
     Refused(Refusal),
     Made(Sizes),

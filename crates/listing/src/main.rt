@@ -15,7 +15,7 @@ use sections::Sizes;
 const ROOM: usize = Sizes::TEXT + 1;
 
 // What came of standard input: how many bytes, and whether a read failed, so that they are not the whole text.
-#[derive(Drop)]
+#[derive(Clone, Copy)]
 struct Input {
     count: usize,
     failed: bool,

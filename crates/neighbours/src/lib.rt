@@ -15,7 +15,7 @@ use settling::measures::is_zero;
 use whole::floor_quotient;
 
 // How many columns and rows a problem has, and how many of its columns are intervals.
-#[derive(Drop)]
+#[derive(Clone, Copy)]
 pub struct Shape {
     pub columns: usize,
     pub rows: usize,

@@ -5,7 +5,7 @@ pub mod pairs;
 pub mod parts;
 
 // The sizes of a part, or of the joined problem: its columns and its rows.
-#[derive(Drop)]
+#[derive(Clone, Copy)]
 pub struct Sizes {
     pub columns: usize,
     pub rows: usize,

@@ -2,7 +2,7 @@ ghost use Rattle.std.specs.Prelude.{◌≡◌};
 ghost use Rattle.problem.specs.Limits.{group_limits};
 
 // A group's numbers: the columns and the rows that one elimination forms together. A problem is one group.
-#[derive(Drop)]
+#[derive(Clone, Copy)]
 pub struct Group {
     pub columns: usize,
     pub rows: usize,

@@ -10,7 +10,7 @@ pub mod checks;
 pub mod groups;
 
 // A problem's numbers: n columns, m rows and the step limit. Its lists are lent beside it, as slices.
-#[derive(Drop)]
+#[derive(Clone, Copy)]
 pub struct Problem {
     pub columns: usize,
     pub rows: usize,
@@ -65,7 +65,7 @@ impl Problem {
 }
 
 // The limits as one value.
-#[derive(Drop)]
+#[derive(Clone, Copy)]
 pub struct Limits {
     pub columns: usize,
     pub rows: usize,
@@ -78,7 +78,7 @@ pub struct Limits {
 }
 
 // What a row asks of its sum. An even row carries its least half.
-#[derive(Drop)]
+#[derive(Clone, Copy)]
 pub enum Kind {
     Equal,
     AtLeast,
@@ -87,14 +87,14 @@ pub enum Kind {
 }
 
 // A row's kind and its right side, which is 0 for an even row.
-#[derive(Drop)]
+#[derive(Clone, Copy)]
 pub struct Row {
     pub kind: Kind,
     pub right: i64,
 }
 
 // Why a call is turned back: document 01's table with what document 02 adds, by number.
-#[derive(Drop)]
+#[derive(Clone, Copy)]
 pub enum Refusal {
     Size,
     Length,
@@ -114,14 +114,14 @@ pub enum Refusal {
 }
 
 // The steps of the bounds part and of the goals part.
-#[derive(Drop)]
+#[derive(Clone, Copy)]
 pub struct Counts {
     pub bounds: u32,
     pub goals: u32,
 }
 
 // What a whole assignment or a Continue answers.
-#[derive(Drop)]
+#[derive(Clone, Copy)]
 pub enum Answer {
     Fitted(Counts),
     Outside(Counts),
@@ -130,14 +130,14 @@ pub enum Answer {
 }
 
 // What checks find: those of causes 1 to 6, and those of a join's pairs.
-#[derive(Drop)]
+#[derive(Clone, Copy)]
 pub enum Check {
     Passed,
     Failed(Refusal),
 }
 
 // The lengths of the buffers that a call fills.
-#[derive(Drop)]
+#[derive(Clone, Copy)]
 pub struct Lent {
     pub tableau: usize,
     pub values: usize,

@@ -10,7 +10,7 @@ use problem::{Answer, Counts, Refusal};
 use text::decimals::{put, put_integer, put_natural};
 
 // What is written: how many bytes. Or nothing, where the lists are not of one length or the buffer is too short.
-#[derive(Drop)]
+#[derive(Clone, Copy)]
 pub enum Written {
     Bytes(usize),
     Uneven,

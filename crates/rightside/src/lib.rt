@@ -20,7 +20,7 @@ use whole::buffers::{copy, wipe};
 use whole::negated;
 
 // What the right side finds: a number beyond M on the way, no whole numbers, or a starting list.
-#[derive(Drop)]
+#[derive(Clone, Copy)]
 pub enum Solution {
     Over,
     None,
@@ -28,7 +28,7 @@ pub enum Solution {
 }
 
 // What is found for a problem, and the rounds that its form took; 0 unless a starting list is found.
-#[derive(Drop)]
+#[derive(Clone, Copy)]
 pub struct Solving {
     pub solution: Solution,
     pub rounds: u32,

@@ -23,7 +23,7 @@ pub mod settle;
 mod turns;
 
 // What a search goes by.
-#[derive(Drop)]
+#[derive(Clone, Copy)]
 struct Search {
     pub part: Part,
     pub view: Basis,

@@ -29,7 +29,7 @@ use settling::{Basis, Measure, Move, Step};
 pub(crate) const NOTE_WIDTH: usize = 2;
 
 // A place of the ranking that is searched, its column, and the measure that a move has to come below there.
-#[derive(Drop)]
+#[derive(Clone, Copy)]
 struct Place {
     pub search: Search,
     pub at: usize,
@@ -38,7 +38,7 @@ struct Place {
 }
 
 // A vector that is seen at this place, with the mark of its sign.
-#[derive(Drop)]
+#[derive(Clone, Copy)]
 struct Lead {
     pub s: usize,
     pub x: usize,

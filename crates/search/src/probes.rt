@@ -13,7 +13,7 @@ use settling::moves::{change, sum};
 use settling::{Cell, Measure, Move};
 
 // A move that is tried, and the measure that each column it changes has to come below.
-#[derive(Drop)]
+#[derive(Clone, Copy)]
 pub(crate) struct Trial {
     pub search: Search,
     pub o: Move,

@@ -13,7 +13,7 @@ use settling::columns::cell_at;
 use settling::measures::is_ranked;
 
 // The part of the last ranking, and how many columns it has.
-#[derive(Drop)]
+#[derive(Clone, Copy)]
 pub(crate) struct Ranked {
     pub part: Part,
     pub len: usize,

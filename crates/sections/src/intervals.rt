@@ -11,7 +11,7 @@ use problem::{Problem, Refusal};
 use whole::buffers::wipe;
 
 // An interval and the place after it.
-#[derive(Drop)]
+#[derive(Clone, Copy)]
 enum IntervalGot {
     Read(Interval, usize),
     Refused(Refusal),

@@ -12,7 +12,7 @@ ghost use Rattle.sections.specs.Sections.{deck_sizes};
 use problem::{Problem, Refusal};
 
 // The limits of a text: columns and rows are the problem's, and its bytes.
-#[derive(Drop)]
+#[derive(Clone, Copy)]
 pub struct Sizes {
     pub columns: usize,
     pub rows: usize,
@@ -46,7 +46,7 @@ impl Sizes {
 }
 
 // An interval's line: its bounds and its goals.
-#[derive(Drop)]
+#[derive(Clone, Copy)]
 pub struct Interval {
     pub lower: i64,
     pub upper: i64,
@@ -66,14 +66,14 @@ impl Interval {
 }
 
 // A term of a row: the interval's index, from 1, and its coefficient.
-#[derive(Drop)]
+#[derive(Clone, Copy)]
 pub struct Term {
     pub index: usize,
     pub coefficient: i64,
 }
 
 // Where reading has come to: the place, the count of intervals, and the columns and rows so far.
-#[derive(Drop)]
+#[derive(Clone, Copy)]
 pub struct Cursor {
     pub at: usize,
     pub intervals: usize,
@@ -82,21 +82,21 @@ pub struct Cursor {
 }
 
 // A section, or a line of one, that was read up to a cursor.
-#[derive(Drop)]
+#[derive(Clone, Copy)]
 pub enum Section {
     Read(Cursor),
     Refused(Refusal),
 }
 
 // The place after a part of a section.
-#[derive(Drop)]
+#[derive(Clone, Copy)]
 pub enum Past {
     Went(usize),
     Refused(Refusal),
 }
 
 // A number and the place after it.
-#[derive(Drop)]
+#[derive(Clone, Copy)]
 pub enum Got {
     Value(i64, usize),
     Refused(Refusal),

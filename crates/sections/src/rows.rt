@@ -18,28 +18,28 @@ use text::buffers::copy;
 use whole::buffers::wipe;
 
 // A row's kind and number, and the place after them.
-#[derive(Drop)]
+#[derive(Clone, Copy)]
 enum RowGot {
     Read(Row, usize),
     Refused(Refusal),
 }
 
 // The number of a kind, and the place after it.
-#[derive(Drop)]
+#[derive(Clone, Copy)]
 enum KindGot {
     Read(usize, usize),
     Refused(Refusal),
 }
 
 // A term and the place after it.
-#[derive(Drop)]
+#[derive(Clone, Copy)]
 enum TermGot {
     Read(Term, usize),
     Refused(Refusal),
 }
 
 // The y of a row: its coefficient and its lower bound.
-#[derive(Drop)]
+#[derive(Clone, Copy)]
 enum Slack {
     None,
     Column(i64, u32),

@@ -7,14 +7,14 @@ pub mod seating;
 pub mod strides;
 
 // The two parts of settling.
-#[derive(Drop)]
+#[derive(Clone, Copy)]
 pub enum Part {
     Bounds,
     Goals,
 }
 
 // a times the vector s, and b times the vector t, counted from 0. A single vector has b = 0.
-#[derive(Drop)]
+#[derive(Clone, Copy)]
 pub struct Move {
     pub s: usize,
     pub a: i64,
@@ -23,7 +23,7 @@ pub struct Move {
 }
 
 // How the vectors of a basis lie in a slice: each has a number for each column and starts `stride` after the last one.
-#[derive(Drop)]
+#[derive(Clone, Copy)]
 pub struct Basis {
     pub columns: usize,
     pub vectors: usize,
@@ -31,7 +31,7 @@ pub struct Basis {
 }
 
 // What settling knows of one column: its bounds, its goals and its value.
-#[derive(Drop)]
+#[derive(Clone, Copy)]
 pub struct Cell {
     pub lower: i64,
     pub upper: i64,
@@ -41,21 +41,21 @@ pub struct Cell {
 }
 
 // A column's distance, over 1, or its ratio.
-#[derive(Drop)]
+#[derive(Clone, Copy)]
 pub struct Measure {
     pub top: u64,
     pub bottom: u64,
 }
 
 // The next step: the column, counted from 0, and the move that improves it; or that no move improves.
-#[derive(Drop)]
+#[derive(Clone, Copy)]
 pub enum Step {
     Rest,
     Take(usize, Move),
 }
 
 // A step, and the part that it belongs to.
-#[derive(Drop)]
+#[derive(Clone, Copy)]
 pub struct Turn {
     pub part: Part,
     pub step: Step,

@@ -15,7 +15,7 @@ use whole::{bit_length, less, magnitude};
 
 // The row that gathering chooses, counted from the first, the magnitude of its entry, and how many entries are other than 0. Where all are 0,
 // there is no choice.
-#[derive(Drop)]
+#[derive(Clone, Copy)]
 pub(crate) struct Choice {
     pub row: usize,
     pub size: u64,

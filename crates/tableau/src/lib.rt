@@ -25,7 +25,7 @@ use whole::buffers::wipe;
 pub const MAX_WIDTH: usize = Group::MAX_ROWS + Group::MAX_COLUMNS;
 
 // What elimination tells: whether a number beyond M was left, and how many rounds it took; 0 where one was left.
-#[derive(Drop)]
+#[derive(Clone, Copy)]
 pub struct Tally {
     pub over: bool,
     pub rounds: u32,

@@ -9,7 +9,7 @@ use problem::Problem;
 use whole::{less_product, magnitude};
 
 // Which rows a pivot is taken from: those below it, or those above.
-#[derive(Drop)]
+#[derive(Clone, Copy)]
 pub(crate) enum Way {
     Below,
     Above,

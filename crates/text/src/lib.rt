@@ -6,7 +6,7 @@ pub mod decimals;
 pub mod scanner;
 
 // A run of bytes in a text: a number, or none.
-#[derive(Drop)]
+#[derive(Clone, Copy)]
 pub enum Token {
     Number(i64),
     Bad,
@@ -17,7 +17,7 @@ impl Token {
 }
 
 // What stands at or after a position: a token and where it ends, or nothing.
-#[derive(Drop)]
+#[derive(Clone, Copy)]
 pub enum Next {
     Found(Token, usize),
     End,

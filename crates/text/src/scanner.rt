@@ -6,7 +6,7 @@ ghost use Rattle.text.specs.Positions.{belongs as belongs·rule, stretch, worth_
 use crate::{Next, Token};
 
 // What digits are worth.
-#[derive(Drop)]
+#[derive(Clone, Copy)]
 enum Worth {
     Digits(u64),
     Other,

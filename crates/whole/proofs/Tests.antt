@@ -1,7 +1,7 @@
 -- Laws of tests.
 --   both_true, all_true        where two or all_true tests hold together, each of them holds
 --   neither                    where neither of two marks is set
---   passed, failed             what a test t is, where the code turned its result r round
+--   passed, failed             what a test t is, where the code branches on its result r
 --   not_less                   "at most", by the test that the code makes
 --   range_low, -spans, -small  a range from 0 to k: no number below 0 lies in it, of the others those whose magnitude is at most k
 -- Assumes nothing.
@@ -9,7 +9,7 @@ use mathlib.Core.Path.{◌≡◌, refl, sym, ◌∙◌}
 use mathlib.Core.Bool.{Bool, true, false, not, ◌&&◌, ◌||◌, and-eq-true_iff, true≢false, false≢true}
 use Prim.Native.Nat.{ℕ, ◌≤◌}
 use native.Mathlib.Omega.{arith}
-use borrow.Author.Tests.{leb-true, leb-false, not-true, not-false, ltb-true, lt-ltb, le-ltb}
+use borrow.Author.Tests.{leb-true, leb-false, ltb-true, lt-ltb, le-ltb}
 use lib.Dec.{leb, ltb, leb-zero}
 use lib.IntN.{ℤ, pos, negsuc, nat_abs}
 use lib.Signed.{lt_z, le_z}
@@ -28,11 +28,11 @@ pub neither : (a b : Bool) → a || b ≡ false → (a ≡ false) × (b ≡ fals
 neither true b e = absurd (true≢false e)
 neither false b e = (refl, e)
 
-pub passed : {r t : Bool} → r ≡ t → not r ≡ false → t ≡ true
-passed {r} e h = sym e ∙ not-false r h
+pub passed : {r t : Bool} → r ≡ t → r ≡ true → t ≡ true
+passed e h = sym e ∙ h
 
-pub failed : {r t : Bool} → r ≡ t → not r ≡ true → t ≡ false
-failed {r} e h = sym e ∙ not-true r h
+pub failed : {r t : Bool} → r ≡ t → r ≡ false → t ≡ false
+failed e h = sym e ∙ h
 
 -- ---- orders
 not_ltb : (a b : ℕ) (t : Bool) → leb a b ≡ t → not (ltb b a) ≡ t
