@@ -47,8 +47,7 @@ fn tell_joined(joining: Joining, sizes: &mut [usize])
 }
 
 // One problem of two parts of n1 and n2 columns and m1 and m2 rows.
-#[unsafe(no_mangle)]
-pub extern "C" fn koralimbu_join(
+pub fn koralimbu_join(
     n1: usize,
     m1: usize,
     a1: &[i64],

@@ -3,10 +3,10 @@
 // The engine's calls for C: include/koralimbu.h. The preview's stands in previewing.rt, the reader's in reading.rt, the join's in joins.rt, the
 // version in version.rt.
 // They have no `requires`: what a caller can break is an answer.
-mod joins;
-mod previewing;
-mod reading;
-mod version;
+pub mod joins;
+pub mod previewing;
+pub mod reading;
+pub mod version;
 
 ghost use Rattle.std.specs.Prelude.{◌≡◌, length};
 ghost use Rattle.engine.specs.Assign.{posed_by, buffers, assign, continue};
@@ -43,8 +43,7 @@ fn tell(answer: Answer, rounds: u32, report: &mut [u32])
 }
 
 // A whole assignment.
-#[unsafe(no_mangle)]
-pub extern "C" fn koralimbu_assign(
+pub fn koralimbu_assign(
     n: usize,
     m: usize,
     limit: u32,
@@ -95,8 +94,7 @@ pub extern "C" fn koralimbu_assign(
 }
 
 // Continue, from the lent values.
-#[unsafe(no_mangle)]
-pub extern "C" fn koralimbu_continue(
+pub fn koralimbu_continue(
     n: usize,
     m: usize,
     limit: u32,

@@ -96,8 +96,7 @@ fn tell_step(seen: Seen, rounds: u32, report: &mut [u32])
 }
 
 // The next step of the standing list. There is no limit: it is that of one step.
-#[unsafe(no_mangle)]
-pub extern "C" fn koralimbu_preview(
+pub fn koralimbu_preview(
     n: usize,
     m: usize,
     coefficients: &[i64],

@@ -37,8 +37,7 @@ fn tell_sizes(reading: Reading, sizes: &mut [usize])
 }
 
 // Reads a text into buffers of the largest size.
-#[unsafe(no_mangle)]
-pub extern "C" fn koralimbu_read(
+pub fn koralimbu_read(
     text: &[u8],
     coefficients: &mut [i64],
     rights: &mut [i64],

@@ -9,8 +9,7 @@ const MINOR: u32 = 8;
 const PATCH: u32 = 0;
 
 // The version as one number.
-#[unsafe(no_mangle)]
-pub extern "C" fn koralimbu_version() -> u32
+pub fn koralimbu_version() -> u32
     ensures { result ≡ version·number }
 {
     MAJOR * 1000000 + MINOR * 1000 + PATCH

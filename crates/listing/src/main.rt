@@ -1,58 +1,42 @@
 #![tactic(auto)]
 
 // The listing program: a text from standard input, its listing to standard output. What goes wrong with either is told on standard error.
-ghost use Rattle.std.specs.Prelude.{◌≡◌, ◌+◌, ◌≤◌, length};
-ghost use Rattle.io.specs.Counts.{IsPrefixLen};
+ghost use Rattle.std.specs.Prelude.{◌≡◌, ◌+◌, ◌≤◌, length, IfOk};
 ghost use Rattle.report.specs.Listing.{listing_done};
 ghost use Rattle.report.specs.declared.Written.TheVariants.{Bytes};
 ghost use Rattle.solve.specs.Program.{print_into, listing_room};
 
-use libc::{STDERR_FILENO, STDIN_FILENO, STDOUT_FILENO};
 use report::Written;
 use sections::Sizes;
+use std::env::{Env, FillError};
+use std::io;
+use std::io::{IsTerminal, Read, Stdin, Write};
 
 // One byte more than a text may have.
 const ROOM: usize = Sizes::TEXT + 1;
 
-// What came of standard input: how many bytes, and whether a read failed, so that they are not the whole text.
-#[derive(Clone, Copy)]
-struct Input {
-    count: usize,
-    failed: bool,
-}
-
-// One read, behind the bytes that came before.
-fn read_on(text: &mut [u8], done: usize) -> Input
+// One read, behind the bytes that came before: how many bytes it brought, 0 at the end of the text.
+fn read_on(input: Stdin, text: &mut [u8], done: usize) -> io::Result<usize>
     requires { done ≤ length text.old }
-    ensures { done + result.count ≤ length text.old }
+    ensures { IfOk result (λ count. done + count ≤ length text.old) }
 {
-    let rest = &mut text[done..];
-    let got = libc::read(STDIN_FILENO, rest);
-    let count = io::count(got, rest);
-    Input {
-        count: count,
-        failed: got < 0,
-    }
+    let mut input = input;
+    input.read(&mut text[done..])
 }
 
-// Reads until the buffer is full, the text ends or a read fails. A pipe may hand the text over in parts.
-fn read_text(text: &mut [u8]) -> Input
-    ensures { IsPrefixLen result.count text.new }
+// Reads until the buffer is full, the text ends or a read fails, and then it is not the whole text. A pipe may hand the text over in parts.
+fn read_text(input: Stdin, text: &mut [u8]) -> io::Result<usize>
+    ensures { IfOk result (λ count. count ≤ length text.new) }
 {
     let mut done = 0;
-    let mut failed = false;
     while done < text.len() {
-        let input = read_on(text, done);
-        failed = input.failed;
-        if input.count == 0 {
+        let count = read_on(input, text, done)?;
+        if count == 0 {
             break;
         }
-        done += input.count;
+        done += count;
     }
-    Input {
-        count: done,
-        failed: failed,
-    }
+    Ok(done)
 }
 
 // Puts the listing of a text at the front of a buffer that has room for any, and returns its length. By the theorem `every_text_is_listed` of
@@ -69,41 +53,58 @@ fn fill(text: &[u8], out: &mut [u8]) -> usize
     }
 }
 
-// Writes the listing of a text, or says why it could not be written whole.
-fn list(text: &[u8]) {
-    let mut out = [0u8; 4096];
-    let n = fill(text, &mut out);
-    if !io::write_all(STDOUT_FILENO, &out[..n]) {
-        os::fail(b"listing: standard output");
+// The system's words for an error, without the number that is printed behind them.
+fn words(said: &str) -> &str {
+    match said.split_once(" (os error ") {
+        Some((words, _)) => words,
+        None => said,
     }
 }
 
-fn tell_usage() {
-    io::write_all(
-        STDERR_FILENO,
-        b"usage: listing < DECK (no arguments; a deck that is typed here ends with Ctrl-D)\n",
-    );
+// Says on standard error what went wrong with a standard file. Where nothing can be said the program just ends.
+fn fail(rt: &HostRuntime, file: &str, error: &io::Error) -> io::Result<()> {
+    let said = format!(in rt.alloc(); "{error}")?;
+    eprintln!(rt; "listing: standard {file}: {}", words(said.as_str()))
+}
+
+// Writes the listing of a text, or says why it could not be written whole.
+fn list(rt: &HostRuntime, text: &[u8]) {
+    let mut out = [0u8; 4096];
+    let n = fill(text, &mut out);
+    if let Err(error) = rt.stdout().write_all(&out[..n]) {
+        fail(rt, "output", &error).ok();
+    }
+}
+
+fn tell_usage(rt: &HostRuntime) {
+    eprintln!(rt;
+        "usage: listing < DECK (no arguments; a deck that is typed here ends with Ctrl-D)"
+    ).ok();
 }
 
 // Nothing is listed that was not read whole; what is longer than a text may be is refused whatever follows.
-fn list_input() {
+fn list_input(rt: &HostRuntime) {
     let mut text = [0u8; ROOM];
-    let input = read_text(&mut text);
-    if input.failed {
-        os::fail(b"listing: standard input");
-        return;
+    match read_text(rt.stdin(), &mut text) {
+        Ok(n) => list(rt, &text[..n]),
+        Err(error) => {
+            fail(rt, "input", &error).ok();
+        }
     }
-    let n = input.count;
-    list(&text[..n]);
 }
 
-fn main() {
-    if os::arg_count() > 1 {
-        tell_usage();
+// Whether the program was called with an argument.
+fn has_argument(rt: &HostRuntime) -> bool {
+    !matches!(rt.arg(1, &mut []), Err(FillError::NotPresent))
+}
+
+fn main(rt: HostRuntime) {
+    if has_argument(&rt) {
+        tell_usage(&rt);
         return;
     }
-    if libc::isatty(STDIN_FILENO) == 1 {
-        tell_usage();
+    if rt.stdin().is_terminal() {
+        tell_usage(&rt);
     }
-    list_input();
+    list_input(&rt);
 }
