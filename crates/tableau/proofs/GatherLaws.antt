@@ -226,7 +226,7 @@ module _ {quotient : ℤ → ℤ → ℤ} (S : Shrinks quotient) where
         lead = rw (round_lead h quotient) (positive_of p (chosen_stands h).0);
         lower = s;
       }))
-      (λ i' k' l' h'. gather_alone h' f i' k' (omega arith))
+      (λ i' k' l' h'. gather_alone {b = r} {B = C} h' f i' k' (omega arith))
 
   -- ---- the count of rounds does not matter
   pub gather_fuel : {n c : ℕ} {b : List ℤ} {B : List (List ℤ)} {j p : ℕ} → Chosen n c b B j p → (f g i k i' k' : ℕ) → p ≤ f → p ≤ g
@@ -240,7 +240,7 @@ module _ {quotient : ℤ → ℤ → ℤ} (S : Shrinks quotient) where
       ap (onward (round_by quotient c b B).over)
       (round_next h S (λ (z : Choice). gather_by quotient f c z r C ≡ gather_by quotient g c z r C)
       (λ s. gather_none quotient f c r C ∙ sym (gather_none quotient g c r C))
-      (λ i'' k'' l'' h''. gather_fuel h'' f g i'' k'' i'' k'' (omega arith) (omega arith)))
+      (λ i'' k'' l'' h''. gather_fuel {b = r} {B = C} h'' f g i'' k'' i'' k'' (omega arith) (omega arith)))
 
 -- ---- with the nearest quotient
 pub floor_shrinks : Shrinks floor_quotient

@@ -15,7 +15,7 @@ use Rattle.lattice.specs.Rows.{chop}
 use Rattle.lattice.specs.Span.{All}
 use Rattle.lattice.proofs.FlatLaws.{flat_chop, chop_next, chop_row}
 use Rattle.tableau.specs.Elimination.{clear_by, lowered_by}
-use Rattle.tableau.specs.Elimination.{Left, kept, lowered, Run, each, Choice, none, at, prefer, choose, Gathered, exchange, clear}
+use Rattle.tableau.specs.Elimination.{Left, kept, lowered, Run, each, Choice, none, at, prefer, choose, Gathered, exchange}
 use Rattle.tableau.proofs.GatherLaws.{chosen_stands}
 use Rattle.tableau.specs.Choices.{counted, nonzeros}
 use Rattle.tableau.specs.Tails.{Tail, Picked, lower_first, lifted_row, Lifted, Gathers, round_of, gathering_of, gathering_rounds_of}

@@ -54,7 +54,7 @@ rounds_fuel {c = c} {b = b} {B = B} h (suc f) (suc g) i k i' k' l l' =
     ap suc
     (round_next h nearest_shrinks (λ (z : Choice). gather_rounds f c z x.pivot x.below ≡ gather_rounds g c z x.pivot x.below)
     (λ s. rounds_none f c x.pivot x.below ∙ sym (rounds_none g c x.pivot x.below))
-    (λ i'' k'' l'' h''. rounds_fuel h'' f g i'' k'' i'' k'' (omega arith) (omega arith)))
+    (λ i'' k'' l'' h''. rounds_fuel {b = x.pivot} {B = x.below} h'' f g i'' k'' i'' k'' (omega arith) (omega arith)))
 
 pub gathering_rounds_first : {n c : ℕ} {b : List ℤ} {B : List (List ℤ)} {j p : ℕ} → Chosen n c b B j p
     → gathering_rounds c b B ≡ gather_rounds p c (at j p) b B
@@ -90,7 +90,7 @@ gather_rounds_lem {c = c} {b = b} {B = B} {p = p} h (suc f) i k =
     let x : Gathered = round c b B in
     round_next h nearest_shrinks (λ (z : Choice). 2 * magnitude z ≤ p → suc (gather_rounds f c z x.pivot x.below) ≤ bit_length p)
     (λ s l. rw (rounds_none f c x.pivot x.below) (bits_some p (chosen_stands h).0))
-    (λ i' k' l h' m. omega (arith, gather_rounds_lem h' f i' k', bits_half k' p (chosen_stands h).0 m))
+    (λ i' k' l h' m. omega (arith, gather_rounds_lem {b = x.pivot} {B = x.below} h' f i' k', bits_half k' p (chosen_stands h).0 m))
     (round_half h)
 
 pub column_rounds_lem : (n c : ℕ) (B : List (List ℤ)) → c < n → All (Len n) B → column_rounds c B (choose c B) ≤ first_bits (choose c B)

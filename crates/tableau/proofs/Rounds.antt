@@ -26,7 +26,7 @@ use Rattle.lattice.specs.Span.{All}
 use Rattle.lattice.proofs.Span.{all_at}
 use Rattle.lattice.proofs.FlatLaws.{one_less, chop_next, chop_row, chop_set, length_chop, row_in_table, first_wide}
 use Rattle.tableau.specs.Elimination.{clear_by, round_by}
-use Rattle.tableau.specs.Elimination.{Gathered, Choice, at, exchange, signed, clear, round}
+use Rattle.tableau.specs.Elimination.{Gathered, Choice, at, exchange, signed, clear}
 use Rattle.tableau.proofs.GatherLaws.{chosen_stands, round_lead}
 use Rattle.tableau.specs.Within.{Within}
 use Rattle.tableau.proofs.Within.{within_take, within_drop, within_append}

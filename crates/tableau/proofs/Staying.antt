@@ -17,7 +17,7 @@ use Rattle.lattice.proofs.Span.{all_append}
 use Rattle.problem.specs.Limits.{any_beyond}
 use Rattle.tableau.specs.Within.{Within}
 use Rattle.tableau.specs.Elimination.{clear_by, eliminate_by, gather_by, pass_column_by, pass_columns_by, round_by}
-use Rattle.tableau.specs.Elimination.{Left, each, reduced, Choice, none, at, choose, Gathered, exchange, signed, clear, round, gather}
+use Rattle.tableau.specs.Elimination.{Left, each, reduced, Choice, none, at, choose, Gathered, exchange, signed, round, gather}
 use Rattle.tableau.specs.Elimination.{Passed, pass_column, pass_columns, eliminate}
 use Rattle.tableau.proofs.Within.{within_append, within_left, within_right, within_neg}
 use Rattle.tableau.specs.declared.rows.Way.TheVariants.{Below, Above}

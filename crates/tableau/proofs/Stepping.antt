@@ -10,26 +10,25 @@
 use mathlib.Core.Path.{◌≡◌, refl, sym, ◌∙◌, ap, ap₂}
 use mathlib.Core.Bool.{Bool, true, false, cond, ◌||◌}
 use mathlib.Core.List.{List, [], ◌∷◌, ◌++◌}
-use Prim.Native.Nat.{ℕ, zero, suc, ◌+◌, ◌*◌, ◌<◌, ◌≤◌}
-use native.Mathlib.Nat.{mul-le-mul_right, zero-div, div-one}
+use Prim.Native.Nat.{ℕ, zero, suc, ◌<◌, ◌≤◌}
+use native.Mathlib.Nat.{zero-div, div-one}
 use native.Mathlib.Omega.{arith}
 use borrow.Author.Tests.{ltb-true, ltb-false, eq-eqb, ne_eqb}
 use lib.Dec.{ltb}
-use lib.IntN.{ℤ, pos, negsuc, neg_ℤ, nat_abs, ◌+ℤ◌, ◌*ℤ◌}
+use lib.IntN.{ℤ, pos, negsuc, neg_ℤ, nat_abs}
 use lib.ListN.{length, take, drop, take-append-drop, get_or-eq_default}
 use Rattle.whole.specs.Lists.{entry, zeros}
 use Rattle.whole.specs.Quotient.{floor_quotient, nearest_quotient}
 use Rattle.whole.specs.Tests.{positive, Positive}
-use Rattle.whole.proofs.Integers.{rep, diff_rel, positive_nonzero, nat_abs_zero, floor_quotient_left, add_none}
+use Rattle.whole.proofs.Integers.{positive_nonzero, nat_abs_zero, floor_quotient_left, add_none}
 use Rattle.whole.proofs.Nearest as Nearest
 use Rattle.whole.proofs.Nearest.{nearest_small, nearest_one}
-use Rattle.whole.proofs.Signed.{abs_add, abs_mul, abs_neg}
 use Rattle.lattice.specs.Rows.{plus, ZeroTo}
 use Rattle.lattice.proofs.RowLaws.{plus_none}
 use Rattle.problem.specs.Limits.{any_beyond}
 use Rattle.tableau.specs.Within.{Within}
 use Rattle.tableau.specs.Elimination.{lowered_by}
-use Rattle.tableau.specs.Elimination.{Left, subtract, kept, lowered, reduced}
+use Rattle.tableau.specs.Elimination.{Left, subtract, kept, reduced}
 use Rattle.tableau.proofs.Within.{within_take, beyond_append}
 use Rattle.tableau.specs.RowSteps.{Stops, quotient_of, row_step, Pivot, left_after}
 use Rattle.tableau.specs.declared.rows.Way.{Way}

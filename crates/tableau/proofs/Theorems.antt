@@ -15,7 +15,7 @@ use Rattle.lattice.specs.Sums.{Satisfies}
 use Rattle.lattice.specs.Span.{All, Span, Same}
 use Rattle.lattice.proofs.Span.{steps_count, steps_length}
 use Rattle.lattice.proofs.Hermite as Forms
-use Rattle.lattice.specs.Hermite.{Echelon, width, rows, Led, Rising, Hermite}
+use Rattle.lattice.specs.Hermite.{Echelon, width, rows, Led, Rising}
 use Rattle.lattice.proofs.Hermite.{past, rows_led, rows_rising, past_width, past_hermite}
 use Rattle.lattice.specs.Coset.{Describes}
 use Rattle.tableau.specs.Table.{tableau}

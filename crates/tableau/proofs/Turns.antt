@@ -9,13 +9,12 @@
 use mathlib.Core.Path.{◌≡◌, refl, sym, ◌∙◌, ap, ap₂, subst}
 use mathlib.Core.Bool.{Bool, true, false, ◌||◌}
 use mathlib.Core.List.{List, ◌∷◌}
-use Prim.Native.Nat.{ℕ, suc, ◌+◌, ◌*◌, ◌-◌, ◌<◌, ◌≤◌}
+use Prim.Native.Nat.{ℕ, suc, ◌+◌, ◌*◌, ◌-◌, ◌≤◌}
 use native.Mathlib.Numerals.{add-one}
 use native.Mathlib.Omega.{arith}
 use lib.IntN.{ℤ}
 use lib.ListN.{length, take, drop}
 use lib.Seq.{take_at, drop_at}
-use Rattle.whole.specs.Lists.{entry}
 use Rattle.whole.specs.Quotient.{nearest_quotient}
 use Rattle.whole.specs.BitLength.{bit_length}
 use Rattle.whole.proofs.BitLength.{bits_some, bits_half}
@@ -25,7 +24,7 @@ use Rattle.lattice.specs.Span.{All, Len}
 use Rattle.lattice.proofs.Span.{steps_length, steps_all}
 use Rattle.lattice.proofs.FlatLaws.{chop_next, chop_flat, flat_chop, length_chop}
 use Rattle.tableau.specs.Elimination.{clear_by}
-use Rattle.tableau.specs.Elimination.{Gathered, Choice, none, at, choose, clear, onward}
+use Rattle.tableau.specs.Elimination.{Gathered, Choice, none, at, choose, onward}
 use Rattle.tableau.specs.Gathering.{Chosen, magnitude, gathering, gathering_rounds}
 use Rattle.tableau.proofs.GatherLaws.{nearest_shrinks, chosen_stands, round_steps, round_next, round_half, following, gathering_round}
 use Rattle.tableau.proofs.RoundLaws.{following_rounds, gathering_rounds_round}

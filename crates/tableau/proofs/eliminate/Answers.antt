@@ -26,10 +26,11 @@ count s = rounds_in s.args.rows s.args.w s.args.t.now
 -- what all columns answer and leave
 ran :
     (c : After-pass_all-tally) →
-    StopsRun (wanted c.before.before.before) c.pass_all-tally.result.over c.pass_all-tally.new.t
-    × (c.pass_all-tally.result.rounds ≡ refused_none c.pass_all-tally.result.over (count c.before.before.before))
+    StopsRun (wanted (goal.at.After-pass_all-tally c).Start) c.pass_all-tally.result.over c.pass_all-tally.new.t
+    × (c.pass_all-tally.result.rounds ≡ refused_none c.pass_all-tally.result.over (count (goal.at.After-pass_all-tally c).Start))
 ran c =
-    rw (length-take-le c.args.w _ c.requires.t_len.1) at c.pass_all-tally.ensures
+    let e = c.pass_all-tally.ensures in
+    (rw (length-take-le c.args.w _ c.requires.t_len.1) at e.stops_run, rw (length-take-le c.args.w _ c.requires.t_len.1) at e.rounds_value)
 
 -- what the buffer holds, by the answer
 wiped : (x : Run) (t : List ℤ) {r : Bool} → r ≡ true → zeros (length t) ≡ cond r (zeros (length t)) (flat x.table)
@@ -47,10 +48,10 @@ pass_all-tally-requires c =
 
 pub returns-then-tally : goal.returns-then-tally
 returns-then-tally c =
-    outcome_by (wanted c.before.before.before.before.before.before.before.before.before) (count c.before.before.before.before.before.before.before.before.before) c.args.t.now (ran c.before.before.before.before.before.before).0.answer (ran c.before.before.before.before.before.before).1
-    (c.wipe.ensures ∙ ap zeros c.pass_all-tally.auto.t ∙ wiped (wanted c.before.before.before.before.before.before.before.before.before) c.args.t.now c.if-tally.true)
+    outcome_by (wanted (goal.at.returns-then-tally c).Start) (count (goal.at.returns-then-tally c).Start) c.args.t.now (ran (goal.at.returns-then-tally c).After-pass_all-tally).0.answer (ran (goal.at.returns-then-tally c).After-pass_all-tally).1
+    (c.wipe.ensures ∙ ap zeros c.pass_all-tally.auto.t ∙ wiped (wanted (goal.at.returns-then-tally c).Start) c.args.t.now c.if-tally.true)
 
 pub returns-else-tally : goal.returns-else-tally
 returns-else-tally c =
-    outcome_by (wanted c.before.before.before.before.before.before) (count c.before.before.before.before.before.before) c.args.t.now (ran c.before.before.before).0.answer (ran c.before.before.before).1
-    ((ran c.before.before.before).0.left c.if-tally.false ∙ kept (wanted c.before.before.before.before.before.before) c.args.t.now c.if-tally.false)
+    outcome_by (wanted (goal.at.returns-else-tally c).Start) (count (goal.at.returns-else-tally c).Start) c.args.t.now (ran (goal.at.returns-else-tally c).After-pass_all-tally).0.answer (ran (goal.at.returns-else-tally c).After-pass_all-tally).1
+    ((ran (goal.at.returns-else-tally c).After-pass_all-tally).0.left c.if-tally.false ∙ kept (wanted (goal.at.returns-else-tally c).Start) c.args.t.now c.if-tally.false)

@@ -33,7 +33,8 @@ told :
     ≡ refused_none c.gather-gathered.result.over (gathering_rounds_of (a.rows - a.k) w a.c (drop (a.k * w) a.t.now)))
 told c =
     let a = c.args in
-    rw (tail_is (a.k * length a.pivot.now) a.t.now) at c.gather-gathered.ensures
+    let e = c.gather-gathered.ensures in
+    let q = tail_is (a.k * length a.pivot.now) a.t.now in (rw q at e.gathers, rw q at e.rounds_value)
 
 -- its rounds are the column's
 counts :
@@ -46,7 +47,7 @@ counts c =
 -- once that has met no number beyond M
 module _ (c : Else-gathered) where
   abbrev s : Start
-  s = c.before.before.before.before.before.before
+  s = (goal.at.Else-gathered c).Start
 
   abbrev t_of : List ℤ
   t_of = s.args.t.now
@@ -61,7 +62,7 @@ module _ (c : Else-gathered) where
   room = room_of s.requires.standing
 
   unmarked : (gathering_of (s.args.rows - s.args.k) (length s.args.pivot.now) s.args.c (drop at t_of)).over ≡ false
-  unmarked = sym (told c.before.before.before).0.answer ∙ c.if-gathered.false
+  unmarked = sym (told (goal.at.Else-gathered c).After-gather-gathered).0.answer ∙ c.if-gathered.false
 
   back_is : put_mid at (length t_of - at) t_of u ≡ take at t_of ++ u
   back_is = tail_back at t_of u room
@@ -87,57 +88,57 @@ overflow_sub-rows c = omega (arith, c.requires.standing.most)
 pub gather-gathered-requires : goal.gather-gathered-requires
 gather-gathered-requires c =
     rw (tail_is (c.args.k * length c.args.pivot.now) c.args.t.now)
-    (tail_of c.requires.standing c.requires.c_in_bounds, c.requires.1.1)
+    record { tail = tail_of c.requires.standing c.requires.c_in_bounds; picked = c.requires.picked; chooses = c.requires.chooses }
 
 pub returns-then-gathered : goal.returns-then-gathered
 returns-then-gathered c =
     record {
       stops_run = record {
-        answer = c.if-gathered.true ∙ sym (passed_over c.requires.standing c.requires.c_in_bounds c.requires.picked (sym (told c.before.before.before).0.answer ∙ c.if-gathered.true));
+        answer = c.if-gathered.true ∙ sym (passed_over c.requires.standing c.requires.c_in_bounds c.requires.picked (sym (told (goal.at.returns-then-gathered c).After-gather-gathered).0.answer ∙ c.if-gathered.true));
         left = λ e. absurd (true≢false (sym c.if-gathered.true ∙ e));
       };
-      rounds_value = counts c.before.before.before;
+      rounds_value = counts (goal.at.returns-then-gathered c).After-gather-gathered;
     }
 
 pub slice_bounds-each-end : goal.slice_bounds-each-end
 slice_bounds-each-end c = rw (back_is c) (omega (arith, length-append (take (at c) (t_of c)) (u c), length-take-le (at c) (t_of c) (room c)))
 
 pub slice_bounds-each-end-2 : goal.slice_bounds-each-end-2
-slice_bounds-each-end-2 c = sym (ap length (top_is c.before) ∙ length-take-le (at c.before) (t_of c.before) (room c.before))
+slice_bounds-each-end-2 c = sym (ap length (top_is (goal.at.slice_bounds-each-end-2 c).Else-gathered) ∙ length-take-le (at (goal.at.slice_bounds-each-end-2 c).Else-gathered) (t_of (goal.at.slice_bounds-each-end-2 c).Else-gathered) (room (goal.at.slice_bounds-each-end-2 c).Else-gathered))
 
 pub each-requires : goal.each-requires
 each-requires c =
-    let a = (s c.before).args in
-    let p = (s c.before).requires in record {
-      t_len = ap length (top_is c.before) ∙ length-take-le (at c.before) (t_of c.before) (room c.before) ∙ ap (λ (i : ℕ). a.k * i) (sym c.gather-gathered.auto.pivot);
-      pivot = subst (λ (r : List ℤ). Pivot (length r) a.c r) (sym ((told c.before.before.before.before).0.row c.if-gathered.false))
-          (pivot_of (rows_of p.0 p.1.0 p.1.1.0) (unmarked c.before));
-      within = subst Within (sym (top_is c.before)) (within_take (at c.before) (t_of c.before) p.0.small);
+    let a = (s (goal.at.each-requires c).Else-gathered).args in
+    let p = (s (goal.at.each-requires c).Else-gathered).requires in record {
+      t_len = ap length (top_is (goal.at.each-requires c).Else-gathered) ∙ length-take-le (at (goal.at.each-requires c).Else-gathered) (t_of (goal.at.each-requires c).Else-gathered) (room (goal.at.each-requires c).Else-gathered) ∙ ap (λ (i : ℕ). a.k * i) (sym c.gather-gathered.auto.pivot);
+      pivot = subst (λ (r : List ℤ). Pivot (length r) a.c r) (sym ((told (goal.at.each-requires c).After-gather-gathered).0.row c.if-gathered.false))
+          (pivot_of (rows_of p.standing p.c_in_bounds p.picked) (unmarked (goal.at.each-requires c).Else-gathered));
+      within = subst Within (sym (top_is (goal.at.each-requires c).Else-gathered)) (within_take (at (goal.at.each-requires c).Else-gathered) (t_of (goal.at.each-requires c).Else-gathered) p.standing.small);
     }
 
 -- what taking the pivot from the rows above answers and leaves
 stops :
     (c : After-t-2-1) →
     let e = c.each in
-    let a = (s c.before.before.before).args in
-    StopsRun (rejoined (passed_of a.rows (length a.pivot.now) a.c a.k (t_of c.before.before.before))) e.result
-    (e.new.0 ++ drop (at c.before.before.before) (put_mid (at c.before.before.before) (length (t_of c.before.before.before) - at c.before.before.before) (t_of c.before.before.before) (u c.before.before.before)))
+    let a = (s (goal.at.After-t-2-1 c).Else-gathered).args in
+    StopsRun (rejoined (passed_of a.rows (length a.pivot.now) a.c a.k (t_of (goal.at.After-t-2-1 c).Else-gathered))) e.result
+    (e.new.t ++ drop (at (goal.at.After-t-2-1 c).Else-gathered) (put_mid (at (goal.at.After-t-2-1 c).Else-gathered) (length (t_of (goal.at.After-t-2-1 c).Else-gathered) - at (goal.at.After-t-2-1 c).Else-gathered) (t_of (goal.at.After-t-2-1 c).Else-gathered) (u (goal.at.After-t-2-1 c).Else-gathered)))
 stops c =
-    let g = (told c.before.before.before.before.before.before).0 in
-    let a = (s c.before.before.before).args in
-    let p = (s c.before.before.before).requires in
+    let g = (told (goal.at.After-t-2-1 c).After-gather-gathered).0 in
+    let a = (s (goal.at.After-t-2-1 c).Else-gathered).args in
+    let p = (s (goal.at.After-t-2-1 c).Else-gathered).requires in
     let e = c.each in
-    let R = rejoined (passed_of a.rows (length a.pivot.now) a.c a.k (t_of c.before.before.before)) in
-    subst (λ (l : List ℤ). StopsRun R e.result (e.new.0 ++ l))
-    (sym (ap (drop (at c.before.before.before)) (back_is c.before.before.before) ∙ drop_at (take (at c.before.before.before) (t_of c.before.before.before)) (u c.before.before.before) (at c.before.before.before) (length-take-le (at c.before.before.before) (t_of c.before.before.before) (room c.before.before.before))))
-    (passed_stops p.0 p.1.0 p.1.1.0 (unmarked c.before.before.before) (g.row c.if-gathered.false) (g.left c.if-gathered.false)
-    (subst (λ (l : List ℤ). StopsRun (each_of Above a.c c.gather-gathered.new.pivot a.k l) e.result e.new.0) (top_is c.before.before.before) e.ensures))
+    let R = rejoined (passed_of a.rows (length a.pivot.now) a.c a.k (t_of (goal.at.After-t-2-1 c).Else-gathered)) in
+    subst (λ (l : List ℤ). StopsRun R e.result (e.new.t ++ l))
+    (sym (ap (drop (at (goal.at.After-t-2-1 c).Else-gathered)) (back_is (goal.at.After-t-2-1 c).Else-gathered) ∙ drop_at (take (at (goal.at.After-t-2-1 c).Else-gathered) (t_of (goal.at.After-t-2-1 c).Else-gathered)) (u (goal.at.After-t-2-1 c).Else-gathered) (at (goal.at.After-t-2-1 c).Else-gathered) (length-take-le (at (goal.at.After-t-2-1 c).Else-gathered) (t_of (goal.at.After-t-2-1 c).Else-gathered) (room (goal.at.After-t-2-1 c).Else-gathered))))
+    (passed_stops p.standing p.c_in_bounds p.picked (unmarked (goal.at.After-t-2-1 c).Else-gathered) (g.row c.if-gathered.false) (g.left c.if-gathered.false)
+    (subst (λ (l : List ℤ). StopsRun (each_of Above a.c c.gather-gathered.new.pivot a.k l) e.result e.new.t) (top_is (goal.at.After-t-2-1 c).Else-gathered) e.ensures))
 
 pub returns-then-each : goal.returns-then-each
 returns-then-each c =
-    let o = stops c.before in
+    let o = stops (goal.at.returns-then-each c).After-t-2-1 in
     record { stops_run = record { answer = sym c.if-each.true ∙ o.answer; left = λ e. absurd (true≢false e) }; rounds_value = refl }
 
 pub returns : goal.returns
 returns c =
-    let o = stops c.before in record { stops_run = record { answer = c.if-gathered.false ∙ sym c.if-each.false ∙ o.answer; left = λ _. o.left c.if-each.false }; rounds_value = counts c.before.before.before.before.before.before.before }
+    let o = stops (goal.at.returns c).After-t-2-1 in record { stops_run = record { answer = c.if-gathered.false ∙ sym c.if-each.false ∙ o.answer; left = λ _. o.left c.if-each.false }; rounds_value = counts (goal.at.returns c).After-gather-gathered }

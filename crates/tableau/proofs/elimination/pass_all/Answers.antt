@@ -44,17 +44,17 @@ picked c =
     let l = c.loop-c in
     let z = c.choose-z.result in
     picked_of (tail_of l.invariant.stands c.loop-c-test.true) (omega (arith, l.invariant.stands.most, c.if-k-rows.false))
-    (sym (chosen c.before.before).is ∙ sighted_some z.count z.row z.size c.if-z-eq0.false)
+    (sym (chosen (goal.at.Else-z-eq0 c).After-choose-z).is ∙ sighted_some z.count z.row z.size c.if-z-eq0.false)
 
 -- the turn of a pass
 abbrev choice : After-pass-passed → After-choose-z
-choice c = c.before.before.before.before.before
+choice c = (goal.at.After-pass-passed c).After-choose-z
 
 abbrev tested : After-pass-passed → In-loop-c
-tested c = (choice c).before.before.before
+tested c = (goal.at.After-choose-z (choice c)).In-loop-c
 
 abbrev turn : After-pass-passed → At-loop-c
-turn c = (tested c).before
+turn c = (goal.at.In-loop-c (tested c)).At-loop-c
 
 told :
     (c : After-pass-passed) →
@@ -64,7 +64,9 @@ told :
     c.pass-passed.result.over c.pass-passed.new.t
     × (c.pass-passed.result.rounds
     ≡ refused_none c.pass-passed.result.over (passed_rounds a.rows (length a.pivot.now) m.loop-c.c m.loop-c.k m.loop-c.t))
-told c = rw (turn c).loop-c.invariant.wide at c.pass-passed.ensures
+told c =
+    let e = c.pass-passed.ensures in
+    let q = (turn c).loop-c.invariant.wide in (rw q at e.stops_run, rw q at e.rounds_value)
 
 pub loop-c-init : goal.loop-c-init
 loop-c-init c =
@@ -126,7 +128,7 @@ loop-c-preserved-then-z-eq0 c =
     let z = c.choose-z.result in
     let w : ℕ = length a.pivot.now in
     let e : choose l.c (below_of a.rows w l.k l.t) ≡ none =
-    sym (chosen c.before.before).is ∙ sighted_none z.row z.size c.if-z-eq0.true in
+    sym (chosen (goal.at.loop-c-preserved-then-z-eq0 c).After-choose-z).is ∙ sighted_none z.row z.size c.if-z-eq0.true in
     let d : w - (l.c + 1) ≡ w - l.c - 1 = omega arith in
     record {
       same = l.invariant.same;
@@ -149,29 +151,29 @@ loop-c-preserved-then-z-eq0 c =
 pub pass-passed-requires : goal.pass-passed-requires
 pass-passed-requires c =
     let i = c.loop-c.invariant in
-    rw i.wide record { standing = i.stands; c_in_bounds = c.loop-c-test.true; picked = picked c.before.before; chooses = chosen c.before.before.before.before }
+    rw i.wide record { standing = i.stands; c_in_bounds = c.loop-c-test.true; picked = picked (goal.at.pass-passed-requires c).Else-z-eq0; chooses = chosen (goal.at.pass-passed-requires c).After-choose-z }
 
 pub shape_of-t-then-passed : goal.shape_of-t-then-passed
-shape_of-t-then-passed c = c.pass-passed.auto.t ∙ (turn c.before.before.before).loop-c.invariant.same
+shape_of-t-then-passed c = c.pass-passed.auto.t ∙ (turn (goal.at.shape_of-t-then-passed c).After-pass-passed).loop-c.invariant.same
 
 pub shape_of-pivot-then-passed : goal.shape_of-pivot-then-passed
-shape_of-pivot-then-passed c = c.pass-passed.auto.pivot ∙ (turn c.before.before.before).loop-c.invariant.wide
+shape_of-pivot-then-passed c = c.pass-passed.auto.pivot ∙ (turn (goal.at.shape_of-pivot-then-passed c).After-pass-passed).loop-c.invariant.wide
 
 pub returns-then-passed : goal.returns-then-passed
 returns-then-passed c =
-    let a = (turn c.before.before.before).args in
-    let l = (turn c.before.before.before).loop-c in
+    let a = (turn (goal.at.returns-then-passed c).After-pass-passed).args in
+    let l = (turn (goal.at.returns-then-passed c).After-pass-passed).loop-c in
     let w : ℕ = length a.pivot.now in record {
       stops_run = record {
         answer =
             c.if-passed.true
             ∙ sym
             (ap (λ (x : Run). x.over) (sym l.invariant.rest)
-            ∙ columns_over (w - l.c) l.c (above_of w l.k l.t) (below_of a.rows w l.k l.t) (omega (arith, (tested c.before.before.before).loop-c-test.true))
-            (sym (told c.before.before.before).0.answer ∙ c.if-passed.true));
+            ∙ columns_over (w - l.c) l.c (above_of w l.k l.t) (below_of a.rows w l.k l.t) (omega (arith, (tested (goal.at.returns-then-passed c).After-pass-passed).loop-c-test.true))
+            (sym (told (goal.at.returns-then-passed c).After-pass-passed).0.answer ∙ c.if-passed.true));
         left = λ e. absurd (true≢false (sym c.if-passed.true ∙ e));
       };
-      rounds_value = (told c.before.before.before).1
+      rounds_value = (told (goal.at.returns-then-passed c).After-pass-passed).1
           ∙ ap (λ (o : Bool). refused_none o (passed_rounds a.rows w l.c l.k l.t)) c.if-passed.true
           ∙ sym (ap (λ (o : Bool). refused_none o (rounds w (chop a.rows w a.t.now))) c.if-passed.true);
     }
@@ -179,45 +181,45 @@ returns-then-passed c =
 -- the rounds of a column that is passed
 passed :
     (c : After-struct_known-else-z-eq0-1) →
-    let m = turn c.before.before.before.before in
+    let m = turn (goal.at.After-struct_known-else-z-eq0-1 c).After-pass-passed in
     let a = m.args in
     c.pass-passed.result.rounds ≡ passed_rounds a.rows (length a.pivot.now) m.loop-c.c m.loop-c.k m.loop-c.t
 passed c =
-    let m = turn c.before.before.before.before in
+    let m = turn (goal.at.After-struct_known-else-z-eq0-1 c).After-pass-passed in
     let a = m.args in
-    (told c.before.before.before.before).1
+    (told (goal.at.After-struct_known-else-z-eq0-1 c).After-pass-passed).1
     ∙ ap (λ (o : Bool). refused_none o (passed_rounds a.rows (length a.pivot.now) m.loop-c.c m.loop-c.k m.loop-c.t)) c.if-passed.false
 
 few_more : (c : After-struct_known-else-z-eq0-1) →
     c.pass-passed.result.rounds ≤ 31
 few_more c =
-    omega (arith, passed c, passed_few (turn c.before.before.before.before).loop-c.invariant.stands (tested c.before.before.before.before).loop-c-test.true)
+    omega (arith, passed c, passed_few (turn (goal.at.After-struct_known-else-z-eq0-1 c).After-pass-passed).loop-c.invariant.stands (tested (goal.at.After-struct_known-else-z-eq0-1 c).After-pass-passed).loop-c-test.true)
 
 pub overflow_add-count : goal.overflow_add-count
 overflow_add-count c =
-    let m = turn c.before.before.before.before in
-    omega (arith, m.loop-c.invariant.few, few_more c, (tested c.before.before.before.before).loop-c-test.true, m.requires.t_len.1)
+    let m = turn (goal.at.overflow_add-count c).After-pass-passed in
+    omega (arith, m.loop-c.invariant.few, few_more c, (tested (goal.at.overflow_add-count c).After-pass-passed).loop-c-test.true, m.requires.t_len.1)
 
 pub overflow_add-k : goal.overflow_add-k
 overflow_add-k c =
     omega (arith, c.loop-c.invariant.stands.most, c.if-k-rows.false)
 
 pub overflow_add-c-else-z-eq0 : goal.overflow_add-c-else-z-eq0
-overflow_add-c-else-z-eq0 c = omega (arith, (tested c.before.before.before.before).loop-c-test.true)
+overflow_add-c-else-z-eq0 c = omega (arith, (tested (goal.at.overflow_add-c-else-z-eq0 c).After-pass-passed).loop-c-test.true)
 
 pub loop-c-smaller : goal.loop-c-smaller
-loop-c-smaller c = omega (arith, (tested c.before.before.before.before).loop-c-test.true)
+loop-c-smaller c = omega (arith, (tested (goal.at.loop-c-smaller c).After-pass-passed).loop-c-test.true)
 
 pub loop-c-preserved : goal.loop-c-preserved
 loop-c-preserved c =
-    let a = (turn c.before.before.before.before).args in
-    let l = (turn c.before.before.before.before).loop-c in
-    let f = (tested c.before.before.before.before).loop-c-test.true in
-    let g = picked c.before.before.before.before.before.before.before in
+    let a = (turn (goal.at.loop-c-preserved c).After-pass-passed).args in
+    let l = (turn (goal.at.loop-c-preserved c).After-pass-passed).loop-c in
+    let f = (tested (goal.at.loop-c-preserved c).After-pass-passed).loop-c-test.true in
+    let g = picked (goal.at.loop-c-preserved c).Else-z-eq0 in
     let w : ℕ = length a.pivot.now in
     let d : w - (l.c + 1) ≡ w - l.c - 1 = omega arith in
-    let o = sym (told c.before.before.before.before).0.answer ∙ c.if-passed.false in
-    let s = (told c.before.before.before.before).0.left c.if-passed.false in
+    let o = sym (told (goal.at.loop-c-preserved c).After-pass-passed).0.answer ∙ c.if-passed.false in
+    let s = (told (goal.at.loop-c-preserved c).After-pass-passed).0.left c.if-passed.false in
     let A = passed_above l.invariant.stands f g o s c.pass-passed.auto.t in
     let B = passed_below l.invariant.stands f g o s c.pass-passed.auto.t in
     record {

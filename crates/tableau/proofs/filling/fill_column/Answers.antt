@@ -1,6 +1,6 @@
 -- `tableau::filling::fill_column` meets its contract: from the left, the number of row i at column j is stored at i. Assumes nothing.
 use mathlib.Core.Path.{sym, ◌∙◌}
-use Prim.Native.Nat.{◌+◌, ◌-◌, ◌*◌, ◌<◌}
+use Prim.Native.Nat.{◌+◌, ◌*◌, ◌<◌}
 use native.Mathlib.Omega.{arith}
 use lib.ListN.{length}
 use Rattle.whole.proofs.Signed.{back}
@@ -54,7 +54,7 @@ loop-i-smaller c = omega (arith, c.loop-i.invariant.same)
 pub loop-i-preserved : goal.loop-i-preserved
 loop-i-preserved c =
     let a = c.args in
-    goes_on c.loop-i.invariant (low c.before)
+    goes_on c.loop-i.invariant (low (goal.at.loop-i-preserved c).In-loop-i)
     (back _ c.x-1.given
     ∙ sym
     (column_number c.loop-i.i a.j (length a.to.now) a.n a.coefficients.now (omega (arith, c.loop-i.invariant.same)) c.requires.1))

@@ -1,6 +1,6 @@
 -- `tableau::gathering::bring` meets its contract: from column c on, the numbers of the two rows change places. Assumes nothing.
 use mathlib.Core.Path.{◌∙◌}
-use Prim.Native.Nat.{◌+◌, ◌*◌, ◌-◌, ◌<◌}
+use Prim.Native.Nat.{◌+◌, ◌*◌, ◌<◌}
 use native.Mathlib.Omega.{arith}
 use lib.ListN.{length, length-set}
 use Rattle.whole.proofs.Signed.{back}
@@ -33,31 +33,31 @@ pub slice_copy_out-x : goal.slice_copy_out-x
 slice_copy_out-x c = omega (arith, inside c)
 
 pub overflow_add-y : goal.overflow_add-y
-overflow_add-y c = omega (arith, inside c.before)
+overflow_add-y c = omega (arith, inside (goal.at.overflow_add-y c).In-loop-i)
 
 pub offset_bounds-t-at : goal.offset_bounds-t-at
-offset_bounds-t-at c = omega (arith, inside c.before)
+offset_bounds-t-at c = omega (arith, inside (goal.at.offset_bounds-t-at c).In-loop-i)
 
 pub slice_copy_out-y : goal.slice_copy_out-y
-slice_copy_out-y c = inside c.before
+slice_copy_out-y c = inside (goal.at.slice_copy_out-y c).In-loop-i
 
 pub offset_bounds-t-i-in-loop-i : goal.offset_bounds-t-i-in-loop-i
-offset_bounds-t-i-in-loop-i c = omega (arith, inside c.before.before)
+offset_bounds-t-i-in-loop-i c = omega (arith, inside (goal.at.offset_bounds-t-i-in-loop-i c).In-loop-i)
 
 pub bounds-t-i : goal.bounds-t-i
-bounds-t-i c = omega (arith, inside c.before.before)
+bounds-t-i c = omega (arith, inside (goal.at.bounds-t-i c).In-loop-i)
 
 pub overflow_add-x : goal.overflow_add-x
-overflow_add-x c = omega (arith, inside c.before.before)
+overflow_add-x c = omega (arith, inside (goal.at.overflow_add-x c).In-loop-i)
 
 pub offset_bounds-t-at-in-loop-i : goal.offset_bounds-t-at-in-loop-i
-offset_bounds-t-at-in-loop-i c = omega (arith, inside c.before.before)
+offset_bounds-t-at-in-loop-i c = omega (arith, inside (goal.at.offset_bounds-t-at-in-loop-i c).In-loop-i)
 
 pub bounds-t-at : goal.bounds-t-at
-bounds-t-at c = simp length-set (inside c.before.before)
+bounds-t-at c = simp length-set (inside (goal.at.bounds-t-at c).In-loop-i)
 
 pub overflow_add-i : goal.overflow_add-i
-overflow_add-i c = omega (arith, inside c.before.before)
+overflow_add-i c = omega (arith, inside (goal.at.overflow_add-i c).In-loop-i)
 
 pub loop-i-smaller : goal.loop-i-smaller
 loop-i-smaller c = omega (arith, c.loop-i-test.true)

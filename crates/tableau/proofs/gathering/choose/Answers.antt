@@ -1,6 +1,6 @@
 -- `tableau::gathering::choose` meets its contract: from the first row on, the choice is that among the rows passed. Assumes nothing.
 use mathlib.Core.Path.{◌≡◌, subst}
-use Prim.Native.Nat.{ℕ, ◌+◌, ◌*◌, ◌-◌, ◌<◌, ◌≤◌}
+use Prim.Native.Nat.{ℕ, ◌+◌, ◌*◌, ◌<◌, ◌≤◌}
 use native.Mathlib.Nat.{mul-le-mul_left}
 use native.Mathlib.Omega.{arith}
 use lib.IntN.{nat_abs}
@@ -52,7 +52,7 @@ later-z-requires c =
     let a = c.args in
     let l = c.loop-i in
     let f = few a.c (chop l.i a.w a.t.now) in
-    omega (arith, l.invariant.chooses.count, f, length_chop l.i a.w a.t.now, l.invariant.most, less_rows c.before.before.before.before)
+    omega (arith, l.invariant.chooses.count, f, length_chop l.i a.w a.t.now, l.invariant.most, less_rows (goal.at.later-z-requires c).Start)
 
 pub overflow_add-i-in-loop-i : goal.overflow_add-i-in-loop-i
 overflow_add-i-in-loop-i c = omega (arith, c.loop-i-test.true, c.ranges.rows)
@@ -68,7 +68,7 @@ loop-i-preserved c =
       most = omega (arith, c.loop-i-test.true);
       chooses =
           next_row a.c a.w l.i a.t.now c.magnitude.result c.requires.1
-          l.invariant.chooses (size c.before) c.later-z.ensures;
+          l.invariant.chooses (size (goal.at.loop-i-preserved c).After-magnitude) (c.later-z.ensures.result_value, c.later-z.ensures.count_value);
     }
 
 pub returns : goal.returns

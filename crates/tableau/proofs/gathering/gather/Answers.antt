@@ -5,7 +5,9 @@ use Rattle.tableau.proofs.Lone.{lone_stops, lone_round}
 use Rattle.tableau.proofs.gathering.gather.Goals as goal
 
 pub lift-requires : goal.lift-requires
-lift-requires c = lift_asks c.requires.tail c.requires.picked
+lift-requires c =
+    let l = lift_asks c.requires.tail c.requires.picked in
+    record { c_in_bounds = l.0; zero_to = l.1.0; within = l.1.1 }
 
 pub returns-then-z-eq1 : goal.returns-then-z-eq1
 returns-then-z-eq1 c =

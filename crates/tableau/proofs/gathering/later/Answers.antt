@@ -2,7 +2,6 @@
 use mathlib.Core.Path.{refl}
 use mathlib.Core.Logic.{⊎_elim}
 use native.Mathlib.Omega.{arith}
-use borrow.Author.Tests.{ltb-true, ltb-false}
 use Rattle.tableau.proofs.Choosing.{below_first, below_taken, below_left, counted_up}
 use Rattle.tableau.proofs.gathering.later.Goals as goal
 
@@ -14,10 +13,8 @@ returns-then-z-eq0 c =
     let a = c.args in
     let z = a.z in
     let e = c.if-size-eq0.false in record {
-      result_value = ⊎_elim
-          (λ h. below_first z.count z.row z.size a.i a.size e h.taken)
-          (λ h. below_taken z.count z.row z.size a.i a.size e (ltb-true a.size z.size h.2.taken))
-          c.then-z-eq0.branch;
+      result_value =
+          ⊎_elim (λ h. below_first z.count z.row z.size a.i a.size e h) (λ h. below_taken z.count z.row z.size a.i a.size e h.1) c.then-z-eq0.either;
       count_value = counted_up z.count a.size e;
     }
 
@@ -25,7 +22,7 @@ pub returns : goal.returns
 returns c =
     let a = c.args in
     let z = a.z in record {
-      result_value = below_left z.count z.row z.size a.i a.size c.then-z-eq0.false
-          (ltb-false a.size z.size c.if-size-z.false);
+      result_value = below_left z.count z.row z.size a.i a.size c.if-z-eq0.false
+          c.if-size-z.false;
       count_value = counted_up z.count a.size c.if-size-eq0.false;
     }

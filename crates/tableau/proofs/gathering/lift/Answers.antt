@@ -17,7 +17,7 @@ room c = omega (arith, c.bring.auto.t, c.requires.c_in_bounds.1)
 
 -- it keeps its length
 wide : (c : After-raise) → length c.raise.new.row ≡ length c.args.pivot.now
-wide c = c.raise.auto.row ∙ length-take-le _ c.bring.new.t (room c.before.before)
+wide c = c.raise.auto.row ∙ length-take-le _ c.bring.new.t (room (goal.at.After-raise c).After-t-1)
 
 fits :
     (c : After-raise) →
@@ -34,27 +34,27 @@ pub slice_bounds-raise-end : goal.slice_bounds-raise-end
 slice_bounds-raise-end c = room c
 
 pub slice_bounds-raise-end-2 : goal.slice_bounds-raise-end-2
-slice_bounds-raise-end-2 c = sym (length-take-le _ c.bring.new.t (room c.before))
+slice_bounds-raise-end-2 c = sym (length-take-le _ c.bring.new.t (room (goal.at.slice_bounds-raise-end-2 c).After-t-1))
 
 pub raise-requires : goal.raise-requires
 raise-requires c =
     let w : ℕ = length c.args.pivot.now in
     let at : ℕ = c.args.j * w in (
-      omega (arith, length-take-le w c.bring.new.t (room c.before), c.requires.c_in_bounds.0),
+      omega (arith, length-take-le w c.bring.new.t (room (goal.at.raise-requires c).After-t-1), c.requires.c_in_bounds.0),
       subst Within (sym (top_row w c.args.j c.args.t.now c.requires.c_in_bounds.1 c.bring.ensures))
           (within_take w (drop at c.args.t.now) (within_drop at c.args.t.now c.requires.within)),
     )
 
 pub slice_bounds-copy-end : goal.slice_bounds-copy-end
-slice_bounds-copy-end c = fits c.before.before
+slice_bounds-copy-end c = fits (goal.at.slice_bounds-copy-end c).After-raise
 
 pub slice_bounds-copy-end-2 : goal.slice_bounds-copy-end-2
-slice_bounds-copy-end-2 c = sym (length-take-le _ _ (fits c.before.before))
+slice_bounds-copy-end-2 c = sym (length-take-le _ _ (fits (goal.at.slice_bounds-copy-end-2 c).After-raise))
 
 pub copy-requires : goal.copy-requires
-copy-requires c = sym (length-take-le _ _ (fits c.before.before))
+copy-requires c = sym (length-take-le _ _ (fits (goal.at.copy-requires c).After-raise))
 
 pub returns : goal.returns
 returns c =
     lifted (length c.args.pivot.now) c.args.j c.args.t.now c.requires.c_in_bounds.1 c.bring.ensures c.args.c
-    c.raise.ensures (wide c.before.before.before.before) c.copy.ensures
+    c.raise.ensures (wide (goal.at.returns c).After-raise) c.copy.ensures

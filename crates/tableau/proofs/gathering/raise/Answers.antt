@@ -15,8 +15,8 @@ tested c = rw (back _ c.less-arg-1.given) at c.less.ensures
 pub returns-then-less : goal.returns-then-less
 returns-then-less c =
     let r : List ℤ = c.args.row.now in
-    c.negate.ensures ∙ sym (Lifting.taken (entry c.args.c r) r (sym (tested c.before.before.before.before) ∙ c.if-less.true))
+    c.negate.ensures ∙ sym (Lifting.taken (entry c.args.c r) r (sym (tested (goal.at.returns-then-less c).After-less) ∙ c.if-less.true))
 
 pub returns-else-less : goal.returns-else-less
 returns-else-less c =
-    sym (Lifting.left (entry c.args.c c.args.row.now) c.args.row.now (sym (tested c.before) ∙ c.if-less.false))
+    sym (Lifting.left (entry c.args.c c.args.row.now) c.args.row.now (sym (tested (goal.at.returns-else-less c).After-less) ∙ c.if-less.false))

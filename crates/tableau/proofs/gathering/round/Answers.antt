@@ -11,7 +11,9 @@ use Rattle.tableau.proofs.Rounds.{ends_inside, lift_asks, pivot_is, below_is_wid
 use Rattle.tableau.proofs.gathering.round.Goals as goal
 
 pub lift-requires : goal.lift-requires
-lift-requires c = lift_asks c.requires.tail c.requires.picked
+lift-requires c =
+    let l = lift_asks c.requires.tail c.requires.picked in
+    record { c_in_bounds = l.0; zero_to = l.1.0; within = l.1.1 }
 
 pub slice_bounds-each-count : goal.slice_bounds-each-count
 slice_bounds-each-count c =

@@ -43,13 +43,13 @@ same_pivot c = c.round.auto.pivot ∙ c.loop-rows.invariant.wide
 -- after a round that meets no number beyond M
 module _ (c : Else-round) where
   abbrev after : After-round
-  after = c.before.before.before
+  after = (goal.at.Else-round c).After-round
 
   abbrev l : At-loop-rows
-  l = after.before.before.before
+  l = (goal.at.After-round after).At-loop-rows
 
   abbrev start : Start
-  start = l.before.before
+  start = (goal.at.At-loop-rows l).Start
 
   abbrev k : ℕ
   k = start.args.rows
@@ -80,7 +80,7 @@ module _ (c : Else-round) where
 
 -- such a round, before the next choice
 abbrev past_round : After-choose-next → Else-round
-past_round c = c.before.before.before
+past_round c = (goal.at.After-choose-next c).Else-round
 
 -- the choice among the rows below
 chosen_next : (c : After-choose-next) →
@@ -110,30 +110,30 @@ digit : (n : Else-round) → 0 < bit_length (l n).loop-rows.invariant.picked.siz
 digit n = bits_some (l n).loop-rows.invariant.picked.size (chosen_stands (l n).loop-rows.invariant.picked.is).0
 
 -- as many rounds as digits: nothing is left to choose
-spent : (c : Then-count-most) → choose (col c.before) (x_of c.before).below ≡ none
+spent : (c : Then-count-most) → choose (col (goal.at.Then-count-most c).Else-round) (x_of (goal.at.Then-count-most c).Else-round).below ≡ none
 spent c =
-    let v = (l c.before).loop-rows.invariant in
+    let v = (l (goal.at.Then-count-most c).Else-round).loop-rows.invariant in
     last_round v.tail v.picked (omega (arith, v.digits, c.if-count-most.true))
 
 more :
     (c : Else-next-eq0) →
-    let n = past_round c.before.before in
+    let n = past_round (goal.at.Else-next-eq0 c).After-choose-next in
     let z = c.choose-next.result in
     (gathering_of (k n) (w n) (col n) (u n) ≡ gathering_of (k n) (w n) (col n) (l n).loop-rows.t)
     × (suc (gathering_rounds_of (k n) (w n) (col n) (u n)) ≡ gathering_rounds_of (k n) (w n) (col n) (l n).loop-rows.t)
     × (2 * z.size ≤ (l n).loop-rows.invariant.picked.size)
     × Chosen (w n) (col n) (take (w n) (u n)) (chop (k n - 1) (w n) (drop (w n) (u n))) (z.row + 1) z.size
 more c =
-    let n = past_round c.before.before in
+    let n = past_round (goal.at.Else-next-eq0 c).After-choose-next in
     let z = c.choose-next.result in
     going_on (l n).loop-rows.invariant.tail (l n).loop-rows.invariant.picked (unmarked n) (rows_next n) (after n).round.auto.t z.row z.size
-    (sym (chosen_next c.before.before) ∙ sighted_some z.count z.row z.size c.if-next-eq0.false)
+    (sym (chosen_next (goal.at.Else-next-eq0 c).After-choose-next) ∙ sighted_some z.count z.row z.size c.if-next-eq0.false)
 
 picked_next : (c : Else-next-eq0) →
-    let n = past_round c.before.before in
+    let n = past_round (goal.at.Else-next-eq0 c).After-choose-next in
     Picked (k n) (w n) (col n) (u n) (c.choose-next.result.row + 1)
 picked_next c =
-    let n = past_round c.before.before in
+    let n = past_round (goal.at.Else-next-eq0 c).After-choose-next in
     record { some = (l n).loop-rows.invariant.picked.some; size = c.choose-next.result.size; is = (more c).3 }
 
 pub loop-rows-init : goal.loop-rows-init
@@ -152,17 +152,17 @@ pub round-requires : goal.round-requires
 round-requires c = rw c.loop-rows.invariant.wide record { tail = c.loop-rows.invariant.tail; picked = c.loop-rows.invariant.picked }
 
 pub shape_of-t-then-round : goal.shape_of-t-then-round
-shape_of-t-then-round c = same_tail c.before
+shape_of-t-then-round c = same_tail (goal.at.shape_of-t-then-round c).After-pivot-1
 
 pub shape_of-pivot-then-round : goal.shape_of-pivot-then-round
-shape_of-pivot-then-round c = same_pivot c.before
+shape_of-pivot-then-round c = same_pivot (goal.at.shape_of-pivot-then-round c).After-pivot-1
 
 pub returns-then-round : goal.returns-then-round
 returns-then-round c =
     let l = c.loop-rows in record {
       gathers = record {
         answer =
-            sym (ap (λ (y : Gathered). y.over) (sym l.invariant.rest) ∙ marked l.invariant.tail l.invariant.picked (sym (told c.before.before.before).answer ∙ c.if-round.true));
+            sym (ap (λ (y : Gathered). y.over) (sym l.invariant.rest) ∙ marked l.invariant.tail l.invariant.picked (sym (told (goal.at.returns-then-round c).After-round).answer ∙ c.if-round.true));
         left = λ e. absurd (true≢false e);
         row = λ e. absurd (true≢false e);
       };
@@ -173,68 +173,72 @@ pub overflow_add-count : goal.overflow_add-count
 overflow_add-count c = omega (arith, (l c).loop-rows.invariant.digits, digit c, (l c).bit_length-most.type_inv)
 
 pub shape_of-t-then-count-most : goal.shape_of-t-then-count-most
-shape_of-t-then-count-most c = same_tail c.before.before
+shape_of-t-then-count-most c = same_tail (goal.at.shape_of-t-then-count-most c).After-pivot-1
 
 pub shape_of-pivot-then-count-most : goal.shape_of-pivot-then-count-most
-shape_of-pivot-then-count-most c = same_pivot c.before.before
+shape_of-pivot-then-count-most c = same_pivot (goal.at.shape_of-pivot-then-count-most c).After-pivot-1
 
 pub returns-then-count-most : goal.returns-then-count-most
-returns-then-count-most c = done c.before (spent c)
+returns-then-count-most c =
+    let d = done (goal.at.returns-then-count-most c).Else-round (spent c) in
+    record { gathers = d.0; rounds_value = d.1 }
 
 pub offset_bounds-t-w : goal.offset_bounds-t-w
-offset_bounds-t-w c = omega (arith, room c.before, (after c.before).round.auto.t)
+offset_bounds-t-w c = omega (arith, room (goal.at.offset_bounds-t-w c).Else-round, (after (goal.at.offset_bounds-t-w c).Else-round).round.auto.t)
 
 pub slice_bounds-choose-count : goal.slice_bounds-choose-count
-slice_bounds-choose-count c = omega (arith, room c.before, (after c.before).round.auto.t)
+slice_bounds-choose-count c = omega (arith, room (goal.at.slice_bounds-choose-count c).Else-round, (after (goal.at.slice_bounds-choose-count c).Else-round).round.auto.t)
 
 pub slice_bounds-choose-start : goal.slice_bounds-choose-start
-slice_bounds-choose-start c = omega (arith, room c.before, (after c.before).round.auto.t)
+slice_bounds-choose-start c = omega (arith, room (goal.at.slice_bounds-choose-start c).Else-round, (after (goal.at.slice_bounds-choose-start c).Else-round).round.auto.t)
 
 pub overflow_sub-rows : goal.overflow_sub-rows
-overflow_sub-rows c = omega (arith, (l c.before.before).loop-rows.invariant.picked.some)
+overflow_sub-rows c = omega (arith, (l (goal.at.overflow_sub-rows c).Else-round).loop-rows.invariant.picked.some)
 
 pub choose-next-requires : goal.choose-next-requires
 choose-next-requires c = (
-  ap length (tail_is (w c.before.before) (u c.before.before))
-      ∙ omega (arith, length-drop (w c.before.before) (u c.before.before), (tail_next c.before.before).wide, one_less (k c.before.before) (w c.before.before) (l c.before.before).loop-rows.invariant.picked.some),
-  (start c.before.before).requires.tail.column,
+  ap length (tail_is (w (goal.at.choose-next-requires c).Else-round) (u (goal.at.choose-next-requires c).Else-round))
+      ∙ omega (arith, length-drop (w (goal.at.choose-next-requires c).Else-round) (u (goal.at.choose-next-requires c).Else-round), (tail_next (goal.at.choose-next-requires c).Else-round).wide, one_less (k (goal.at.choose-next-requires c).Else-round) (w (goal.at.choose-next-requires c).Else-round) (l (goal.at.choose-next-requires c).Else-round).loop-rows.invariant.picked.some),
+  (start (goal.at.choose-next-requires c).Else-round).requires.tail.column,
 )
 
 pub shape_of-t-then-next-eq0 : goal.shape_of-t-then-next-eq0
-shape_of-t-then-next-eq0 c = same_tail (past_round c.before.before).before
+shape_of-t-then-next-eq0 c = same_tail (goal.at.Else-round (past_round (goal.at.shape_of-t-then-next-eq0 c).After-choose-next)).After-pivot-1
 
 pub shape_of-pivot-then-next-eq0 : goal.shape_of-pivot-then-next-eq0
-shape_of-pivot-then-next-eq0 c = same_pivot (past_round c.before.before).before
+shape_of-pivot-then-next-eq0 c = same_pivot (goal.at.Else-round (past_round (goal.at.shape_of-pivot-then-next-eq0 c).After-choose-next)).After-pivot-1
 
 pub returns-then-next-eq0 : goal.returns-then-next-eq0
 returns-then-next-eq0 c =
     let z = c.choose-next.result in
-    done (past_round c.before.before)
-    (sym (chosen_next c.before.before) ∙ sighted_none z.row z.size c.if-next-eq0.true)
+    let d =
+    done (past_round (goal.at.returns-then-next-eq0 c).After-choose-next)
+    (sym (chosen_next (goal.at.returns-then-next-eq0 c).After-choose-next) ∙ sighted_none z.row z.size c.if-next-eq0.true) in
+    record { gathers = d.0; rounds_value = d.1 }
 
 pub overflow_add-j : goal.overflow_add-j
 overflow_add-j c =
-    let n = past_round c.before.before.before in
-    omega (arith, chosen_low (tail_next n) (picked_next c.before), (start n).ranges.rows)
+    let n = past_round (goal.at.overflow_add-j c).After-choose-next in
+    omega (arith, chosen_low (tail_next n) (picked_next (goal.at.overflow_add-j c).Else-next-eq0), (start n).ranges.rows)
 
 pub loop-rows-smaller : goal.loop-rows-smaller
 loop-rows-smaller c =
-    let n = past_round c.before.before.before in
-    let m = more c.before in
+    let n = past_round (goal.at.loop-rows-smaller c).After-choose-next in
+    let m = more (goal.at.loop-rows-smaller c).Else-next-eq0 in
     let g = (l n).loop-rows.invariant.picked in
     omega (arith, m.2, (chosen_stands g.is).0, ap magnitude m.3.choice, ap magnitude g.is.choice)
 
 pub loop-rows-preserved : goal.loop-rows-preserved
 unfolding picked_next
 loop-rows-preserved c =
-    let n = past_round c.before.before.before in
-    let m = more c.before in
+    let n = past_round (goal.at.loop-rows-preserved c).After-choose-next in
+    let m = more (goal.at.loop-rows-preserved c).Else-next-eq0 in
     let v = (l n).loop-rows.invariant in
     record {
-      same = same_tail n.before;
-      wide = same_pivot n.before;
+      same = same_tail (goal.at.Else-round n).After-pivot-1;
+      wide = same_pivot (goal.at.Else-round n).After-pivot-1;
       tail = tail_next n;
-      picked = picked_next c.before;
+      picked = picked_next (goal.at.loop-rows-preserved c).Else-next-eq0;
       rest = m.0 ∙ v.rest;
       sum = omega (arith, m.1, v.sum);
       digits =

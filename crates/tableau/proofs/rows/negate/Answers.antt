@@ -1,6 +1,6 @@
 -- `tableau::rows::negate` meets its contract: from the left, each number is replaced by its negative. Assumes nothing.
 use mathlib.Core.Path.{◌≡◌, sym, ◌∙◌, ap}
-use Prim.Native.Nat.{◌-◌, ◌<◌}
+use Prim.Native.Nat.{◌<◌}
 use native.Mathlib.Omega.{arith}
 use lib.IntN.{neg_ℤ}
 use lib.ListN.{length}
@@ -25,7 +25,7 @@ value :
 value c =
     back c.negated-x.result c.negated-x.type_inv
     ∙ c.negated-x.ensures
-    ∙ ap neg_ℤ (back _ c.negated-arg-1.given ∙ unread c.loop-i.invariant (inside c.before.before))
+    ∙ ap neg_ℤ (back _ c.negated-arg-1.given ∙ unread c.loop-i.invariant (inside (goal.at.After-negated-x c).In-loop-i))
     ∙ sym (entry_neg c.loop-i.i c.args.row.now)
 
 pub loop-i-init : goal.loop-i-init
@@ -36,7 +36,7 @@ slice_copy_out-negated c = omega arith
 
 pub negated-x-requires : goal.negated-x-requires
 negated-x-requires c =
-    rw (back _ c.negated-arg-1.given, unread c.loop-i.invariant (inside c.before))
+    rw (back _ c.negated-arg-1.given, unread c.loop-i.invariant (inside (goal.at.negated-x-requires c).In-loop-i))
     (omega (arith, within_entry c.args.row.now c.loop-i.i c.requires))
 
 pub bounds-row-i : goal.bounds-row-i
@@ -49,7 +49,7 @@ pub loop-i-smaller : goal.loop-i-smaller
 loop-i-smaller c = omega (arith, c.loop-i.invariant.same)
 
 pub loop-i-preserved : goal.loop-i-preserved
-loop-i-preserved c = goes_on c.loop-i.invariant (inside c.before.before) (value c)
+loop-i-preserved c = goes_on c.loop-i.invariant (inside (goal.at.loop-i-preserved c).In-loop-i) (value c)
 
 pub shape_of-row : goal.shape_of-row
 shape_of-row c = c.loop-i.invariant.same

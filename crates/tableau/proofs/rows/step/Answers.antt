@@ -29,7 +29,7 @@ size : (c : After-magnitude) → c.magnitude.result ≡ nat_abs (entry c.args.c 
 size c = rw (back _ c.e-1.given) at c.magnitude.ensures
 
 other : (c : Else-magnitude-eq0) → nat_abs (entry c.args.c c.args.row.now) ≡ 0 → ⊥
-other c e = c.if-magnitude-eq0.false (size c.before ∙ e)
+other c e = c.if-magnitude-eq0.false (size (goal.at.Else-magnitude-eq0 c).After-magnitude ∙ e)
 
 -- the quotient is the definition's
 taken :
@@ -45,7 +45,7 @@ size_2 :
     (c : After-magnitude-2) →
     let a = c.args in
     c.magnitude-2.result ≡ nat_abs (quotient_of a.way (entry a.c a.row.now) (entry a.c a.pivot.now))
-size_2 c = c.magnitude-2.ensures ∙ ap nat_abs (taken c.before)
+size_2 c = c.magnitude-2.ensures ∙ ap nat_abs (taken (goal.at.After-magnitude-2 c).After-quotient-q)
 
 pub offset_bounds-row-c : goal.offset_bounds-row-c
 offset_bounds-row-c c = omega (arith, inside c.requires.pivot)
@@ -55,7 +55,7 @@ slice_copy_out-e c = inside c.requires.pivot
 
 pub returns-then-magnitude-eq0 : goal.returns-then-magnitude-eq0
 returns-then-magnitude-eq0 c =
-    stays (step_none c.args.way c.args.c _ _ c.requires.pivot.lead c.requires.within (sym (size c.before) ∙ c.if-magnitude-eq0.true))
+    stays (step_none c.args.way c.args.c _ _ c.requires.pivot.lead c.requires.within (sym (size (goal.at.returns-then-magnitude-eq0 c).After-magnitude) ∙ c.if-magnitude-eq0.true))
 
 pub offset_bounds-pivot-c : goal.offset_bounds-pivot-c
 offset_bounds-pivot-c c = omega (arith, inside c.requires.pivot)
@@ -71,7 +71,7 @@ quotient-q-requires c =
 
 pub returns-then-magnitude-eq0-2 : goal.returns-then-magnitude-eq0-2
 returns-then-magnitude-eq0-2 c =
-    stays (step_idle c.args.way c.args.c _ _ (other c.before.before.before.before) c.requires.within (sym (size_2 c.before) ∙ c.if-magnitude-eq0-2.true))
+    stays (step_idle c.args.way c.args.c _ _ (other (goal.at.returns-then-magnitude-eq0-2 c).Else-magnitude-eq0) c.requires.within (sym (size_2 (goal.at.returns-then-magnitude-eq0-2 c).After-magnitude-2) ∙ c.if-magnitude-eq0-2.true))
 
 pub offset_bounds-row-c-2 : goal.offset_bounds-row-c-2
 offset_bounds-row-c-2 c =
@@ -103,7 +103,7 @@ subtract-requires c =
     rw (tail_is a.c a.row.now, tail_is a.c a.pivot.now) record {
       row_len = omega (arith, length-drop a.c a.row.now, length-drop a.c a.pivot.now, c.requires.pivot.wide);
       within = (within_drop a.c a.row.now c.requires.within, within_drop a.c a.pivot.now c.requires.pivot.small);
-      q_bound = rw (taken c.before.before.before.before)
+      q_bound = rw (taken (goal.at.subtract-requires c).After-quotient-q)
           (le_trans (quotient_small a.way (entry a.c a.row.now) c.requires.pivot.lead) (within_entry a.row.now a.c c.requires.within));
     }
 
@@ -112,6 +112,6 @@ returns c =
     let a = c.args in
     rw (tail_back a.c a.row.now c.subtract.new.row (omega (arith, inside c.requires.pivot)))
     (step_parts a.way a.c a.pivot.now a.row.now c.subtract.new.row c.subtract.result _ c.requires.pivot.front c.requires.within
-    (other c.before.before.before.before.before.before.before.before)
-    (taken c.before.before.before.before.before.before)
+    (other (goal.at.returns c).Else-magnitude-eq0)
+    (taken (goal.at.returns c).After-quotient-q)
     (rw (tail_is a.c a.row.now, tail_is a.c a.pivot.now) at c.subtract.ensures))

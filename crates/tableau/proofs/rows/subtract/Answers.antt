@@ -20,13 +20,14 @@ stops p s {t} {r} k e h =
 pub returns-then-q-eq1 : goal.returns-then-q-eq1
 returns-then-q-eq1 c =
     stops c.args.pivot.now c.args.row.now _ (ap (to_z w64) (sym c.if-q-eq1.true) ∙ to_z-of_z c.ranges.q)
-    c.subtract_all.ensures
+    (c.subtract_all.ensures.row_after, c.subtract_all.ensures.result_value)
 
 pub returns-then-q-eqminus1 : goal.returns-then-q-eqminus1
 returns-then-q-eqminus1 c =
     stops c.args.pivot.now c.args.row.now _ (ap (to_z w64) (sym c.if-q-eqminus1.true) ∙ to_z-of_z c.ranges.q)
-    c.subtract_all-then-q-eqminus1.ensures
+    (c.subtract_all-then-q-eqminus1.ensures.row_after, c.subtract_all-then-q-eqminus1.ensures.result_value)
 
 pub returns : goal.returns
 returns c =
-    stops c.args.pivot.now c.args.row.now _ (to_z-of_z c.ranges.q) c.subtract_all-2.ensures
+    stops c.args.pivot.now c.args.row.now _ (to_z-of_z c.ranges.q)
+    (c.subtract_all-2.ensures.row_after, c.subtract_all-2.ensures.result_value)

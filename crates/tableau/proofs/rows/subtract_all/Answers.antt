@@ -3,7 +3,7 @@
 use mathlib.Core.Path.{◌≡◌, sym, ◌∙◌, ap, ap₂}
 use mathlib.Core.Bool.{Bool, ◌||◌}
 use mathlib.Core.List.{List}
-use Prim.Native.Nat.{◌-◌, ◌<◌, ◌≤◌}
+use Prim.Native.Nat.{◌<◌, ◌≤◌}
 use native.Mathlib.Omega.{arith}
 use lib.IntN.{ℤ, neg_ℤ, ◌+ℤ◌, ◌*ℤ◌}
 use lib.ListN.{length}
@@ -25,27 +25,27 @@ use Rattle.tableau.proofs.rows.subtract_all.Goals as goal
 abbrev wanted : Start → List ℤ
 wanted s = plus (neg_ℤ (to_z w64 (of_z w64 s.args.q))) s.args.pivot.now s.args.row.now
 
-inside : (c : In-loop-i) → c.loop-i.i < length (wanted c.before.before)
+inside : (c : In-loop-i) → c.loop-i.i < length (wanted (goal.at.In-loop-i c).Start)
 inside c =
     omega (arith, c.loop-i.invariant.written.same, length_plus (neg_ℤ (to_z w64 (of_z w64 c.args.q))) c.args.pivot.now c.args.row.now)
 
-past : (c : After-loop-i) → length (wanted c.before.before) ≤ c.loop-i.i
+past : (c : After-loop-i) → length (wanted (goal.at.After-loop-i c).Start) ≤ c.loop-i.i
 past c =
     omega (arith, c.loop-i.invariant.written.same, length_plus (neg_ℤ (to_z w64 (of_z w64 c.args.q))) c.args.pivot.now c.args.row.now)
 
 -- the row's number, as it is read
 read : (c : After-less_product-arg-1) →
     to_z w64 (of_z w64 (entry c.loop-i.i c.loop-i.row)) ≡ entry c.loop-i.i c.args.row.now
-read c = back _ c.less_product-arg-1.given ∙ unread c.loop-i.invariant.written (inside c.before)
+read c = back _ c.less_product-arg-1.given ∙ unread c.loop-i.invariant.written (inside (goal.at.After-less_product-arg-1 c).In-loop-i)
 
 -- the number that is stored is the difference's
 value : (c : After-less_product-x) →
-    to_z w64 (of_z w64 c.less_product-x.result) ≡ entry c.loop-i.i (wanted c.before.before.before.before.before)
+    to_z w64 (of_z w64 c.less_product-x.result) ≡ entry c.loop-i.i (wanted (goal.at.After-less_product-x c).Start)
 value c =
     let q : ℤ = neg_ℤ (to_z w64 (of_z w64 c.args.q)) in
     back c.less_product-x.result c.less_product-x.type_inv
     ∙ c.less_product-x.ensures
-    ∙ ap₂ (λ (x y : ℤ). x +ℤ q *ℤ y) (read c.before.before) (back _ c.less_product-arg-in-loop-i-1.given)
+    ∙ ap₂ (λ (x y : ℤ). x +ℤ q *ℤ y) (read (goal.at.After-less_product-x c).After-less_product-arg-1) (back _ c.less_product-arg-in-loop-i-1.given)
     ∙ sym (entry_plus c.loop-i.i q c.args.pivot.now c.args.row.now (omega (arith, c.loop-i.invariant.written.same)))
 
 pub loop-i-init : goal.loop-i-init
@@ -59,7 +59,7 @@ bounds-pivot-i c = omega (arith, c.loop-i.invariant.written.same, c.requires.row
 
 pub less_product-x-requires : goal.less_product-x-requires
 less_product-x-requires c =
-    let i = c.loop-i.i in record { x_bound = rw (read c.before) (omega (arith, within_entry c.args.row.now i c.requires.within.0)); q_bound = rw (to_z-of_z c.ranges.q) (omega (arith, c.requires.q_bound)); y_bound = rw (back _ c.less_product-arg-in-loop-i-1.given) (omega (arith, within_entry c.args.pivot.now i c.requires.within.1)) }
+    let i = c.loop-i.i in record { x_bound = rw (read (goal.at.less_product-x-requires c).After-less_product-arg-1) (omega (arith, within_entry c.args.row.now i c.requires.within.0)); q_bound = rw (to_z-of_z c.ranges.q) (omega (arith, c.requires.q_bound)); y_bound = rw (back _ c.less_product-arg-in-loop-i-1.given) (omega (arith, within_entry c.args.pivot.now i c.requires.within.1)) }
 
 pub bounds-row-i : goal.bounds-row-i
 bounds-row-i c = omega arith
@@ -74,11 +74,11 @@ pub loop-i-preserved : goal.loop-i-preserved
 loop-i-preserved c =
     let l = c.loop-i in
     record {
-      written = goes_on l.invariant.written (inside c.before.before.before.before) (value c.before);
+      written = goes_on l.invariant.written (inside (goal.at.loop-i-preserved c).In-loop-i) (value (goal.at.loop-i-preserved c).After-less_product-x);
       mark =
           c.joined-bits.ensures
-          ∙ ap₂ (λ (a : Bool) (x : ℤ). a || beyond x) l.invariant.mark (value c.before)
-          ∙ sym (beyond_next _ l.i (inside c.before.before.before.before));
+          ∙ ap₂ (λ (a : Bool) (x : ℤ). a || beyond x) l.invariant.mark (value (goal.at.loop-i-preserved c).After-less_product-x)
+          ∙ sym (beyond_next _ l.i (inside (goal.at.loop-i-preserved c).In-loop-i));
     }
 
 pub shape_of-row : goal.shape_of-row

@@ -5,8 +5,6 @@ use Prim.Native.Nat.{ℕ, ◌-◌}
 use lib.Dec.{ltb}
 use lib.IntN.{ℤ, neg_ℤ}
 use lib.ListN.{length, take}
-use mir.Syntax.{w64}
-use mir.Val.{to_z}
 use Rattle.lattice.specs.Rows.{plus}
 use Rattle.whole.proofs.Writing.{WrittenTo}
 use Rattle.problem.specs.Limits.{M, any_beyond}
@@ -17,7 +15,7 @@ pub record Inv (row₀ pivot : List ℤ) (q : ℤ) (row : List ℤ) (bits i : �
   pub mark : ltb M bits ≡ any_beyond (take i (plus (neg_ℤ q) pivot row₀))
 
 abbrev pub invariant-loop-i : goal.invariant-loop-i
-invariant-loop-i l = Inv l.initial.row l.pivot (to_z w64 l.q) l.row l.bits l.i
+invariant-loop-i l = Inv l.initial.row l.pivot l.q l.row l.bits l.i
 
 abbrev pub decreases-loop-i : goal.decreases-loop-i
 decreases-loop-i l = length l.initial.row - l.i

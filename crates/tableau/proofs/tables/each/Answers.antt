@@ -18,13 +18,13 @@ use Rattle.tableau.proofs.tables.each.Goals as goal
 -- what the call answers and leaves of the row that comes next
 module _ (c : After-step) where
   abbrev entered : In-loop-left
-  entered = c.before.before
+  entered = (goal.at.After-step c).In-loop-left
 
   abbrev loop : At-loop-left
-  loop = entered.before
+  loop = (goal.at.In-loop-left entered).At-loop-left
 
   abbrev start : Start
-  start = loop.before
+  start = (goal.at.At-loop-left loop).Start
 
   abbrev stepped : Left
   stepped = row_step start.args.way start.args.c start.args.pivot.now (row loop.loop-left.invariant.room entered.loop-left-test.true)
@@ -58,13 +58,13 @@ step-requires c =
 
 pub shape_of-t-then-step : goal.shape_of-t-then-step
 shape_of-t-then-step c =
-    let l = (loop c.before.before).loop-left in
-    same_len_mid l.at (l.at + length (start c.before.before).args.pivot.now - l.at) l.t c.step.new.row c.step.auto.row ∙ l.invariant.same
+    let l = (loop (goal.at.shape_of-t-then-step c).After-step).loop-left in
+    same_len_mid l.at (l.at + length (start (goal.at.shape_of-t-then-step c).After-step).args.pivot.now - l.at) l.t c.step.new.row c.step.auto.row ∙ l.invariant.same
 
 pub returns-then-step : goal.returns-then-step
 returns-then-step c =
     record {
-      answer = sym (stops (loop c.before.before).loop-left.invariant (entered c.before.before).loop-left-test.true (sym (told c.before.before).answer ∙ c.if-step.true));
+      answer = sym (stops (loop (goal.at.returns-then-step c).After-step).loop-left.invariant (entered (goal.at.returns-then-step c).After-step).loop-left-test.true (sym (told (goal.at.returns-then-step c).After-step).answer ∙ c.if-step.true));
       left = λ e. absurd (true≢false e);
     }
 
@@ -76,12 +76,12 @@ loop-left-smaller c = omega arith
 
 pub loop-left-preserved : goal.loop-left-preserved
 loop-left-preserved c =
-    let a = (start c.before.before).args in
-    let l = (loop c.before.before).loop-left in
+    let a = (start (goal.at.loop-left-preserved c).After-step).args in
+    let l = (loop (goal.at.loop-left-preserved c).After-step).loop-left in
     let u : List ℤ = c.step.new.row in
     rw (part_back l.at (length a.pivot.now) l.t u)
-    (goes_on l.invariant (entered c.before.before).loop-left-test.true (stepping a.way a.c a.pivot.now) u (sym (told c.before.before).answer ∙ c.if-step.false)
-    ((told c.before.before).left c.if-step.false))
+    (goes_on l.invariant (entered (goal.at.loop-left-preserved c).After-step).loop-left-test.true (stepping a.way a.c a.pivot.now) u (sym (told (goal.at.loop-left-preserved c).After-step).answer ∙ c.if-step.false)
+    ((told (goal.at.loop-left-preserved c).After-step).left c.if-step.false))
 
 pub shape_of-t : goal.shape_of-t
 shape_of-t c = c.loop-left.invariant.same

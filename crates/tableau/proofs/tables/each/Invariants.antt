@@ -1,5 +1,4 @@
 -- What holds at each turn of `tableau::tables::each`. Assumes nothing.
-use Prim.Native.Nat.{◌-◌}
 use Rattle.tableau.specs.RowSteps.{row_step}
 use Rattle.tableau.proofs.Walking.{Walk}
 use Rattle.tableau.proofs.tables.each.Given as goal
