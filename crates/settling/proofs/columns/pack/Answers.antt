@@ -26,7 +26,7 @@ all g j n t h e =
 
 -- what the loop starts from, and the columns of the lists that are lent
 abbrev from : In-loop-j → Start
-from c = c.before.before
+from c = (goal.at.In-loop-j c).Start
 
 abbrev f : Start → ℕ → Column
 f s = (listed (length s.args.lower.now) s.args.lower.now s.args.upper.now s.args.low.now s.args.high.now s.args.given.now
@@ -34,7 +34,7 @@ f s = (listed (length s.args.lower.now) s.args.lower.now s.args.upper.now s.args
 
 -- the turn that a call of put_column stands in
 abbrev turn : After-put_column-arg-1 → In-loop-j
-turn c = c.before.before.before.before
+turn c = (goal.at.After-put_column-arg-1 c).In-loop-j
 
 -- the wish that is handed in
 handed :
@@ -60,7 +60,7 @@ bounds-ideals-j c = omega (arith, c.requires.ideals_long, c.loop-j-test.true)
 
 pub put_column-requires : goal.put_column-requires
 put_column-requires c =
-    let w = turn c.before.before.before.before in
+    let w = turn (goal.at.put_column-requires c).After-put_column-arg-1 in
     let s = from w in
     let l = w.loop-j in
     let g = w.loop-j-test.true in (
@@ -80,7 +80,7 @@ loop-j-smaller c = omega arith
 
 pub loop-j-preserved : goal.loop-j-preserved
 loop-j-preserved c =
-    let w = turn c.before.before.before.before.before.before in
+    let w = turn (goal.at.loop-j-preserved c).After-put_column-arg-1 in
     let s = from w in
     let l = w.loop-j in
     let g = w.loop-j-test.true in (
@@ -88,7 +88,7 @@ loop-j-preserved c =
           ∙ (λ i. put (width * l.j) (column_of (back (entry l.j s.args.lower.now) c.put_column-arg-in-loop-j-1.given i)
           (back (entry l.j s.args.upper.now) c.put_column-arg-in-loop-j-2-1.given i)
           (back (entry l.j s.args.low.now) c.put_column-arg-in-loop-j-3-1.given i)
-          (back (entry l.j s.args.high.now) c.put_column-arg-in-loop-j-4-1.given i) (handed c.before.before.before.before.before.before i)) (l.invariant.0 i))
+          (back (entry l.j s.args.high.now) c.put_column-arg-in-loop-j-4-1.given i) (handed (goal.at.loop-j-preserved c).After-put_column-arg-1 i)) (l.invariant.0 i))
           ∙ packed_put (f s) l.j s.args.columns.now (omega (arith, s.requires.room, g)),
       omega (arith, g),
     )
@@ -96,11 +96,11 @@ loop-j-preserved c =
 pub shape_of-columns : goal.shape_of-columns
 shape_of-columns c =
     let l = c.loop-j in
-    ap length l.invariant.0 ∙ long (f c.before.before) l.j c.args.columns.now
+    ap length l.invariant.0 ∙ long (f (goal.at.shape_of-columns c).Start) l.j c.args.columns.now
     (omega (arith, c.requires.room, l.invariant.1))
 
 pub returns : goal.returns
 returns c =
     let l = c.loop-j in
-    l.invariant.0 ∙ all (f c.before.before) l.j (length c.args.lower.now)
+    l.invariant.0 ∙ all (f (goal.at.returns c).Start) l.j (length c.args.lower.now)
     c.args.columns.now c.requires.room (omega (arith, l.invariant.1, c.loop-j-test.false))

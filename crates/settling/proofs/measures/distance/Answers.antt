@@ -21,35 +21,34 @@ module _ (s : Start) where
 
 -- what the two tests say
 under : (c : After-less) → lt_z c.args.c.value c.args.c.lower ≡ c.less.result
-under c = sym (c.less.ensures ∙ ap₂ lt_z (value c.before.before.before) (lower c.before.before.before))
+under c = sym (c.less.ensures ∙ ap₂ lt_z (value (goal.at.After-less c).Start) (lower (goal.at.After-less c).Start))
 
-over : (c : After-less-2) → let s =
-    c.before.before.before in lt_z s.args.c.upper s.args.c.value ≡ c.less-2.result
+over : (c : After-less-2) → lt_z c.args.c.upper c.args.c.value ≡ c.less-2.result
 over c =
-    sym (c.less-2.ensures ∙ ap₂ lt_z (upper c.before.before.before.before.before.before.before) (value c.before.before.before.before.before.before.before))
+    sym (c.less-2.ensures ∙ ap₂ lt_z (upper (goal.at.After-less-2 c).Start) (value (goal.at.After-less-2 c).Start))
 
 pub gap-requires : goal.gap-requires
 gap-requires c =
-    rw (lower c.before.before.before.before.before.before, value c.before.before.before.before.before.before) (omega (arith, c.requires.lower), c.requires.value)
+    rw (lower (goal.at.gap-requires c).Start, value (goal.at.gap-requires c).Start) (omega (arith, c.requires.lower), c.requires.value)
 
 pub returns-then-less : goal.returns-then-less
 returns-then-less c =
-    cc (c.gap.ensures, lower c.before.before.before.before.before.before.before, value c.before.before.before.before.before.before.before, distance_under c.args.c (under (c) ∙ c.if-less.true))
+    cc (c.gap.ensures, lower (goal.at.returns-then-less c).Start, value (goal.at.returns-then-less c).Start, distance_under c.args.c (under (goal.at.returns-then-less c).After-less ∙ c.if-less.true))
 
 pub gap-requires-then-less-2 : goal.gap-requires-then-less-2
 gap-requires-then-less-2 c =
-    rw (upper c.before.before.before.before.before.before.before.before.before.before, value c.before.before.before.before.before.before.before.before.before.before) (c.requires.value, omega (arith, c.requires.upper))
+    rw (upper (goal.at.gap-requires-then-less-2 c).Start, value (goal.at.gap-requires-then-less-2 c).Start) (c.requires.value, omega (arith, c.requires.upper))
 
 pub returns-then-less-2 : goal.returns-then-less-2
 returns-then-less-2 c =
     cc (
       c.gap-then-less-2.ensures,
-      upper c.before.before.before.before.before.before.before.before.before.before.before,
-      value c.before.before.before.before.before.before.before.before.before.before.before,
-      distance_over c.args.c (under (c) ∙ c.if-less.false)
-          (over (c) ∙ c.if-less-2.true),
+      upper (goal.at.returns-then-less-2 c).Start,
+      value (goal.at.returns-then-less-2 c).Start,
+      distance_over c.args.c (under (goal.at.returns-then-less-2 c).After-less ∙ c.if-less.false)
+          (over (goal.at.returns-then-less-2 c).After-less-2 ∙ c.if-less-2.true),
     )
 
 pub returns : goal.returns
 returns c =
-    sym (distance_inside c.args.c (under (c) ∙ c.if-less.false) (over c.before ∙ c.if-less-2.false))
+    sym (distance_inside c.args.c (under (goal.at.returns c).After-less ∙ c.if-less.false) (over (goal.at.returns c).After-less-2 ∙ c.if-less-2.false))

@@ -16,4 +16,4 @@ pub overflow_sub-a : goal.overflow_sub-a
 overflow_sub-a c = rw (to_z-of_z c.ranges.a, to_z-of_z c.ranges.b) (fits c)
 
 pub returns : goal.returns
-returns c = cc (c.magnitude.ensures, to_z-of_z (fits c.before), to_z-of_z c.ranges.a, to_z-of_z c.ranges.b)
+returns c = cc (c.magnitude.ensures, to_z-of_z (fits (goal.at.returns c).Start), to_z-of_z c.ranges.a, to_z-of_z c.ranges.b)

@@ -22,17 +22,17 @@ module _ (s : Start) where
   high = read _ (omega (arith, s.requires.high))
 
   -- in the goals part the value lies in bounds
-  goal : s.args.part ≡ Goals → nat_abs s.args.c.value ≤ max_bound
-  goal e = subst (λ (p : Part). nat_abs s.args.c.value ≤ reach p) e s.requires.value
+  in_goals : s.args.part ≡ Goals → nat_abs s.args.c.value ≤ max_bound
+  in_goals e = subst (λ (p : Part). nat_abs s.args.c.value ≤ reach p) e s.requires.value
 
 pub distance-requires : goal.distance-requires
 distance-requires c = subst (λ (p : Part). FitCell p c.args.c) c.in-Bounds.is c.requires
 
 pub ratio-requires : goal.ratio-requires
 ratio-requires c =
-    let g = goal c.before.before.before.before.before.before.before.before c.in-Goals.is in (
-      rw (c.magnitude.ensures, low c.before.before.before.before.before.before.before.before) c.requires.low,
-      rw (c.magnitude-in-Goals.ensures, high c.before.before.before.before.before.before.before.before) c.requires.high,
+    let g = in_goals (goal.at.ratio-requires c).Start c.in-Goals.is in (
+      rw (c.magnitude.ensures, low (goal.at.ratio-requires c).Start) c.requires.low,
+      rw (c.magnitude-in-Goals.ensures, high (goal.at.ratio-requires c).Start) c.requires.high,
       rw (c.magnitude-in-Goals-2.ensures, read c.args.c.value (omega (arith, g))) g,
     )
 
@@ -44,8 +44,8 @@ pub returns-in-Goals : goal.returns-in-Goals
 unfolding Measures.measure
 returns-in-Goals c =
     let e = c.in-Goals.is in
-    let v = ap nat_abs (read c.args.c.value (omega (arith, goal c.before.before.before.before.before.before.before.before.before e))) in
+    let v = ap nat_abs (read c.args.c.value (omega (arith, in_goals (goal.at.returns-in-Goals c).Start e))) in
     c.ratio.ensures
-    ∙ (λ i. Measures.ratio ((c.magnitude.ensures ∙ ap nat_abs (low c.before.before.before.before.before.before.before.before.before)) i)
-    ((c.magnitude-in-Goals.ensures ∙ ap nat_abs (high c.before.before.before.before.before.before.before.before.before)) i) ((c.magnitude-in-Goals-2.ensures ∙ v) i))
+    ∙ (λ i. Measures.ratio ((c.magnitude.ensures ∙ ap nat_abs (low (goal.at.returns-in-Goals c).Start)) i)
+    ((c.magnitude-in-Goals.ensures ∙ ap nat_abs (high (goal.at.returns-in-Goals c).Start)) i) ((c.magnitude-in-Goals-2.ensures ∙ v) i))
     ∙ ap (λ (p : Part). Measures.measure p c.args.c) (sym e)

@@ -35,24 +35,24 @@ returns-then-not-is_allowed c =
 
 pub returns-then-is_zero : goal.returns-then-is_zero
 returns-then-is_zero c =
-    sym (passes_still c.args.part c.args.c _ c.args.q (allowed c.before.before) (changed c.before ∙ c.if-is_zero.true))
+    sym (passes_still c.args.part c.args.c _ c.args.q (allowed (goal.at.returns-then-is_zero c).Else-not-is_allowed) (changed (goal.at.returns-then-is_zero c).After-is_zero ∙ c.if-is_zero.true))
 
 pub returns-then-not-is_compared : goal.returns-then-not-is_compared
 returns-then-not-is_compared c =
-    sym (passes_free c.args.part c.args.c _ c.args.q (allowed c.before.before.before.before)
-    (changed c.before.before.before ∙ c.if-is_zero.false) (failed (compared c.before) c.if-not-is_compared.true))
+    sym (passes_free c.args.part c.args.c _ c.args.q (allowed (goal.at.returns-then-not-is_compared c).Else-not-is_allowed)
+    (changed (goal.at.returns-then-not-is_compared c).After-is_zero ∙ c.if-is_zero.false) (failed (compared (goal.at.returns-then-not-is_compared c).After-is_compared) c.if-not-is_compared.true))
 
 pub measure-requires : goal.measure-requires
-measure-requires c = sized c.before.before.before.before
+measure-requires c = sized (goal.at.measure-requires c).Else-not-is_allowed
 
 pub below-requires : goal.below-requires
 below-requires c =
-    (rw c.measure.ensures (measure_room c.args.part c.args.c (sized c.before.before.before.before.before)), c.requires.1)
+    (rw c.measure.ensures (measure_room c.args.part c.args.c (sized (goal.at.below-requires c).Else-not-is_allowed)), c.requires.1)
 
 pub returns : goal.returns
 returns c =
     c.below.ensures
     ∙ ap (λ (q : Measure). Measures.below q c.args.q) c.measure.ensures
-    ∙ sym (passes_measured c.args.part c.args.c _ c.args.q (allowed c.before.before.before.before.before.before)
-    (changed (c) ∙ c.if-is_zero.false)
-    (passed (compared c.before.before.before) c.if-not-is_compared.false))
+    ∙ sym (passes_measured c.args.part c.args.c _ c.args.q (allowed (goal.at.returns c).Else-not-is_allowed)
+    (changed (goal.at.returns c).After-is_zero ∙ c.if-is_zero.false)
+    (passed (compared (goal.at.returns c).After-is_compared) c.if-not-is_compared.false))

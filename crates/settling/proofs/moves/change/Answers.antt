@@ -39,32 +39,32 @@ module _ (s : Start) where
   read_b = read s.args.o.b (omega (arith, s.requires.1.b))
 
 pub overflow_mul-s : goal.overflow_mul-s
-overflow_mul-s c = omega (arith, at_s c.before.before)
+overflow_mul-s c = omega (arith, at_s (goal.at.overflow_mul-s c).Start)
 
 pub overflow_add-s : goal.overflow_add-s
-overflow_add-s c = omega (arith, at_s c.before.before)
+overflow_add-s c = omega (arith, at_s (goal.at.overflow_add-s c).Start)
 
 pub overflow_mul-t : goal.overflow_mul-t
-overflow_mul-t c = omega (arith, at_t c.before.before.before.before)
+overflow_mul-t c = omega (arith, at_t (goal.at.overflow_mul-t c).Start)
 
 pub overflow_add-t : goal.overflow_add-t
-overflow_add-t c = omega (arith, at_t c.before.before.before.before)
+overflow_add-t c = omega (arith, at_t (goal.at.overflow_add-t c).Start)
 
 pub offset_bounds-basis-s : goal.offset_bounds-basis-s
-offset_bounds-basis-s c = omega (arith, at_s c.before.before.before.before, c.well-formed)
+offset_bounds-basis-s c = omega (arith, at_s (goal.at.offset_bounds-basis-s c).Start, c.well_formed)
 
 pub bounds-basis-s : goal.bounds-basis-s
-bounds-basis-s c = at_s c.before.before.before.before
+bounds-basis-s c = at_s (goal.at.bounds-basis-s c).Start
 
 pub offset_bounds-basis-t : goal.offset_bounds-basis-t
-offset_bounds-basis-t c = omega (arith, at_t c.before.before.before.before.before, c.well-formed)
+offset_bounds-basis-t c = omega (arith, at_t (goal.at.offset_bounds-basis-t c).Start, c.well_formed)
 
 pub bounds-basis-t : goal.bounds-basis-t
-bounds-basis-t c = at_t c.before.before.before.before.before
+bounds-basis-t c = at_t (goal.at.bounds-basis-t c).Start
 
 pub combine-requires : goal.combine-requires
 combine-requires c =
-    rw (read_a c.before.before.before.before.before.before.before.before, read_b c.before.before.before.before.before.before.before.before, read_s c.before.before.before.before.before.before.before.before, read_t c.before.before.before.before.before.before.before.before) (
+    rw (read_a (goal.at.combine-requires c).Start, read_b (goal.at.combine-requires c).Start, read_s (goal.at.combine-requires c).Start, read_t (goal.at.combine-requires c).Start) (
       c.requires.1.a,
       c.requires.1.b,
       c.requires.0.small (c.args.o.s * c.args.view.stride + c.args.j),
@@ -75,7 +75,7 @@ combine-requires c =
 pub returns : goal.returns
 returns c =
     back c.combine.result c.combine.type_inv ∙ c.combine.ensures
-    ∙ rw (read_a c.before.before.before.before.before.before.before.before.before, read_b c.before.before.before.before.before.before.before.before.before, read_s c.before.before.before.before.before.before.before.before.before, read_t c.before.before.before.before.before.before.before.before.before)
+    ∙ rw (read_a (goal.at.returns c).Start, read_b (goal.at.returns c).Start, read_s (goal.at.returns c).Start, read_t (goal.at.returns c).Start)
     (ap₂ (λ (x y : ℤ). c.args.o.a *ℤ x +ℤ c.args.o.b *ℤ y)
     (sym (vectors_at c.args.view c.args.basis.now c.args.o.s c.args.j c.requires.1.s c.requires.2))
     (sym (vectors_at c.args.view c.args.basis.now c.args.o.t c.args.j c.requires.1.t c.requires.2)))

@@ -94,77 +94,77 @@ module _ (c : Start) where
     small j = rw is (vector_small c.args.view l s c.requires.viewed.0 h j)
 
 -- where there are columns, both rows lie in the slice
-first_end : (c : Else-n-eq0) → at c.before c.args.o.s + c.args.view.columns ≤ length (l c.before)
-first_end c = ends_at c.before c.args.o.s c.requires.viewed.1.s c.if-n-eq0.false
+first_end : (c : Else-n-eq0) → at (goal.at.Else-n-eq0 c).Start c.args.o.s + c.args.view.columns ≤ length (l (goal.at.Else-n-eq0 c).Start)
+first_end c = ends_at (goal.at.Else-n-eq0 c).Start c.args.o.s c.requires.viewed.1.s c.if-n-eq0.false
 
 second_end :
     (c : After-add_row) →
-    at c.before.before.before.before.before.before.before c.args.o.t + c.args.view.columns ≤ length (l c.before.before.before.before.before.before.before)
+    at (goal.at.After-add_row c).Start c.args.o.t + c.args.view.columns ≤ length (l (goal.at.After-add_row c).Start)
 second_end c =
-    ends_at c.before.before.before.before.before.before.before c.args.o.t c.requires.viewed.1.t c.if-n-eq0.false
+    ends_at (goal.at.After-add_row c).Start c.args.o.t c.requires.viewed.1.t c.if-n-eq0.false
 
 -- what the first addition leaves
-first : (c : After-add_row) → c.add_row.new.values ≡ once c.before.before.before.before.before.before.before
+first : (c : After-add_row) → c.add_row.new.values ≡ once (goal.at.After-add_row c).Start
 first c =
-    c.add_row.ensures ∙ (λ i. plus (a c.before.before.before.before.before.before.before i) (is c.before.before.before.before.before.before.before c.args.o.s c.requires.viewed.1.s i) (v c.before.before.before.before.before.before.before))
+    c.add_row.ensures ∙ (λ i. plus (a (goal.at.After-add_row c).Start i) (is (goal.at.After-add_row c).Start c.args.o.s c.requires.viewed.1.s i) (v (goal.at.After-add_row c).Start))
 
 pub returns-then-n-eq0 : goal.returns-then-n-eq0
 returns-then-n-eq0 c =
-    let e = moved_length (vectors c.args.view (l c.before)) c.args.o (v c.before) in
+    let e = moved_length (vectors c.args.view (l (goal.at.returns-then-n-eq0 c).Start)) c.args.o (v (goal.at.returns-then-n-eq0 c).Start) in
     ends (starts (sym e)) (omega (arith, e, c.requires.viewed.2, c.if-n-eq0.true))
 
 pub overflow_mul-at : goal.overflow_mul-at
-overflow_mul-at c = omega (arith, first_end c.before.before, c.well-formed)
+overflow_mul-at c = omega (arith, first_end (goal.at.overflow_mul-at c).Else-n-eq0, c.well_formed)
 
 pub overflow_add-end : goal.overflow_add-end
-overflow_add-end c = omega (arith, first_end c.before.before, c.well-formed)
+overflow_add-end c = omega (arith, first_end (goal.at.overflow_add-end c).Else-n-eq0, c.well_formed)
 
 pub offset_bounds-basis-at : goal.offset_bounds-basis-at
-offset_bounds-basis-at c = omega (arith, first_end c.before.before.before, c.well-formed)
+offset_bounds-basis-at c = omega (arith, first_end (goal.at.offset_bounds-basis-at c).Else-n-eq0, c.well_formed)
 
 pub slice_bounds-add_row-end : goal.slice_bounds-add_row-end
-slice_bounds-add_row-end c = first_end c.before.before.before
+slice_bounds-add_row-end c = first_end (goal.at.slice_bounds-add_row-end c).Else-n-eq0
 
 pub add_row-requires : goal.add_row-requires
 add_row-requires c =
     let h = c.requires.viewed.1.s in (
-      long c.before.before.before.before.before.before c.args.o.s h,
-      rw (a c.before.before.before.before.before.before) c.requires.viewed.1.a,
+      long (goal.at.add_row-requires c).Start c.args.o.s h,
+      rw (a (goal.at.add_row-requires c).Start) c.requires.viewed.1.a,
       λ j. omega (arith, c.requires.by_index j),
-      small c.before.before.before.before.before.before c.args.o.s h,
+      small (goal.at.add_row-requires c).Start c.args.o.s h,
     )
 
 pub returns-then-is_zero : goal.returns-then-is_zero
 returns-then-is_zero c =
-    first (c) ∙ sym (alone c.before.before.before.before.before.before.before.before.before.before.before (ap is_zero (sym (b c.before.before.before.before.before.before.before.before.before.before.before)) ∙ sym c.is_zero.ensures ∙ c.if-is_zero.true))
+    first (goal.at.returns-then-is_zero c).After-add_row ∙ sym (alone (goal.at.returns-then-is_zero c).Start (ap is_zero (sym (b (goal.at.returns-then-is_zero c).Start)) ∙ sym c.is_zero.ensures ∙ c.if-is_zero.true))
 
 pub overflow_mul-from : goal.overflow_mul-from
 overflow_mul-from c =
-    omega (arith, second_end c.before.before.before.before.before.before, c.well-formed)
+    omega (arith, second_end (goal.at.overflow_mul-from c).After-add_row, c.well_formed)
 
 pub overflow_add-to : goal.overflow_add-to
 overflow_add-to c =
-    omega (arith, second_end c.before.before.before.before.before.before, c.well-formed)
+    omega (arith, second_end (goal.at.overflow_add-to c).After-add_row, c.well_formed)
 
 pub offset_bounds-basis-from : goal.offset_bounds-basis-from
 offset_bounds-basis-from c =
-    omega (arith, second_end c.before.before.before.before.before.before.before, c.well-formed)
+    omega (arith, second_end (goal.at.offset_bounds-basis-from c).After-add_row, c.well_formed)
 
 pub slice_bounds-add_row-end-2 : goal.slice_bounds-add_row-end-2
 slice_bounds-add_row-end-2 c =
-    second_end c.before.before.before.before.before.before.before
+    second_end (goal.at.slice_bounds-add_row-end-2 c).After-add_row
 
 pub add_row-requires-2 : goal.add_row-requires-2
 add_row-requires-2 c =
     let h = c.requires.viewed.1.t in (
-      long c.before.before.before.before.before.before.before.before.before.before.before.before.before.before.before.before c.args.o.t h ∙ sym c.add_row.auto.values,
-      rw (b c.before.before.before.before.before.before.before.before.before.before.before.before.before.before.before.before) c.requires.viewed.1.b,
-      rw (first c.before.before.before.before.before.before.before.before.before) (once_small c.before.before.before.before.before.before.before.before.before.before.before.before.before.before.before.before),
-      small c.before.before.before.before.before.before.before.before.before.before.before.before.before.before.before.before c.args.o.t h,
+      long (goal.at.add_row-requires-2 c).Start c.args.o.t h ∙ sym c.add_row.auto.values,
+      rw (b (goal.at.add_row-requires-2 c).Start) c.requires.viewed.1.b,
+      rw (first (goal.at.add_row-requires-2 c).After-add_row) (once_small (goal.at.add_row-requires-2 c).Start),
+      small (goal.at.add_row-requires-2 c).Start c.args.o.t h,
     )
 
 pub returns : goal.returns
 returns c =
     c.add_row-2.ensures
-    ∙ (λ i. plus (b c.before.before.before.before.before.before.before.before.before.before.before.before.before.before.before.before.before.before i) (is c.before.before.before.before.before.before.before.before.before.before.before.before.before.before.before.before.before.before c.args.o.t c.requires.viewed.1.t i) (first c.before.before.before.before.before.before.before.before.before.before.before i))
-    ∙ sym (both c.before.before.before.before.before.before.before.before.before.before.before.before.before.before.before.before.before.before)
+    ∙ (λ i. plus (b (goal.at.returns c).Start i) (is (goal.at.returns c).Start c.args.o.t c.requires.viewed.1.t i) (first (goal.at.returns c).After-add_row i))
+    ∙ sym (both (goal.at.returns c).Start)

@@ -24,8 +24,8 @@ Q s = to_z w64 (of_z w64 s.args.q)
 
 -- the column of a turn
 at :
-    (c : In-loop-j) → c.loop-j.j < length (plus (Q c.before.before) c.args.row.now c.args.values.now)
-at c = omega (arith, length_plus (Q c.before.before) c.args.row.now c.args.values.now, c.requires.0.long, c.loop-j-test.true)
+    (c : In-loop-j) → c.loop-j.j < length (plus (Q (goal.at.In-loop-j c).Start) c.args.row.now c.args.values.now)
+at c = omega (arith, length_plus (Q (goal.at.In-loop-j c).Start) c.args.row.now c.args.values.now, c.requires.0.long, c.loop-j-test.true)
 
 here : (c : In-loop-j) → c.loop-j.j < length c.loop-j.values
 here c = omega (arith, c.loop-j.invariant.written.same, c.requires.0.long, c.loop-j-test.true)
@@ -35,7 +35,7 @@ value :
     (c : After-plus_product-arg-1) →
     let l = c.loop-j in
     to_z w64 (of_z w64 (entry l.j l.values)) ≡ entry l.j c.args.values.now
-value c = back _ c.plus_product-arg-1.given ∙ unread c.loop-j.invariant.written (at c.before)
+value c = back _ c.plus_product-arg-1.given ∙ unread c.loop-j.invariant.written (at (goal.at.After-plus_product-arg-1 c).In-loop-j)
 
 share :
     (c : After-plus_product-arg-in-loop-j-1) →
@@ -47,19 +47,19 @@ share c = back _ c.plus_product-arg-in-loop-j-1.given
 stored :
     (c : After-plus_product-y) →
     to_z w64 (of_z w64 c.plus_product-y.result) ≡ entry c.loop-j.j
-    (plus (Q c.before.before.before.before.before) c.args.row.now c.args.values.now)
+    (plus (Q (goal.at.After-plus_product-y c).Start) c.args.row.now c.args.values.now)
 stored c =
     let l = c.loop-j in
     back c.plus_product-y.result c.plus_product-y.type_inv ∙ c.plus_product-y.ensures
-    ∙ (λ i. value c.before.before i +ℤ Q c.before.before.before.before.before *ℤ share c.before i)
-    ∙ sym (entry_plus l.j (Q c.before.before.before.before.before) c.args.row.now c.args.values.now
+    ∙ (λ i. value (goal.at.After-plus_product-y c).After-plus_product-arg-1 i +ℤ Q (goal.at.After-plus_product-y c).Start *ℤ share (goal.at.After-plus_product-y c).After-plus_product-arg-in-loop-j-1 i)
+    ∙ sym (entry_plus l.j (Q (goal.at.After-plus_product-y c).Start) c.args.row.now c.args.values.now
     (omega (arith, c.requires.0.long, c.loop-j-test.true)))
 
 -- its magnitude
 size :
     (c : After-magnitude) →
-    c.magnitude.result ≡ nat_abs (entry c.loop-j.j (plus (Q c.before.before.before.before.before.before) c.args.row.now c.args.values.now))
-size c = c.magnitude.ensures ∙ ap nat_abs (stored c.before)
+    c.magnitude.result ≡ nat_abs (entry c.loop-j.j (plus (Q (goal.at.After-magnitude c).Start) c.args.row.now c.args.values.now))
+size c = c.magnitude.ensures ∙ ap nat_abs (stored (goal.at.After-magnitude c).After-plus_product-y)
 
 pub loop-j-init : goal.loop-j-init
 loop-j-init c = adds_from (Q c) c.args.row.now c.args.values.now c.requires.0 c.args.c c.requires.2
@@ -76,7 +76,7 @@ bounds-row-j c = omega arith
 pub plus_product-y-requires : goal.plus_product-y-requires
 plus_product-y-requires c =
     let l = c.loop-j in (
-      rw (value c.before) (omega (arith, c.requires.0.values_small l.j)),
+      rw (value (goal.at.plus_product-y-requires c).After-plus_product-arg-1) (omega (arith, c.requires.0.values_small l.j)),
       rw (to_z-of_z c.ranges.q) c.requires.1,
       rw (share c) (c.requires.0.row_small l.j),
     )
@@ -88,16 +88,16 @@ shape_of-values-then-magnitude-gt-MAX_NUMBER c =
 pub returns-then-magnitude-gt-MAX_NUMBER : goal.returns-then-magnitude-gt-MAX_NUMBER
 returns-then-magnitude-gt-MAX_NUMBER c =
     let l = c.loop-j in
-    adds_beyond (Q c.before.before.before.before.before.before.before) c.args.row.now c.args.values.now c.requires.0 l.values l.j l.invariant
+    adds_beyond (Q (goal.at.returns-then-magnitude-gt-MAX_NUMBER c).Start) c.args.row.now c.args.values.now c.requires.0 l.values l.j l.invariant
     c.loop-j-test.true
-    (omega (arith, size c.before, c.if-magnitude-gt-MAX_NUMBER.true))
+    (omega (arith, size (goal.at.returns-then-magnitude-gt-MAX_NUMBER c).After-magnitude, c.if-magnitude-gt-MAX_NUMBER.true))
     ∙ ap (λ (q : ℤ). within (plus q c.args.row.now c.args.values.now)) (to_z-of_z c.ranges.q)
 
 pub offset_bounds-values-j-in-loop-j : goal.offset_bounds-values-j-in-loop-j
-offset_bounds-values-j-in-loop-j c = let h = here c.before.before.before.before.before in search rules
+offset_bounds-values-j-in-loop-j c = let h = here (goal.at.offset_bounds-values-j-in-loop-j c).In-loop-j in search rules
 
 pub bounds-values-j : goal.bounds-values-j
-bounds-values-j c = here c.before.before.before.before.before
+bounds-values-j c = here (goal.at.bounds-values-j c).In-loop-j
 
 pub overflow_add-j : goal.overflow_add-j
 overflow_add-j c = omega arith
@@ -108,9 +108,9 @@ loop-j-smaller c = omega (arith, c.lead_from-j.ensures)
 pub loop-j-preserved : goal.loop-j-preserved
 loop-j-preserved c =
     let l = c.loop-j in
-    adds_on (Q c.before.before.before.before.before.before.before.before) c.args.row.now c.args.values.now c.requires.0 l.values l.j l.invariant _ c.lead_from-j.result
-    c.loop-j-test.true (stored (c))
-    (omega (arith, size c.before.before, ap nat_abs (stored (c)), c.if-magnitude-gt-MAX_NUMBER.false))
+    adds_on (Q (goal.at.loop-j-preserved c).Start) c.args.row.now c.args.values.now c.requires.0 l.values l.j l.invariant _ c.lead_from-j.result
+    c.loop-j-test.true (stored (goal.at.loop-j-preserved c).After-plus_product-y)
+    (omega (arith, size (goal.at.loop-j-preserved c).After-magnitude, ap nat_abs (stored (goal.at.loop-j-preserved c).After-plus_product-y), c.if-magnitude-gt-MAX_NUMBER.false))
     c.lead_from-j.ensures
 
 pub shape_of-values : goal.shape_of-values
@@ -119,5 +119,5 @@ shape_of-values c = c.loop-j.invariant.written.same
 pub returns : goal.returns
 returns c =
     let l = c.loop-j in
-    adds_all (Q c.before.before) c.args.row.now c.args.values.now c.requires.0 l.values l.j l.invariant c.loop-j-test.false
+    adds_all (Q (goal.at.returns c).Start) c.args.row.now c.args.values.now c.requires.0 l.values l.j l.invariant c.loop-j-test.false
     ∙ ap (λ (q : ℤ). within (plus q c.args.row.now c.args.values.now)) (to_z-of_z c.ranges.q)

@@ -31,29 +31,28 @@ module _ (s : Start) where
 -- what the machine reads back
 module _ (c : After-cell_at-cell) where
   abbrev start : Start
-  start = c.before
+  start = (goal.at.After-cell_at-cell c).Start
 
-  value : to_z w64 (of_z w64 c.Cell-at.result.value) ≡ entry start.args.c start.args.values.now
-  value = ap (λ (x : Cell). to_z w64 (of_z w64 x.value)) c.Cell-at.ensures ∙ read _ (omega (arith, start.requires.0.values_small start.args.c))
+  value : to_z w64 (of_z w64 c.cell_at-cell.result.value) ≡ entry start.args.c start.args.values.now
+  value = ap (λ (x : Cell). to_z w64 (of_z w64 x.value)) c.cell_at-cell.ensures ∙ read _ (omega (arith, start.requires.0.values_small start.args.c))
 
-  lower : to_z w64 (of_z w64 c.Cell-at.result.lower) ≡ ((C start).column start.args.c).lower
+  lower : to_z w64 (of_z w64 c.cell_at-cell.result.lower) ≡ ((C start).column start.args.c).lower
   lower =
-      ap (λ (x : Cell). to_z w64 (of_z w64 x.lower)) c.Cell-at.ensures ∙ read _ (omega (arith, (start.requires.0.columns start.args.c).lower))
+      ap (λ (x : Cell). to_z w64 (of_z w64 x.lower)) c.cell_at-cell.ensures ∙ read _ (omega (arith, (start.requires.0.columns start.args.c).lower))
 
-  upper : to_z w64 (of_z w64 c.Cell-at.result.upper) ≡ ((C start).column start.args.c).upper
+  upper : to_z w64 (of_z w64 c.cell_at-cell.result.upper) ≡ ((C start).column start.args.c).upper
   upper =
-      ap (λ (x : Cell). to_z w64 (of_z w64 x.upper)) c.Cell-at.ensures ∙ read _ (omega (arith, (start.requires.0.columns start.args.c).upper))
+      ap (λ (x : Cell). to_z w64 (of_z w64 x.upper)) c.cell_at-cell.ensures ∙ read _ (omega (arith, (start.requires.0.columns start.args.c).upper))
 
-nearest : (c : After-ideal) → let s =
-    c.before in to_z w64 (of_z w64 c.ideal.result) ≡ ideal_at (C s) s.args.values.now s.args.c
+nearest : (c : After-ideal) → to_z w64 (of_z w64 c.ideal.result) ≡ ideal_at (C (goal.at.After-ideal c).Start) c.args.values.now c.args.c
 nearest c =
     back c.ideal.result c.ideal.type_inv ∙ c.ideal.ensures
-    ∙ (λ i. Ideals.ideal (lower c.before.before.before.before.before i) (upper c.before.before.before.before.before i) (c.wish_at.ensures i) (value c.before.before.before.before.before i))
+    ∙ (λ i. Ideals.ideal (lower (goal.at.After-ideal c).After-cell_at-cell i) (upper (goal.at.After-ideal c).After-cell_at-cell i) (c.wish_at.ensures i) (value (goal.at.After-ideal c).After-cell_at-cell i))
 
 pub overflow_sub-result : goal.overflow_sub-result
 overflow_sub-result c =
-    rw (nearest c, value (c)) (fits c.before.before.before.before.before.before)
+    rw (nearest c, value (goal.at.overflow_sub-result c).After-cell_at-cell) (fits (goal.at.overflow_sub-result c).Start)
 
 pub returns : goal.returns
 returns c =
-    rw (nearest c, value (c)) (to_z-of_z (fits c.before.before.before.before.before.before))
+    rw (nearest c, value (goal.at.returns c).After-cell_at-cell) (to_z-of_z (fits (goal.at.returns c).Start))

@@ -36,7 +36,7 @@ module _ (s : Start) where
 -- the row of a turn
 module _ (c : In-loop-s) where
   abbrev start : Start
-  start = c.before.before
+  start = (goal.at.In-loop-s c).Start
 
   abbrev at : ℕ
   at = c.loop-s.s * (B start).stride
@@ -57,17 +57,17 @@ module _ (c : In-loop-s) where
   led = c.loop-s.invariant.seatable.led c.loop-s.s c.loop-s-test.true
 
 -- its lead
-found : (c : After-lead_from-c) → c.lead_from-c.result ≡ lead (row c.before.before)
+found : (c : After-lead_from-c) → c.lead_from-c.result ≡ lead (row (goal.at.After-lead_from-c c).In-loop-s)
 found c =
-    let s = start c.before.before in
+    let s = start (goal.at.After-lead_from-c c).In-loop-s in
     let l = c.loop-s in
-    c.lead_from-c.ensures ∙ ap (λ (r : List ℤ). l.from + lead (drop l.from r)) (is c.before.before)
-    ∙ lead_behind l.from (row c.before.before) (rises_row (B s) s.args.basis.now l.from l.s c.loop-s-test.true l.invariant.rises)
+    c.lead_from-c.ensures ∙ ap (λ (r : List ℤ). l.from + lead (drop l.from r)) (is (goal.at.After-lead_from-c c).In-loop-s)
+    ∙ lead_behind l.from (row (goal.at.After-lead_from-c c).In-loop-s) (rises_row (B s) s.args.basis.now l.from l.s c.loop-s-test.true l.invariant.rises)
 
 -- what its addition tells
 module _ (c : After-seat_one) where
   abbrev turn : In-loop-s
-  turn = c.before.before.before.before.before
+  turn = (goal.at.After-seat_one c).In-loop-s
 
   abbrev after : List ℤ
   after = seat_one (C (start turn)) (row turn) turn.loop-s.values
@@ -82,13 +82,13 @@ pub loop-s-init : goal.loop-s-init
 loop-s-init c = record { seatable = c.requires; long = refl; rises = c.requires.rises; rest = refl }
 
 pub overflow_mul-at : goal.overflow_mul-at
-overflow_mul-at c = omega (arith, ends c, c.well-formed)
+overflow_mul-at c = omega (arith, ends c, c.well_formed)
 
 pub overflow_add-end : goal.overflow_add-end
-overflow_add-end c = omega (arith, ends c, c.well-formed)
+overflow_add-end c = omega (arith, ends c, c.well_formed)
 
 pub offset_bounds-basis-at : goal.offset_bounds-basis-at
-offset_bounds-basis-at c = omega (arith, ends c, c.well-formed)
+offset_bounds-basis-at c = omega (arith, ends c, c.well_formed)
 
 pub slice_bounds-lead_from-count : goal.slice_bounds-lead_from-count
 slice_bounds-lead_from-count c = omega arith
@@ -100,7 +100,7 @@ pub slice_bounds-lead_from-end : goal.slice_bounds-lead_from-end
 slice_bounds-lead_from-end c = ends c
 
 pub offset_bounds-basis-at-in-loop-s : goal.offset_bounds-basis-at-in-loop-s
-offset_bounds-basis-at-in-loop-s c = omega (arith, ends c.before.before.before, (start c.before.before.before).well-formed)
+offset_bounds-basis-at-in-loop-s c = omega (arith, ends (goal.at.offset_bounds-basis-at-in-loop-s c).In-loop-s, (start (goal.at.offset_bounds-basis-at-in-loop-s c).In-loop-s).well_formed)
 
 pub slice_bounds-seat_one-count : goal.slice_bounds-seat_one-count
 slice_bounds-seat_one-count c = omega arith
@@ -109,31 +109,31 @@ pub slice_bounds-seat_one-start : goal.slice_bounds-seat_one-start
 slice_bounds-seat_one-start c = omega arith
 
 pub slice_bounds-seat_one-end : goal.slice_bounds-seat_one-end
-slice_bounds-seat_one-end c = ends c.before.before.before
+slice_bounds-seat_one-end c = ends (goal.at.slice_bounds-seat_one-end c).In-loop-s
 
 pub seat_one-requires : goal.seat_one-requires
 seat_one-requires c =
     let l = c.loop-s in (
-      placeable (B (start c.before.before.before.before)) _ _ _ l.invariant.seatable,
-      subst (Addable l.values) (sym (is c.before.before.before.before)) (addable c.before.before.before.before),
-      subst PositiveLead (sym (is c.before.before.before.before)) (led c.before.before.before.before),
-      found c.before.before ∙ ap lead (sym (is c.before.before.before.before)),
+      placeable (B (start (goal.at.seat_one-requires c).In-loop-s)) _ _ _ l.invariant.seatable,
+      subst (Addable l.values) (sym (is (goal.at.seat_one-requires c).In-loop-s)) (addable (goal.at.seat_one-requires c).In-loop-s),
+      subst PositiveLead (sym (is (goal.at.seat_one-requires c).In-loop-s)) (led (goal.at.seat_one-requires c).In-loop-s),
+      found (goal.at.seat_one-requires c).After-lead_from-c ∙ ap lead (sym (is (goal.at.seat_one-requires c).In-loop-s)),
     )
 
 pub shape_of-values-then-not-seat_one : goal.shape_of-values-then-not-seat_one
-shape_of-values-then-not-seat_one c = c.seat_one.auto.values ∙ (turn c.before.before).loop-s.invariant.long
+shape_of-values-then-not-seat_one c = c.seat_one.auto.values ∙ (turn (goal.at.shape_of-values-then-not-seat_one c).After-seat_one).loop-s.invariant.long
 
 pub returns-then-not-seat_one : goal.returns-then-not-seat_one
 returns-then-not-seat_one c =
-    let s = start (turn c.before.before) in
-    let l = (turn c.before.before).loop-s in
-    let e : any_beyond (after c.before.before) ≡ true = within_false (after c.before.before) (told c.before.before false (c.if-not-seat_one.true)) in
-    sym (sym l.invariant.rest ∙ seat_far (C s) (B s) s.args.basis.now l.values l.s (turn c.before.before).loop-s-test.true e)
+    let s = start (turn (goal.at.returns-then-not-seat_one c).After-seat_one) in
+    let l = (turn (goal.at.returns-then-not-seat_one c).After-seat_one).loop-s in
+    let e : any_beyond (after (goal.at.returns-then-not-seat_one c).After-seat_one) ≡ true = within_false (after (goal.at.returns-then-not-seat_one c).After-seat_one) (told (goal.at.returns-then-not-seat_one c).After-seat_one false (c.if-not-seat_one.true)) in
+    sym (sym l.invariant.rest ∙ seat_far (C s) (B s) s.args.basis.now l.values l.s (turn (goal.at.returns-then-not-seat_one c).After-seat_one).loop-s-test.true e)
 
 pub overflow_add-from : goal.overflow_add-from
 overflow_add-from c =
-    let q = (turn c.before.before).loop-s.invariant.seatable.ready in
-    omega (arith, found c.before.before.before.before.before, (led (turn c.before.before)).inside, (addable (turn c.before.before)).long, q.values_long, q.few)
+    let q = (turn (goal.at.overflow_add-from c).After-seat_one).loop-s.invariant.seatable.ready in
+    omega (arith, found (goal.at.overflow_add-from c).After-lead_from-c, (led (turn (goal.at.overflow_add-from c).After-seat_one)).inside, (addable (turn (goal.at.overflow_add-from c).After-seat_one)).long, q.values_long, q.few)
 
 pub overflow_add-s : goal.overflow_add-s
 overflow_add-s c = omega arith
@@ -143,16 +143,16 @@ loop-s-smaller c = omega arith
 
 pub loop-s-preserved : goal.loop-s-preserved
 loop-s-preserved c =
-    let s = start (turn c.before.before) in
-    let l = (turn c.before.before).loop-s in
-    let h = (turn c.before.before).loop-s-test.true in
-    let e : (any_beyond (after c.before.before) ≡ false) × (c.seat_one.new.values ≡ after c.before.before) =
-    within_true (after c.before.before) c.seat_one.new.values (told c.before.before true (c.if-not-seat_one.false)) in
+    let s = start (turn (goal.at.loop-s-preserved c).After-seat_one) in
+    let l = (turn (goal.at.loop-s-preserved c).After-seat_one).loop-s in
+    let h = (turn (goal.at.loop-s-preserved c).After-seat_one).loop-s-test.true in
+    let e : (any_beyond (after (goal.at.loop-s-preserved c).After-seat_one) ≡ false) × (c.seat_one.new.values ≡ after (goal.at.loop-s-preserved c).After-seat_one) =
+    within_true (after (goal.at.loop-s-preserved c).After-seat_one) c.seat_one.new.values (told (goal.at.loop-s-preserved c).After-seat_one true (c.if-not-seat_one.false)) in
     record {
       seatable = still_seatable (B s) _ _ _ l.invariant.seatable c.seat_one.new.values c.seat_one.auto.values (ap any_beyond e.1 ∙ e.0);
       long = c.seat_one.auto.values ∙ l.invariant.long;
       rises =
-          subst (λ (k : ℕ). Rising (k + 1) (drop (l.s + 1) (N s))) (sym (found c.before.before.before.before.before))
+          subst (λ (k : ℕ). Rising (k + 1) (drop (l.s + 1) (N s))) (sym (found (goal.at.loop-s-preserved c).After-lead_from-c))
           (rises_on (B s) s.args.basis.now l.from l.s h l.invariant.rises);
       rest = ap (Seating.seat (C s) (drop (l.s + 1) (N s))) e.1
           ∙ sym (seat_on (C s) (B s) s.args.basis.now l.values l.s h e.0)
@@ -165,4 +165,4 @@ shape_of-values c = c.loop-s.invariant.long
 pub returns : goal.returns
 returns c =
     let l = c.loop-s in
-    sym (sym l.invariant.rest ∙ seat_end (C c.before.before) (B c.before.before) c.args.basis.now l.values l.s c.loop-s-test.false)
+    sym (sym l.invariant.rest ∙ seat_end (C (goal.at.returns c).Start) (B (goal.at.returns c).Start) c.args.basis.now l.values l.s c.loop-s-test.false)

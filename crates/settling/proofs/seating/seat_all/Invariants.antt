@@ -19,7 +19,7 @@ pub record Left (B : Basis) (t l v₀ v : List ℤ) (s c : ℕ) : Type 0 where
   pub rest : Seating.seat (columns_in B.columns t) (drop s (vectors B l)) v ≡ Seating.seat (columns_in B.columns t) (vectors B l) v₀
 
 abbrev pub invariant-loop-s : goal.invariant-loop-s
-invariant-loop-s l = Left (record { l.columns = l.n; vectors = l.r; stride = l.w }) l.columns l.basis l.initial.values l.values l.s l.from
+invariant-loop-s l = Left (record { columns = l.n; vectors = l.r; stride = l.w }) l.columns l.basis l.initial.values l.values l.s l.from
 
 abbrev pub decreases-loop-s : goal.decreases-loop-s
 decreases-loop-s l = l.r - l.s

@@ -38,7 +38,7 @@ joined :
     c.divisor-d.result ≡ Strides.stride (drop (c.loop-s.s - 1) (vectors c.args.view c.args.basis.now)) c.args.j
 joined c =
     let l = c.loop-s in
-    c.divisor-d.ensures ∙ ap₂ Divisor.divisor (found c.before.before) l.invariant.1
+    c.divisor-d.ensures ∙ ap₂ Divisor.divisor (found (goal.at.After-divisor-d c).After-magnitude-x) l.invariant.1
     ∙ stride_up c.args.view c.args.basis.now c.args.j l.s
     (omega (arith, c.loop-s-test.true)) l.invariant.0
 
@@ -49,29 +49,29 @@ pub overflow_sub-s : goal.overflow_sub-s
 overflow_sub-s c = omega arith
 
 pub overflow_mul-at : goal.overflow_mul-at
-overflow_mul-at c = omega (arith, lies c.before, c.well-formed)
+overflow_mul-at c = omega (arith, lies (goal.at.overflow_mul-at c).In-loop-s, c.well_formed)
 
 pub overflow_add-at : goal.overflow_add-at
-overflow_add-at c = omega (arith, lies c.before, c.well-formed)
+overflow_add-at c = omega (arith, lies (goal.at.overflow_add-at c).In-loop-s, c.well_formed)
 
 pub offset_bounds-basis-at : goal.offset_bounds-basis-at
-offset_bounds-basis-at c = omega (arith, lies c.before, c.well-formed)
+offset_bounds-basis-at c = omega (arith, lies (goal.at.offset_bounds-basis-at c).In-loop-s, c.well_formed)
 
 pub bounds-basis-at : goal.bounds-basis-at
-bounds-basis-at c = lies c.before
+bounds-basis-at c = lies (goal.at.bounds-basis-at c).In-loop-s
 
 pub returns-then-d-eq1 : goal.returns-then-d-eq1
 returns-then-d-eq1 c =
     let l = c.loop-s in
     sym (stride_one c.args.view c.args.basis.now c.args.j (l.s - 1) (omega (arith, l.invariant.0))
-    (sym (joined c.before) ∙ c.if-d-eq1.true))
+    (sym (joined (goal.at.returns-then-d-eq1 c).After-divisor-d) ∙ c.if-d-eq1.true))
 
 pub loop-s-smaller-else-d-eq1 : goal.loop-s-smaller-else-d-eq1
 loop-s-smaller-else-d-eq1 c = omega arith
 
 pub loop-s-preserved-else-d-eq1 : goal.loop-s-preserved-else-d-eq1
 loop-s-preserved-else-d-eq1 c =
-    (omega (arith, c.loop-s.invariant.0), joined c.before)
+    (omega (arith, c.loop-s.invariant.0), joined (goal.at.loop-s-preserved-else-d-eq1 c).After-divisor-d)
 
 pub loop-s-smaller : goal.loop-s-smaller
 loop-s-smaller c = omega arith
@@ -83,7 +83,7 @@ loop-s-preserved c =
       l.invariant.1
           ∙ stride_past c.args.view c.args.basis.now c.args.j l.s
           (omega (arith, c.loop-s-test.true)) l.invariant.0
-          (sym (found c.before) ∙ c.if-x-ne0.false),
+          (sym (found (goal.at.loop-s-preserved c).After-magnitude-x) ∙ c.if-x-ne0.false),
     )
 
 pub returns : goal.returns

@@ -13,7 +13,7 @@ stride-requires c = (c.requires.basis, c.loop-j-test.true)
 
 pub offset_bounds-out-j : goal.offset_bounds-out-j
 offset_bounds-out-j c =
-    omega (arith, c.loop-j.invariant.long, c.requires.long, c.loop-j-test.true, c.well-formed)
+    omega (arith, c.loop-j.invariant.long, c.requires.long, c.loop-j-test.true, c.well_formed)
 
 pub bounds-out-j : goal.bounds-out-j
 bounds-out-j c =
