@@ -8,19 +8,15 @@
 use mathlib.Core.Path.{◌≡◌, refl, sym, ◌∙◌, ap}
 use mathlib.Core.Bool.{Bool, true, false, cond, ◌||◌, true≢false}
 use mathlib.Core.List.{List, [], ◌∷◌}
-use Prim.Native.Nat.{ℕ, zero, suc, ◌+◌, ◌*◌, ◌/◌, ◌<◌, ◌≤◌}
-use native.Mathlib.Nat.{div-mul-le_self, mul-le-mul, mul-le-mul_left}
+use Prim.Native.Nat.{ℕ, zero, suc, ◌+◌, ◌*◌, ◌<◌, ◌≤◌}
+use native.Mathlib.Nat.{mul-le-mul}
 use native.Mathlib.Omega.{arith}
 use native.Mathlib.Numerals.{add-one}
-use borrow.Author.Tests.{ltb-false, ltb-true}
-use lib.Dec.{ltb}
-use lib.IntN.{ℤ, pos, negsuc, nat_abs, ◌+ℤ◌, ◌*ℤ◌}
+use borrow.Author.Tests.{ltb-false}
+use lib.IntN.{ℤ, nat_abs, ◌+ℤ◌, ◌*ℤ◌}
 use lib.ListN.{length, drop, drop_of_length-le}
-use lib.Signed.{lt_z, ◌<ℤ◌}
+use lib.Signed.{lt_z}
 use Rattle.whole.specs.Lists.{entry}
-use Rattle.whole.proofs.Integers.{◌⊖◌, ⊖_pos, ⊖_negsuc, rep, diff_rel}
-use Rattle.whole.proofs.Never.{never}
-use Rattle.whole.specs.Quotient.{floor_quotient, nearest_quotient}
 use Rattle.whole.proofs.Signed.{abs_add, abs_mul}
 use Rattle.problem.specs.Limits.{M, max_bound, beyond, any_beyond}
 use Rattle.settling.specs.declared.Basis.{Basis}

@@ -1,6 +1,6 @@
 -- What holds at each turn of `settling::strides::stride`. Assumes nothing.
 use mathlib.Core.Path.{◌≡◌}
-use Prim.Native.Nat.{◌-◌, ◌≤◌}
+use Prim.Native.Nat.{◌≤◌}
 use lib.ListN.{drop}
 use Rattle.settling.specs.Strides as Strides
 use Rattle.settling.specs.Views.{vectors}

@@ -1,5 +1,4 @@
 -- `settling::strides::strides` meets its contract: from the left, each column gets its stride. Assumes nothing.
-use Prim.Native.Nat.{◌-◌}
 use native.Mathlib.Omega.{arith}
 use Rattle.settling.proofs.StrideLaws.{filled_none, filled_on, filled_all}
 use Rattle.settling.specs.Views.{vectors}
