@@ -1,7 +1,7 @@
 -- `deck::tables::pick` meets its contract. The invariant: what is copied, with what is to come, is all. Assumes nothing.
 use mathlib.Core.Path.{◌≡◌, refl, sym, ap, ◌∙◌}
 use mathlib.Core.List.{List, [], ◌∷◌, ◌++◌, append-nil, append_assoc}
-use Prim.Native.Nat.{ℕ, ◌+◌, ◌-◌, ◌*◌, ◌≤◌, ◌<◌}
+use Prim.Native.Nat.{ℕ, ◌+◌, ◌-◌, ◌*◌, ◌<◌}
 use native.Mathlib.Omega.{arith}
 use borrow.Author.Rules.{rules}
 use lib.IntN.{ℤ}
@@ -16,16 +16,8 @@ use Rattle.sections.specs.StatedColumns.{column_width}
 use Rattle.deck.specs.ReaderTables.{picked}
 use Rattle.text.proofs.Copying.{written_none, written_one, written_then, written_all}
 use Rattle.deck.proofs.Lists.{entry_drop, picked_more, picked_end}
-use Rattle.deck.proofs.tables.pick.Statement.{statement}
-use Rattle.deck.proofs.tables.pick.Tie as tie
-
-record Sofar (t : List ℤ) (f : ℕ) (o : List ℤ) (i : ℕ) (out : List ℤ) : Type 0 where
-  small : i ≤ deck_columns
-  size : length out ≡ deck_columns
-  done : List ℤ
-  many : length done ≡ i
-  wrote : out ≡ overwritten o 0 done
-  rest : done ++ picked f (deck_columns - i) (drop (i * column_width) t) ≡ picked f deck_columns t
+use Rattle.deck.proofs.tables.pick.Invariants.{Sofar}
+use Rattle.deck.proofs.tables.pick.Goals as goal
 
 wrote_more : (o out done : List ℤ) (i : ℕ) (x : ℤ) → out ≡ overwritten o 0 done → length done ≡ i → i < length out → i < length o
     → set out i x ≡ overwritten o 0 (done ++ (x ∷ []))
@@ -56,74 +48,43 @@ more t f o e i out v h =
           (ap (λ (y : List ℤ). v.done ++ y) n ∙ v.rest);
     }
 
-abbrev invariant_loop : tie.invariant-loop
-invariant_loop columns place out₀ i₀ out i = Sofar columns place out₀ i out
+pub loop-i-init : goal.loop-i-init
+loop-i-init c = record { small = omega arith; size = c.requires.columns_len.1; done = []; many = refl; wrote = written_none c.args.out.now 0; rest = refl }
 
-abbrev decreases_loop : tie.decreases-loop
-decreases_loop columns place out₀ i₀ out i = deck_columns - i
+pub overflow_mul-out : goal.overflow_mul-out
+overflow_mul-out c = omega (arith, c.loop-i.invariant.small)
 
-loop_holds : tie.Need-loop-init invariant_loop decreases_loop
-loop_holds c = record { small = omega arith; size = c.requires.1.1; done = []; many = refl; wrote = written_none c.args.out.now 0; rest = refl }
+pub overflow_add-out : goal.overflow_add-out
+overflow_add-out c = omega (arith, c.requires.place_lt_column_width)
 
-mul_out : tie.Need-overflow-mul-out invariant_loop decreases_loop
-mul_out c = omega (arith, c.before.loop.invariant.small)
+pub bounds-columns-i : goal.bounds-columns-i
+bounds-columns-i c = omega (arith, c.requires.place_lt_column_width, c.requires.columns_len.0)
 
-add_out : tie.Need-overflow-add-out invariant_loop decreases_loop
-add_out c = omega (arith, c.before.before.requires.0)
+pub bounds-out-i : goal.bounds-out-i
+bounds-out-i c = omega (arith, c.loop-i.invariant.size)
 
-mul_out_2 : tie.Need-overflow-mul-out-2 invariant_loop decreases_loop
-mul_out_2 c = search rules
+pub overflow_step-i : goal.overflow_step-i
+overflow_step-i c = omega arith
 
-shared_slice_copy_out_out : tie.Need-shared-slice-copy-out-out invariant_loop decreases_loop
-shared_slice_copy_out_out c = omega (arith, c.before.before.requires.0, c.before.before.requires.1.0)
+pub loop-i-smaller : goal.loop-i-smaller
+loop-i-smaller c = omega arith
 
-mul_t11 : tie.Need-overflow-mul-t11 invariant_loop decreases_loop
-mul_t11 c = search rules
-
-slice_set_from_out : tie.Need-slice-set-from-out invariant_loop decreases_loop
-slice_set_from_out c = omega (arith, c.before.before.loop.invariant.size)
-
-add_i : tie.Need-overflow-add-i invariant_loop decreases_loop
-add_i c = omega arith
-
-loop_less : tie.Need-loop-smaller invariant_loop decreases_loop
-loop_less c = omega arith
-
-loop_again : tie.Need-loop-preserved invariant_loop decreases_loop
-loop_again c =
-    let x = c.before.before.before.args in
-    let l = c.before.before.loop in
+pub loop-i-preserved : goal.loop-i-preserved
+loop-i-preserved c =
+    let x = c.args in
+    let l = c.loop-i in
     let b : to_z w64 (of_z w64 (entry (l.i * column_width + x.place) x.columns.now)) ≡ entry (l.i * column_width + x.place) x.columns.now =
     search rules in
-    rw b (more x.columns.now x.place x.out.now c.before.before.before.requires.1.1 l.i l.out l.invariant (omega arith))
+    rw b (more x.columns.now x.place x.out.now c.requires.columns_len.1 l.i l.out l.invariant (omega arith))
 
-same_length : tie.Need-same-length invariant_loop decreases_loop
-same_length c = c.before.loop.invariant.size ∙ sym c.before.before.requires.1.1
+pub shape_of-out : goal.shape_of-out
+shape_of-out c = c.loop-i.invariant.size ∙ sym c.requires.columns_len.1
 
-returns : tie.Need-returns invariant_loop decreases_loop
+pub returns : goal.returns
 returns c =
-    let x = c.before.before.args in
-    let l = c.before.loop in
+    let x = c.args in
+    let l = c.loop-i in
     let e : deck_columns - l.i ≡ 0 = omega arith in
     let d : l.invariant.done ≡ picked x.place deck_columns x.columns.now =
     sym (append-nil l.invariant.done) ∙ (rw (e, picked_end x.place (drop (l.i * column_width) x.columns.now)) at l.invariant.rest) in
-    l.invariant.wrote ∙ (written_all x.out.now l.invariant.done (omega (arith, l.invariant.many, l.invariant.small, c.before.before.requires.1.1)) ∙ d)
-
-pub pick_spec : {M : Type 1} → statement M
-pick_spec =
-    tie.close
-    (tie.spec
-    invariant_loop
-    decreases_loop
-    loop_holds
-    mul_out
-    add_out
-    mul_out_2
-    shared_slice_copy_out_out
-    mul_t11
-    slice_set_from_out
-    add_i
-    loop_less
-    loop_again
-    same_length
-    returns)
+    l.invariant.wrote ∙ (written_all x.out.now l.invariant.done (omega (arith, l.invariant.many, l.invariant.small, c.requires.columns_len.1)) ∙ d)
