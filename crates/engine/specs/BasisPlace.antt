@@ -13,7 +13,6 @@ use Rattle.lattice.specs.Hermite.{Rising}
 use Rattle.problem.specs.Limits.{M}
 use Rattle.problem.specs.declared.Problem.{Problem}
 use Rattle.tableau.specs.RightSide.{leading, basis}
-use Rattle.settling.specs.Views.{vectors}
 use Rattle.settling.specs.declared.Basis.{Basis}
 use Rattle.engine.specs.declared.views.Place.{Place}
 
