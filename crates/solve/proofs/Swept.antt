@@ -16,7 +16,7 @@ use Rattle.lattice.specs.Sums.{Satisfies}
 use Rattle.lattice.proofs.FlatLaws.{length_chop}
 use Rattle.lattice.proofs.SumLaws.{satisfies_append, satisfies_zeros}
 use Rattle.engine.specs.Demand.{SatisfiesRows}
-use Rattle.sections.specs.Rules.{ok, no}
+use Rattle.sections.specs.Rules.{ok}
 use Rattle.sections.specs.Sections.{Line}
 use Rattle.sections.specs.StatedColumns.{slack_columns, coefficient_rows, right_of}
 use Rattle.sections.specs.declared.Interval.{Interval}
@@ -27,7 +27,7 @@ use Rattle.volumes.specs.Sweeping.{Sweeps}
 use Rattle.volumes.proofs.Lines.{tables_two, swept_rights, no_column_lem, term_row, swept_table}
 use Rattle.volumes.proofs.Reading.{AllProper, section_proper}
 use Rattle.volumes.proofs.Sums.{swept_zero}
-use Rattle.deck.specs.Posing.{Deck, deck, read_deck, all_lines, columns_of, count_of, posed}
+use Rattle.deck.specs.Posing.{Deck, read_deck, all_lines, columns_of, count_of, posed}
 use Rattle.deck.proofs.Whole.{deck_parts, in_limits}
 use Rattle.deck.proofs.Older.{lines_alone}
 use Rattle.solve.specs.Swept.{unswept, VolumesSatisfied}
