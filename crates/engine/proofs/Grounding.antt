@@ -29,7 +29,7 @@ use Rattle.problem.specs.declared.Check.TheVariants.{Passed, Failed}
 use Rattle.tableau.specs.RightSide.{basis}
 use Rattle.tableau.proofs.Within.{within_entry}
 use Rattle.engine.specs.Assign.{Buffers, Done, n, m, lent_of, rounds_of, refused, over_limit, settle_on, on_check, stands, formed, continue}
-use Rattle.engine.specs.Ground.{Grounded, grounded, on_first, ground, Packs}
+use Rattle.engine.specs.Ground.{Grounded, grounded, on_first, laid_ground, Packs}
 use Rattle.engine.specs.declared.ground.Ground.{Ground}
 use Rattle.engine.specs.Placed.{Placed}
 use Rattle.engine.proofs.Readiness.{table}
@@ -49,22 +49,22 @@ module _ {A : Type 0} (f : Refusal → List ℤ → A) (a : A) where
 
 -- ---- what is found
 module _ (P : Posed) (v : List ℤ) (L : Lent) (t : List ℤ) where
-  pub ground_failed : {why : Refusal} → first_cause P L ≡ Failed why → ground P v L t ≡ grounded (Failed why) 0 t
-  unfolding ground
+  pub ground_failed : {why : Refusal} → first_cause P L ≡ Failed why → laid_ground P v L t ≡ grounded (Failed why) 0 t
+  unfolding laid_ground
   ground_failed e = rw e refl
 
-  pub ground_off : first_cause P L ≡ Passed → stands P v ≡ false → ground P v L t ≡ grounded (Failed Standing) 0 t
-  unfolding ground
+  pub ground_off : first_cause P L ≡ Passed → stands P v ≡ false → laid_ground P v L t ≡ grounded (Failed Standing) 0 t
+  unfolding laid_ground
   ground_off e s = rw (e, s) refl
 
   pub ground_over : first_cause P L ≡ Passed → stands P v ≡ true → (formed P).over ≡ true
-      → ground P v L t ≡ grounded (Failed Elimination) 0 (zeros (length t))
-  unfolding ground
+      → laid_ground P v L t ≡ grounded (Failed Elimination) 0 (zeros (length t))
+  unfolding laid_ground
   ground_over e s o = rw (e, s, o) refl
 
   pub ground_clear : first_cause P L ≡ Passed → stands P v ≡ true → (formed P).over ≡ false
-      → ground P v L t ≡ grounded Passed (rounds_of P) (flat (formed P).table)
-  unfolding ground
+      → laid_ground P v L t ≡ grounded Passed (rounds_of P) (flat (formed P).table)
+  unfolding laid_ground
   ground_clear e s o = rw (e, s, o) refl
 
   -- ---- nothing is refused
@@ -74,8 +74,8 @@ module _ (P : Posed) (v : List ℤ) (L : Lent) (t : List ℤ) where
     pub kept : (formed P).over ≡ false
     pub is : u ≡ flat (formed P).table
 
-  pub clear : {k : ℕ} {u : List ℤ} → grounded Passed k u ≡ ground P v L t → Clear u
-  unfolding ground
+  pub clear : {k : ℕ} {u : List ℤ} → grounded Passed k u ≡ laid_ground P v L t → Clear u
+  unfolding laid_ground
   clear {k} {u} e = go (first_cause P L) refl (stands P v) refl (formed P).over refl e
     where
       T : List ℤ
@@ -95,7 +95,7 @@ module _ (P : Posed) (v : List ℤ) (L : Lent) (t : List ℤ) where
       go Passed g true h false k e = record { passed = g; standing = h; kept = k; is = ap (λ (x : Grounded). x.tableau) e }
 
   module _ {u : List ℤ} (c : Clear u) where
-    pub clear_rounds : {k : ℕ} → grounded Passed k u ≡ ground P v L t → k ≡ rounds_of P
+    pub clear_rounds : {k : ℕ} → grounded Passed k u ≡ laid_ground P v L t → k ≡ rounds_of P
     clear_rounds e = ap (λ (x : Grounded). x.rounds) (e ∙ ground_clear c.passed c.standing c.kept)
 
     abbrev pub clear_passes : Passes P L
@@ -131,6 +131,6 @@ module _ (P : Posed) (B : Buffers) where
   by_cases Passed true true k u = refl
   by_cases Passed true false k u = refl
 
-  pub continue_ground : continue P B ≡ by_ground (λ why t. refused why t B) d (ground P B.values (lent_of B) B.tableau)
-  unfolding continue ground
+  pub continue_ground : continue P B ≡ by_ground (λ why t. refused why t B) d (laid_ground P B.values (lent_of B) B.tableau)
+  unfolding continue laid_ground
   continue_ground = by_cases (first_cause P (lent_of B)) (stands P B.values) (formed P).over (rounds_of P) (flat (formed P).table)

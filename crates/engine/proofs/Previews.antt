@@ -48,7 +48,7 @@ use Rattle.settling.proofs.Stepping.{next_taken}
 use Rattle.settling.proofs.Verdicts.{rest_exactly}
 use Rattle.engine.specs.Assign.{Buffers, Done, n, m, columns, lent_of, refused, settle_on, stands, formed}
 use Rattle.engine.specs.BasisPlace.{table_of, basis_view, basis_start}
-use Rattle.engine.specs.Ground.{Grounded, grounded, ground}
+use Rattle.engine.specs.Ground.{Grounded, grounded, laid_ground}
 use Rattle.engine.specs.Outcomes.{basis_left}
 use Rattle.engine.specs.Preview.{Shown, with_limit, list_length, lent_beside, unshown, on_cause, told, after, shown_on, preview_fit, preview}
 use Rattle.engine.specs.Preview.{copied, Equals, EqualsContinue, PreviewContinue, PreviewRoom}
@@ -199,7 +199,7 @@ module _ (P : Posed) (v : List ℤ) (B : Buffers) where
 
     equal : EqualsContinue P v B
     equal =
-        let g : Grounded = ground (with_limit 1 P) v (lent_of (copied v B)) B.tableau in
+        let g : Grounded = laid_ground (with_limit 1 P) v (lent_of (copied v B)) B.tableau in
         rw (preview_ground P v B, continue_ground (with_limit 1 P) (copied v B), same_lent) (by_check_lem g.check g.tableau)
 
 pub preview_continue : PreviewContinue
@@ -276,7 +276,7 @@ module _ (P : Posed) (v : List ℤ) (p : Part) (i : ℕ) (o : Move) where
 
 pub preview_step : PreviewStep
 preview_step P v B p i o e =
-    let g : Grounded = ground (with_limit 1 P) v (lent_beside (n P) v B) B.tableau in
+    let g : Grounded = laid_ground (with_limit 1 P) v (lent_beside (n P) v B) B.tableau in
     rw (preview_ground P v B) (names P v p i o B g.check g.tableau (rw (preview_ground P v B) at e))
 
 -- ---- at rest
@@ -301,7 +301,7 @@ module _ (P : Posed) (v : List ℤ) where
 
 pub preview_rest : PreviewRest
 preview_rest P v B e =
-    let g : Grounded = ground (with_limit 1 P) v (lent_beside (n P) v B) B.tableau in
+    let g : Grounded = laid_ground (with_limit 1 P) v (lent_beside (n P) v B) B.tableau in
     rw (preview_ground P v B) (rests P v B g.check g.tableau (rw (preview_ground P v B) at e))
 
 -- ---- how large it is
@@ -315,7 +315,7 @@ module _ (P : Posed) (v : List ℤ) (B : Buffers) (p : Part) (i : ℕ) (o : Move
   L = lent_beside (n P) v B
 
   abbrev g : Grounded
-  g = ground (with_limit 1 P) v L B.tableau
+  g = laid_ground (with_limit 1 P) v L B.tableau
 
   is_clear : Clear (with_limit 1 P) v L B.tableau g.tableau
   is_clear =

@@ -27,7 +27,7 @@ use Rattle.settling.specs.Steps.{turn_of}
 use Rattle.settling.specs.Views.{vectors}
 use Rattle.settling.proofs.Settlings.{taken_ready}
 use Rattle.engine.specs.Assign.{Buffers, n, columns, rounds_of, stands, formed}
-use Rattle.engine.specs.Ground.{grounded, on_first, ground}
+use Rattle.engine.specs.Ground.{grounded, on_first, laid_ground}
 use Rattle.engine.specs.Outcomes.{basis_left}
 use Rattle.engine.specs.Preview.{Shown, shown, with_limit, list_length, lent_beside, unshown, on_cause, shown_on, preview}
 use Rattle.engine.specs.Showing.{Displayed, displayed_by, displayed_over, Stepping}
@@ -67,8 +67,8 @@ module _ (P : Posed) (v : List ℤ) (B : Buffers) where
   by_cases Passed true true k u = refl
   by_cases Passed true false k u = refl
 
-  pub preview_ground : preview P v B ≡ by_ground (λ why t. unshown why t B) x (ground (with_limit 1 P) v (lent_beside (n P) v B) B.tableau)
-  unfolding preview ground
+  pub preview_ground : preview P v B ≡ by_ground (λ why t. unshown why t B) x (laid_ground (with_limit 1 P) v (lent_beside (n P) v B) B.tableau)
+  unfolding preview laid_ground
   preview_ground = by_cases (first_cause (with_limit 1 P) (lent_beside (n P) v B)) (stands P v) (formed P).over (rounds_of P) (flat (formed P).table)
 
   module _ {u : List ℤ} (c : Clear (with_limit 1 P) v (lent_beside (n P) v B) B.tableau u) where

@@ -1,6 +1,6 @@
 -- What Continue and the preview do before the one settles a list and the other looks at its next step.
 --   Grounded           what is found, the rounds of the tableau, 0 with a refusal, and what the tableau then holds; `grounded` makes one of the three
---   ground P v L t     of the list v, with the lengths L of the lent buffers and with t in the tableau: the first refusal that holds, of 1 to 6,
+--   laid_ground P v L t     of the list v, with the lengths L of the lent buffers and with t in the tableau: the first refusal that holds, of 1 to 6,
 --                      then 10, then 7, or none; ground_fit, past the checks; on_first, by what they find
 --   Groundable ..      what it needs: buffers of those lengths, and a table with room for all columns
 --   Packs c P l        where nothing is refused, the list l begins with the columns of P, packed
@@ -35,8 +35,8 @@ ground_fit P v t =
     (grounded Passed (rounds_of P) (flat (formed P).table)))
     (grounded (Failed Standing) 0 t)
 
-unfoldable pub ground : Posed → List ℤ → Lent → List ℤ → Grounded
-ground P v L t = on_first (first_cause P L) t (ground_fit P v t)
+unfoldable pub laid_ground : Posed → List ℤ → Lent → List ℤ → Grounded
+laid_ground P v L t = on_first (first_cause P L) t (ground_fit P v t)
 
 pub record Groundable (P : Posed) (v : List ℤ) (L : Lent) (t c : List ℤ) : Type 0 where
   pub tableau : length t ≡ L.tableau

@@ -2,7 +2,7 @@
 ghost use Rattle.std.specs.Prelude.{◌≡◌};
 ghost use Rattle.problem.specs.declared.Check.TheVariants.{Failed};
 ghost use Rattle.engine.specs.Assign.{posed_by};
-ghost use Rattle.engine.specs.Ground.{grounded, ground, Groundable, Packs};
+ghost use Rattle.engine.specs.Ground.{grounded, laid_ground, Groundable, Packs};
 
 use crate::standing::stands;
 use problem::checks::first_cause;
@@ -45,7 +45,7 @@ pub(crate) fn lay_ground(
     requires { Groundable (posed_by p coefficients.now rights.now lower.now upper.now low.now high.now given.now ideals.now)
         list.now lent tableau.old columns.old }
     ensures { (grounded result.check result.rounds tableau.new
-        ≡ ground
+        ≡ laid_ground
         (posed_by p coefficients.now rights.now lower.now upper.now
         low.now high.now given.now ideals.now)
         list.now lent tableau.old)

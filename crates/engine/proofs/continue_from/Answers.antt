@@ -12,7 +12,7 @@ use Rattle.problem.specs.declared.Check.TheVariants.{Passed}
 use Rattle.settling.specs.Columns.{Columns, columns_in}
 use Rattle.engine.specs.Assign.{Buffers, posed_by, buffers, lent_of, rounds_of, refused}
 use Rattle.engine.specs.Finish.{Finished, settled_over}
-use Rattle.engine.specs.Ground.{grounded, ground}
+use Rattle.engine.specs.Ground.{grounded, laid_ground}
 use Rattle.engine.specs.declared.Reply.{Reply}
 use Rattle.engine.proofs.Readiness.{cells, table, table_columns, table_fills}
 use Rattle.engine.proofs.Assigning.{done_by, done_with, continue_passed, continue_settled}
@@ -49,7 +49,7 @@ module _ (w : In_default) where
 
   is_ground :
       grounded Passed over.lay_ground-ground.result.rounds (tableau over)
-      ≡ ground (P at) at.args.values.now (lent_of (B at)) at.args.tableau.now
+      ≡ laid_ground (P at) at.args.values.now (lent_of (B at)) at.args.tableau.now
   is_ground =
       ap (λ (r : Check). grounded r over.lay_ground-ground.result.rounds (tableau over)) (sym w.in_default.is) ∙ over.lay_ground-ground.ensures.0
 

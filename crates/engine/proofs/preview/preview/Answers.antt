@@ -12,7 +12,7 @@ use Rattle.problem.specs.declared.Check.TheVariants.{Passed}
 use Rattle.problem.specs.declared.Lent.{Lent}
 use Rattle.settling.specs.Columns.{Columns, columns_in}
 use Rattle.engine.specs.Assign.{Buffers, posed_by, buffers, n, rounds_of}
-use Rattle.engine.specs.Ground.{grounded, ground}
+use Rattle.engine.specs.Ground.{grounded, laid_ground}
 use Rattle.engine.specs.Preview.{with_limit, lent_beside, unshown}
 use Rattle.engine.specs.Showing.{Displayed, displayed_over}
 use Rattle.engine.proofs.Readiness.{cells, table, table_columns, table_fills}
@@ -44,10 +44,10 @@ module _ (g : After-lay_ground-ground) where
   cells_left = g.lay_ground-ground.new.columns
 
   is_ground :
-      grounded_by g.lay_ground-ground.result tableau ≡ ground (with_limit 1 (P under)) under.args.standing.now (L under) under.args.tableau.now
+      grounded_by g.lay_ground-ground.result tableau ≡ laid_ground (with_limit 1 (P under)) under.args.standing.now (L under) under.args.tableau.now
   is_ground =
       g.lay_ground-ground.ensures.0
-      ∙ ap (λ (k : ℕ). ground (with_limit 1 (P under)) under.args.standing.now
+      ∙ ap (λ (k : ℕ). laid_ground (with_limit 1 (P under)) under.args.standing.now
       (record { tableau = length under.args.tableau.now; values = k; strides = length under.args.strides.now }) under.args.tableau.now)
       g.list_length.ensures
 
@@ -61,7 +61,7 @@ module _ (w : In_default) where
 
   is_clear :
       grounded Passed over.lay_ground-ground.result.rounds (tableau over)
-      ≡ ground (with_limit 1 (P at)) at.args.standing.now (L at) at.args.tableau.now
+      ≡ laid_ground (with_limit 1 (P at)) at.args.standing.now (L at) at.args.tableau.now
   is_clear = ap (λ (r : Check). grounded r over.lay_ground-ground.result.rounds (tableau over)) (sym w.in_default.is) ∙ is_ground over
 
   found : Clear (with_limit 1 (P at)) at.args.standing.now (L at) at.args.tableau.now (tableau over)
