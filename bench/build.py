@@ -54,8 +54,8 @@ def build_proved():
     """The proved engine and the listing program. What is proved already is not proved again."""
     if shutil.which("rt"):
         say("proving and compiling the engine (minutes where nothing was proved before)")
-        run(["rt", "staticlib", "koralimbu"])
-        run(["rt", "check", "listing"])
+        run([os.path.join(ROOT, "tools", "archive")])
+        run([os.path.join(ROOT, "tools", "program")])
     elif os.path.exists(ARCHIVE):
         say("no rt: the archive and the listing program are taken as they lie in target/")
     else:

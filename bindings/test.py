@@ -179,8 +179,8 @@ def library():
     # The gate builds the library once and says so.
     wanted = not os.environ.get("LIBRARY_BUILT")
     if wanted and shutil.which("rt"):
-        done = run(["rt", "staticlib", "koralimbu"])
-        return done.returncode == 0 or ran("rt staticlib koralimbu", done)
+        done = run(["tools/archive"])
+        return done.returncode == 0 or ran("tools/archive", done)
     if not os.path.exists(os.path.join(ROOT, ARCHIVE)):
         return count("no %s, which the Rattle kit's command rt builds, and no rt: everything" % ARCHIVE if wanted
                      else "no %s: everything" % ARCHIVE, False)

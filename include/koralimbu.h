@@ -1,5 +1,5 @@
 /* Koralimbu: deck texts, joins of two problems, whole assignments, Continue and its preview on lent buffers. The functions lie in
- * libkoralimbu.a (`rt staticlib koralimbu`), which is proved.
+ * libkoralimbu.a (`tools/archive` builds it), which is proved.
  *
  * Buffers. Each is a pointer and then its count of numbers. A pointer may be null where its count is 0. A buffer that is written
  * overlaps no other.

@@ -3,7 +3,7 @@
     python3 model/against_definitions.py [PROBLEMS TEXTS SEED RUNS PREVIEWS IDEALS JOINS]
 
 The definitions of crates/*/specs compute. This writes a crate of one equation
-for each case below target/against, with the model's answer on its right side,
+for each case in a folder of its own, with the model's answer on its right side,
 and has the checker compute the left sides: whole assignments and Continue with
 the rounds (document 02, (vii)) and every lent buffer afterwards, texts with the listing's
 bytes, the runs of both calls with what falls at a step (document 02, (xiii)), previews with
@@ -22,6 +22,7 @@ import os
 import re
 import shutil
 import subprocess
+import tempfile
 from fractions import Fraction
 
 import needs
@@ -35,8 +36,6 @@ from listing import blank_lent, listing, problem_of
 from needs import ROOT
 from pairs import TEXT_KINDS, share_curves, text_kinds
 from text import read
-
-SCRATCH = os.path.join(ROOT, "target", "against")
 
 MOST_NUMBERS = 60
 MOST_STATED = 150
@@ -203,7 +202,7 @@ def run_equation(rng):
         name = "distances" if part == runs.BOUNDS else "ratios"
         fallen.append(("sorted below (%s (columns %s) %s)"
                        % (name, posed(problem), integers(values)), measured(pairs)))
-    return ("(%sRun %s %s ≡ %s) × (%s ≡ %s) × (%s ≡ %s)"
+    return ("(%s_run %s %s ≡ %s) × (%s ≡ %s) × (%s ≡ %s)"
             % (case.call, posed(problem), before, listed(map(integers, lists)),
                *fallen[0], *fallen[1]))
 
@@ -239,9 +238,9 @@ def ideals_equation(rng):
     n, m = deck.n, deck.m
     lists = [deck.coefficients[:m * n], deck.lower[:n], deck.upper[:n], deck.low[:n],
              deck.high[:n]]
-    stated = ("(statedBy %d %d %d %s)"
+    stated = ("(stated_by %d %d %d %s)"
               % (n, m, deck.intervals, " ".join(map(integers, lists))))
-    return ("(givenOf %s %d ≡ %s) × (idealsOf %s %d ≡ %s)"
+    return ("(given_of %s %d ≡ %s) × (ideals_of %s %d ≡ %s)"
             % (stated, n, integers(deck.given[:n]), stated, n, integers(deck.ideals[:n])))
 
 
@@ -353,69 +352,68 @@ def shut_definitions(names):
             text = open(os.path.join(folder, file), encoding="utf-8").read()
             shut = re.findall(r"^ *unfoldable pub (\S+) ", text, re.M)
             if shut:
-                modules["Rattle·%s.specs.%s" % (name, file[:-5])] = shut
+                modules["Rattle.%s.specs.%s" % (name, file[:-5])] = shut
     return modules
 
 
-HEAD = """use mathlib.Core.Path.{_≡_, refl}
-use mathlib.Core.List.{List, [], _∷_}
+HEAD = """use mathlib.Core.Path.{◌≡◌, refl}
+use mathlib.Core.List.{List, [], ◌∷◌}
 use Prim.Native.Nat.{ℕ}
 use lib.IntN.{ℤ, pos, negsuc}
-use Rattle·problem.specs.Checks.{Posed}
-use Rattle·problem.specs.declared.Counts.{Counts}
-use Rattle·problem.specs.declared.Refusal.the-variants.{%s}
-use Rattle·problem.specs.declared.Answer.the-variants.{Fitted, Outside, Spent, Refused}
-use Rattle·settling.specs.Measures.{fraction, below}
-use Rattle·settling.specs.declared.Move.{Move}
-use Rattle·settling.specs.declared.Part.the-variants.{Bounds, Goals}
-use Rattle·engine.specs.Assign.{Buffers, Done, columns, assign, continue}
-use Rattle·engine.specs.Preview.{Shown, preview}
-use Rattle·engine.specs.declared.preview.Seen.the-variants.{Refused as Unseen, Rest, Next}
-use Rattle·pairing.specs.declared.Sizes.{Sizes}
-use Rattle·pairing.specs.Parts.{Part, lists}
-use Rattle·joining.specs.Join.{left, join}
-use Rattle·joining.specs.declared.Joining.the-variants.{Refused as Unjoined, Made}
-use Rattle·runs.specs.Sorted.{sorted}
-use Rattle·runs.specs.Runs.{distances, ratios}
-use Rattle·runs.specs.CallRuns.{assignRun, continueRun}
-use Rattle·neighbours.specs.Neighbours.{statedBy, givenOf, idealsOf}
-use Rattle·solve.specs.Program.{printed}
+use Rattle.problem.specs.Checks.{Posed}
+use Rattle.problem.specs.declared.Counts.{Counts}
+use Rattle.problem.specs.declared.Refusal.TheVariants.{%s}
+use Rattle.problem.specs.declared.Answer.TheVariants.{Fitted, Outside, Spent, Refused}
+use Rattle.settling.specs.Measures.{fraction, below}
+use Rattle.settling.specs.declared.Move.{Move}
+use Rattle.settling.specs.declared.Part.TheVariants.{Bounds, Goals}
+use Rattle.engine.specs.Assign.{Buffers, Done, columns, assign, continue}
+use Rattle.engine.specs.Preview.{Shown, preview}
+use Rattle.engine.specs.declared.preview.Seen.TheVariants.{Refused as Unseen, Rest, Next}
+use Rattle.pairing.specs.declared.Sizes.{Sizes}
+use Rattle.pairing.specs.Parts.{Part, lists}
+use Rattle.joining.specs.Join.{left, join}
+use Rattle.joining.specs.declared.Joining.TheVariants.{Refused as Unjoined, Made}
+use Rattle.runs.specs.Sorted.{sorted}
+use Rattle.runs.specs.Runs.{distances, ratios}
+use Rattle.runs.specs.CallRuns.{assign_run, continue_run}
+use Rattle.neighbours.specs.Neighbours.{stated_by, given_of, ideals_of}
+use Rattle.solve.specs.Program.{printed}
 """ % ", ".join(REFUSALS)
 
 
-def write_crate(equations):
+def write_crate(equations, scratch):
+    """The crate of the cases beside copies of the crates that they need, outside this checkout: what a check of the same
+    crates has proved here is not proved again."""
     names = crates()
     want = needed(names)
-    shutil.rmtree(SCRATCH, ignore_errors=True)
-    specs = os.path.join(SCRATCH, "crates", "cases", "specs")
-    os.makedirs(specs)
-    os.makedirs(os.path.join(SCRATCH, "crates", "cases", "src"))
+    cases = os.path.join(scratch, "crates", "cases")
+    proofs = os.path.join(cases, "proofs")
+    os.makedirs(proofs)
+    os.makedirs(os.path.join(cases, "src"))
     for name in want:
-        os.symlink(os.path.join(ROOT, "crates", name), os.path.join(SCRATCH, "crates", name))
-    with open(os.path.join(SCRATCH, "crates.txt"), "w", encoding="utf-8") as out:
+        shutil.copytree(os.path.join(ROOT, "crates", name), os.path.join(scratch, "crates", name),
+                        ignore=shutil.ignore_patterns("out"))
+    with open(os.path.join(scratch, "crates.txt"), "w", encoding="utf-8") as out:
         out.write("".join(line + "\n" for name, line in names if name in want))
         out.write("cases: " + " ".join(want) + "\n")
-    with open(os.path.join(SCRATCH, "crates", "cases", "src", "lib.rt"), "w") as out:
+    with open(os.path.join(cases, "src", "lib.rt"), "w") as out:
         out.write("// Cases.\n")
-    with open(os.path.join(specs, "Lib.antt"), "w") as out:
+    with open(os.path.join(proofs, "Lib.antt"), "w") as out:
         out.write("pub mod Cases\n")
-    # What the repository's own check has proved is not proved again: rt compares its stamps.
-    for part in ("rlib", "stamp", "log"):
-        proved = os.path.join(ROOT, "target", part)
-        if os.path.isdir(proved):
-            shutil.copytree(proved, os.path.join(SCRATCH, "target", part))
     modules = shut_definitions(want)
     uses, opened = "", []
     for number, (module, shut) in enumerate(sorted(modules.items())):
         uses += "use %s as open%d\n" % (module, number)
         opened += ["open%d.%s" % (number, name) for name in shut]
-    with open(os.path.join(specs, "Cases.antt"), "w", encoding="utf-8") as out:
+    with open(os.path.join(proofs, "Cases.antt"), "w", encoding="utf-8") as out:
         out.write(HEAD + uses)
         for number, equation in enumerate(equations, 1):
             proofs = ["refl"] * (1 + equation.count(" × "))
             proof = "(%s)" % ", ".join(proofs) if len(proofs) > 1 else "refl"
             out.write("\ncase%d : %s\nunfolding %s\ncase%d = %s\n"
                       % (number, equation, " ".join(opened), number, proof))
+    return cases
 
 
 def main(arguments):
@@ -427,8 +425,9 @@ def main(arguments):
     equations += some(preview_equation, counts[4], counts[2])
     equations += some(ideals_equation, counts[5], counts[2])
     equations += join_equations(counts[6], counts[2])
-    write_crate(equations)
-    run = subprocess.run([rt, "check", "cases"], cwd=SCRATCH, capture_output=True, text=True)
+    with tempfile.TemporaryDirectory() as scratch:
+        folder = write_crate(equations, scratch)
+        run = subprocess.run([rt, "check"], cwd=folder, capture_output=True, text=True)
     log = run.stdout + run.stderr
     bad = set(re.findall(r"error: `(case\d+)`", log))
     for name in sorted(bad, key=lambda name: int(name[4:])):

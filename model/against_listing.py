@@ -220,9 +220,10 @@ def listed(count, seed):
 
 def main(arguments):
     count, seed = needs.numbers(arguments, [2000, 1], __doc__)
-    if subprocess.run([needs.rt(), "check", "listing"], cwd=ROOT, stdout=subprocess.DEVNULL).returncode != 0:
-        sys.exit("rt check listing failed")
-    needs.built(PROGRAM, "rt check listing")
+    needs.rt()
+    if subprocess.run([os.path.join(ROOT, "tools", "program")], stdout=subprocess.DEVNULL).returncode != 0:
+        sys.exit("tools/program failed")
+    needs.built(PROGRAM, "tools/program")
     passed = failed = 0
     texts = [data for _, data, _ in made(count, seed)]
     met = dict(volumes_met(texts), **kinds_met(texts))

@@ -42,7 +42,7 @@ STATEMENTS = {
     "solve/specs/RoundCases.antt": ["RoundCases"],
     "solve/specs/Program.antt": ["ListedWhole"],
     "solve/specs/Swept.antt": ["VolumesSatisfied"],
-    "runs/specs/CallRuns.antt": ["NoListTwice", "assignRun", "continueRun"],
+    "runs/specs/CallRuns.antt": ["NoListTwice", "assign_run", "continue_run"],
     "tableau/specs/Theorems.antt": None,
     "tableau/specs/RoundedDown.antt": ["FormUnchanged", "FoundUnchanged", "SolveUnchanged"],
 }
@@ -74,7 +74,7 @@ def imports(lines):
 
 def file_of(module):
     """The file of specs/ that a module is."""
-    m = re.match(r"Rattle·(\w+)(?:·specs\.specs|\.specs)\.([\w.]+)$", module)
+    m = re.match(r"Rattle\.(\w+)\.specs\.([\w.]+)$", module)
     return f"{m.group(1)}/specs/{m.group(2).replace('.', '/')}.antt" if m else None
 
 

@@ -1,6 +1,6 @@
 """The proved library as C calls it: what the comparisons with the plain model share.
 
-To import: load() proves, builds and loads the crate koralimbu, declare() types one of its
+To import: load() proves, builds and loads the library, declare() types one of its
 functions, Buffer is a list of numbers as C holds it, call() makes a call and tells
 what every buffer then holds, call_with() does where numbers stand between the buffers, Tally
 counts the calls that agree with the model.
@@ -43,8 +43,9 @@ def load(what):
         return None
     # The gate builds the library once and says so.
     if not os.environ.get("LIBRARY_BUILT"):
-        run(needs.rt(), "staticlib", "koralimbu")
-    needs.built(ARCHIVE, "rt staticlib koralimbu")
+        needs.rt()
+        run(os.path.join(ROOT, "tools", "archive"))
+    needs.built(ARCHIVE, "tools/archive")
     os.makedirs(os.path.dirname(SHARED), exist_ok=True)
     run(compiler, "-shared", "-o", SHARED, "-Wl,--whole-archive", ARCHIVE,
         "-Wl,--no-whole-archive")

@@ -257,12 +257,13 @@ def unwritable(program, deck):
 
 
 def without_reader(program, deck):
-    """Python ignores the signal of a pipe without a reader, and so may a run: then this is told of. Otherwise it ends the run."""
+    """The library of the language holds back the signal of a pipe without a reader: this is told of."""
     reading, writing = os.pipe()
     os.close(reading)
     yield ("nobody reads standard output", run_on(deck, program, stdout=writing, restore_signals=False),
            (0, b"", line(b"output", errno.EPIPE)))
-    yield "nobody reads, and the signal is not ignored", run_on(deck, program, stdout=writing), (-signal.SIGPIPE, b"", b"")
+    yield ("nobody reads, and the signal was not ignored before", run_on(deck, program, stdout=writing),
+           (0, b"", line(b"output", errno.EPIPE)))
     os.close(writing)
 
 

@@ -1,4 +1,4 @@
-//! Finds libkoralimbu.a: in KORALIMBU_LIB_DIR, or where `rt staticlib koralimbu` leaves it in this checkout.
+//! Finds libkoralimbu.a: in KORALIMBU_LIB_DIR, or where `tools/archive` leaves it in this checkout.
 
 use std::env;
 use std::path::{Path, PathBuf};
@@ -13,7 +13,7 @@ fn main() {
     println!("cargo:rerun-if-changed={}", archive.display());
     if !archive.is_file() {
         eprintln!(
-            "no {}: run `rt staticlib koralimbu` at the top of the checkout, or set KORALIMBU_LIB_DIR",
+            "no {}: run `tools/archive` at the top of the checkout, or set KORALIMBU_LIB_DIR",
             archive.display()
         );
         std::process::exit(1);
