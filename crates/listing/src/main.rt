@@ -1,7 +1,7 @@
 #![tactic(auto)]
 
 // The listing program: a text from standard input, its listing to standard output. What goes wrong with either is told on standard error.
-ghost use Rattle.std.specs.Prelude.{◌≡◌, ◌+◌, ◌≤◌, length, IfOk};
+ghost use Rattle.std.specs.Prelude.{◌≡◌, ◌+◌, ◌≤◌, length, take, IfOk};
 ghost use Rattle.report.specs.Listing.{listing_done};
 ghost use Rattle.report.specs.declared.Written.TheVariants.{Bytes};
 ghost use Rattle.solve.specs.Program.{print_into, listing_room};
@@ -26,7 +26,7 @@ fn read_on(input: Stdin, text: &mut [u8], done: usize) -> io::Result<usize>
 
 // Reads until the buffer is full, the text ends or a read fails, and then it is not the whole text. A pipe may hand the text over in parts.
 fn read_text(input: Stdin, text: &mut [u8]) -> io::Result<usize>
-    ensures { IfOk result (λ count. count ≤ length text.new) }
+    ensures { IfOk result (λ count. (count ≤ length text.new) × (count ≡ length (take count text.new))) }
 {
     let mut done = 0;
     while done < text.len() {
