@@ -388,9 +388,8 @@ def write_crate(equations, scratch):
     names = crates()
     want = needed(names)
     cases = os.path.join(scratch, "crates", "cases")
-    proofs = os.path.join(cases, "proofs")
-    os.makedirs(proofs)
-    os.makedirs(os.path.join(cases, "src"))
+    for part in ("src", "proofs"):
+        os.makedirs(os.path.join(cases, part))
     for name in want:
         shutil.copytree(os.path.join(ROOT, "crates", name), os.path.join(scratch, "crates", name),
                         ignore=shutil.ignore_patterns("out"))
@@ -399,14 +398,14 @@ def write_crate(equations, scratch):
         out.write("cases: " + " ".join(want) + "\n")
     with open(os.path.join(cases, "src", "lib.rt"), "w") as out:
         out.write("// Cases.\n")
-    with open(os.path.join(proofs, "Lib.antt"), "w") as out:
+    with open(os.path.join(cases, "proofs", "Lib.antt"), "w") as out:
         out.write("pub mod Cases\n")
     modules = shut_definitions(want)
     uses, opened = "", []
     for number, (module, shut) in enumerate(sorted(modules.items())):
         uses += "use %s as open%d\n" % (module, number)
         opened += ["open%d.%s" % (number, name) for name in shut]
-    with open(os.path.join(proofs, "Cases.antt"), "w", encoding="utf-8") as out:
+    with open(os.path.join(cases, "proofs", "Cases.antt"), "w", encoding="utf-8") as out:
         out.write(HEAD + uses)
         for number, equation in enumerate(equations, 1):
             proofs = ["refl"] * (1 + equation.count(" × "))

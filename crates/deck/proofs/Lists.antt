@@ -55,7 +55,8 @@ module _ (n : ℕ) (t : List ℤ) where
   unfolding compacted
   compacted_end i = refl
 
-pub compacted_is : (n c i : ℕ) (ls : List Line) (t z : List ℤ) → n ≤ deck_columns → drop (i * deck_columns) t ≡ coefficient_rows deck_columns c ls ++ z
+pub compacted_is : (n c i : ℕ) (ls : List Line) (t z : List ℤ) → n ≤ deck_columns
+    → drop (i * deck_columns) t ≡ coefficient_rows deck_columns c ls ++ z
     → compacted n (length ls) i t ≡ coefficient_rows n c ls
 unfolding compacted coefficient_rows
 compacted_is n c i [] t z h e = refl

@@ -104,7 +104,8 @@ module _ (z : List Token) where
 
   deck_carries : (f g : List Interval → List Line → Rule Deck)
       → ((is : List Interval) (ls : List Line) → Carries (λ ts. ts ++ z) (f is ls) (g is ls) (λ d ts. []))
-      → Carries (λ ts. goals_twice (ts ++ z)) (λ s at. then (one_goal_section s at) (λ is p. then (row_section s (length is) p) (λ ls q. f is ls s q)))
+      → Carries (λ ts. goals_twice (ts ++ z))
+      (λ s at. then (one_goal_section s at) (λ is p. then (row_section s (length is) p) (λ ls q. f is ls s q)))
       (λ s at. then (interval_section s at) (λ is p. then (row_section s (length is) p) (λ ls q. g is ls s q))) (λ d ts. [])
   deck_carries f g x = then_carries section_carries (λ is _. then_carries (row_section_extends z (length is)) (λ ls _. x is ls))
 

@@ -1,18 +1,18 @@
 -- A whole text: what its sections left in the tables is the deck that they state, and what the call then leaves.
---   IntervalsFound, intervals_found, -refused   what the section of intervals answered; few-intervals, which are not too many
---   RowsFound, rows_found, -refused             what the section of rows answered; few-lines, which are not too many
---   VolumesFound, volumes_found, -refused       what the section of volumes answered
---   left_some, left_none                        what is left of the text
---   made                                        a deck of its sections; deck-read, by its section of volumes, where the others are read
---   deck_intervals, -rows, -volumes, left-over  a deck whose sections are refused, or that something is left behind
---   Parts, deck_parts                           the sections of a deck that is read; in-limits: its text is not too long; deck-within: its intervals
---                                               lie within the limits
---   stored                                      a deck that is read, in the tables
---   read_short, -long, -is, -not                the call by what it meets
---   Largest, sizes                              the lengths that fit
---   Holds, holds                                lent lists that an accepted text's tables went out into
---   sized, small                                what handing in ideals asks of them
---   accepting                                   an accepted text, with its ideals
+--   IntervalsFound, intervals_found, -refused    what the section of intervals answered; few-intervals, which are not too many
+--   RowsFound, rows_found, -refused              what the section of rows answered; few-lines, which are not too many
+--   VolumesFound, volumes_found, -refused        what the section of volumes answered
+--   left_some, left_none                         what is left of the text
+--   made                                         a deck of its sections; deck-read, by its section of volumes, where the others are read
+--   deck_intervals, -rows, -volumes, left-over   a deck whose sections are refused, or that something is left behind
+--   Parts, deck_parts                            the sections of a deck that is read; in-limits: its text is not too long; deck-within: its intervals
+--                                                lie within the limits
+--   stored                                       a deck that is read, in the tables
+--   read_short, -long, -is, -not                 the call by what it meets
+--   Largest, sizes                               the lengths that fit
+--   Holds, holds                                 lent lists that an accepted text's tables went out into
+--   sized, small                                 what handing in ideals asks of them
+--   accepting                                    an accepted text, with its ideals
 -- Assumes nothing.
 use mathlib.Core.Path.{◌≡◌, refl, sym, ap, ◌∙◌, subst}
 use mathlib.Core.Bool.{Bool, true, false, cond}
@@ -283,7 +283,8 @@ module _ (s : List ℕ) (p q : Cursor) (k k' b t : List ℤ) (i : IntervalsFound
     pub left_over : none_left (next_at s c.at) ≡ false → deck s ≡ no Layout
     left_over h = read_whole ∙ closed_not whole c.at (next_at s c.at) h
 
-    pub stored : length k ≡ column_cells → length k' ≡ column_cells → length b ≡ deck_rows → length t ≡ coefficient_count → length t' ≡ coefficient_count
+    pub stored : length k ≡ column_cells → length k' ≡ column_cells → length b ≡ deck_rows → length t ≡ coefficient_count
+        → length t' ≡ coefficient_count
         → none_left (next_at s c.at) ≡ true → DeckStored (deck s) c k' b t'
     stored hk hk' hb ht ht' h =
         let ys : List Interval = slack_columns w.ls in

@@ -1,11 +1,11 @@
 -- Texts from before document 02 changed them. (iii): "Older texts gain a closing 0." (v): "an interval's line in the text has four numbers", and
 -- "Older cases have both equal."
 --   one_goal_interval, -Intervals, -Section   an interval by its line as it was, so many of them, and their section
---   older_deck s       the deck of a text as it was before (iii): two sections, and nothing behind them
---   one_goal_deck s     the deck of a text as it was before (v): three sections, and nothing behind them
+--   older_deck s      the deck of a text as it was before (iii): two sections, and nothing behind them
+--   one_goal_deck s   the deck of a text as it was before (v): three sections, and nothing behind them
 --   GainsZero s w     the text w has the numbers of the text s and then a 0, however they are parted
---   twice_from k ts    the tokens ts, which begin with k lines, with the goal of each line written twice
---   goals_twice ts     the tokens ts of a text, with each goal written twice
+--   twice_from k ts   the tokens ts, which begin with k lines, with the goal of each line written twice
+--   goals_twice ts    the tokens ts of a text, with each goal written twice
 --   GoalsTwice s w    the text w has the numbers of the text s, each goal written twice, however they are parted
 --   IsRead w d        the text w is read as the deck d
 --   OneGoalTexts      so it is for every text that was read before (v) and has each goal written twice, as long as it is not too long; in its problem

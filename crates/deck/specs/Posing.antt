@@ -1,9 +1,9 @@
 -- Document 01, "Continue, text, listing": the problem that a text states, with the ideals of document 02, (ii), and the volumes of (iii).
 --   Deck            the intervals, the lines and the volumes of a text
 --   deck s          the deck of a text's sections, one after the other, and nothing behind them
---   read_deck s      the deck that the text s states, or the refusal of its first place that breaks a rule
---   all_lines d      the rows: the lines, and "after all rows so far" those that the volumes add
---   columns_of d     the columns: the intervals, then the y of each row that has one; count_of d, how many
+--   read_deck s     the deck that the text s states, or the refusal of its first place that breaks a rule
+--   all_lines d     the rows: the lines, and "after all rows so far" those that the volumes add
+--   columns_of d    the columns: the intervals, then the y of each row that has one; count_of d, how many
 --   coefficients_of, lowers, uppers, lows, highs d   the lists that the deck states, of just the lengths that n and m need
 --   stated d        what it states of its rows and columns
 --   posed limit d   the problem: these lists, and "the reader gives such an interval an ideal"

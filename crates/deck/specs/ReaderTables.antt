@@ -1,5 +1,5 @@
 -- What the reader's functions answer and leave.
---   none_left n        no token is next
+--   none_left n       no token is next
 --   DeckRead          what a whole text was, as an outcome, with what it left in the reader's tables where it was not refused: DeckStored
 --   compacted n k i t the first n of each row of the table t, for k rows from row i on
 --   picked f k t      the number at place f of each column, for the first k columns of the table t

@@ -1,11 +1,11 @@
 -- What a whole assignment and a Continue come to, by what the tableau answers.
 --   done_by r t ..   what a call with the reply r has done; done_with k t x, a finished assignment with t in the tableau, of k rounds
---   verdict_reply   with a verdict the rounds are returned
---   within_sized    within the limits, the matrix and the right sides have the sizes that n and m need
---   found_basis     the basis found is that of the form
+--   verdict_reply    with a verdict the rounds are returned
+--   within_sized     within the limits, the matrix and the right sides have the sizes that n and m need
+--   found_basis      the basis found is that of the form
 --   solved_form, solved_kept   the form that the right side goes through, and that it is not past the limit where the whole is not
 --   assign_over, -none, -found   a whole assignment past the limit, without whole numbers, and from a starting list on
---   finishable      what is found can be finished
+--   finishable       what is found can be finished
 --   assign_failed, -passed, continue_passed   by what the checks find
 --   continue_settled   a Continue over the form
 -- Assumes nothing.

@@ -1,5 +1,5 @@
 -- The rows of the tableau that are the basis, in the list in which they lie.
---   basis_view_lem       the vectors of the view are the basis
+--   basis_view_lem   the vectors of the view are the basis
 --   basis_in         so they are in a parted list of the tableau's length
 -- Assumes nothing.
 use mathlib.Core.Path.{◌≡◌, refl, sym, ◌∙◌, ap, ap₂}

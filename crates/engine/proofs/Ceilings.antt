@@ -1,5 +1,5 @@
 -- The rounds that a call returns.
---   is_shown x         a preview is not refused
+--   is_shown x        a preview is not refused
 --   Counted P L t k   of a call that has returned k rounds, t saying that it is not refused: 0 with a refusal, and else those of the tableau, the
 --                     checks with the lengths L having passed and the form not being past the limit
 --   assign_counted, continue_counted, preview_counted   so it is of each call

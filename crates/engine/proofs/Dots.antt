@@ -86,7 +86,8 @@ pub small_back : (z : ℤ) → nat_abs z ≤ M → to_z w64 (of_z w64 z) ≡ z
 small_back z h = to_z-of_z (sfits_abs z (omega (arith, h)))
 
 -- ---- a row of the coefficients
-sum_small : (a v : List ℤ) → ((i : ℕ) → nat_abs (entry i a) ≤ max_coefficient) → ((i : ℕ) → nat_abs (entry i v) ≤ M) → nat_abs (dot a v) ≤ length a * step
+sum_small : (a v : List ℤ) → ((i : ℕ) → nat_abs (entry i a) ≤ max_coefficient) → ((i : ℕ) → nat_abs (entry i v) ≤ M)
+    → nat_abs (dot a v) ≤ length a * step
 unfolding dot
 sum_small [] v f g = omega arith
 sum_small (y ∷ a) [] f g = omega arith

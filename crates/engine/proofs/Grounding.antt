@@ -1,11 +1,11 @@
 -- What Continue and the preview start from, by what is found.
---   grounded_by r t      the reply r to the ground, with t in the tableau
+--   grounded_by r t       the reply r to the ground, with t in the tableau
 --   by_check, by_ground   what f makes of a refusal and the tableau left, or a where nothing is refused
 --   ground_failed, -off, -over, -clear   what is found: by the checks, of a list that does not stand, past the limit, and with nothing refused
---   Clear P v L t u     nothing is refused, and u is the form's table; clear, where that is found
+--   Clear P v L t u       nothing is refused, and u is the form's table; clear, where that is found
 --   clear_rounds, -passes, -fits, -laid, -placed   what that gives
---   unpacked            with a refusal nothing is said of the table of columns
---   continue_ground     a Continue is made of what is found
+--   unpacked              with a refusal nothing is said of the table of columns
+--   continue_ground       a Continue is made of what is found
 -- Assumes nothing.
 use mathlib.Core.Path.{◌≡◌, refl, sym, ◌∙◌, ap, subst}
 use mathlib.Core.Bool.{Bool, true, false, not, cond}

@@ -1,6 +1,6 @@
 -- A list that stands, in the terms of the problem.
---   stands_in_lem      the test on the buffers is that of the definition
---   standable      what the checks leave of the lists
+--   stands_in_lem   the test on the buffers is that of the definition
+--   standable       what the checks leave of the lists
 -- Assumes nothing.
 use mathlib.Core.Path.{◌≡◌, sym, ◌∙◌, ap}
 use mathlib.Core.Bool.{Bool, not, ◌&&◌}

@@ -98,6 +98,7 @@ pub assign_leaves : (P : Posed) (B : Buffers) → is_verdict (assign P B).answer
 unfolding assign
 assign_leaves P B = go (first_cause P (lent_of B)) refl
   where
-    go : (c : Check) → first_cause P (lent_of B) ≡ c → is_verdict (on_check c B (assign_fit P B)).answer ≡ true → Leaves P (on_check c B (assign_fit P B))
+    go : (c : Check) → first_cause P (lent_of B) ≡ c → is_verdict (on_check c B (assign_fit P B)).answer ≡ true
+        → Leaves P (on_check c B (assign_fit P B))
     go Passed h v = fit_leaves P B h v
     go (Failed why) h v = untrue v

@@ -1,7 +1,7 @@
 -- Demand 2: "Intervals returned satisfy every row".
---   describes_keeps                       a multiple of a basis vector added to a list of the set leaves one of the set
---   stands_satisfies                      a list that stands satisfies the rows
---   assign_satisfies, continue_satisfies  with a verdict the values left satisfy the rows, of every problem and all lent buffers
+--   describes_keeps                        a multiple of a basis vector added to a list of the set leaves one of the set
+--   stands_satisfies                       a list that stands satisfies the rows
+--   assign_satisfies, continue_satisfies   with a verdict the values left satisfy the rows, of every problem and all lent buffers
 -- Assumes nothing.
 use mathlib.Core.Path.{◌≡◌, refl, sym, ◌∙◌, subst}
 use mathlib.Core.Bool.{Bool, true, false, not, cond, true≢false}

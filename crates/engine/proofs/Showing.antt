@@ -1,9 +1,9 @@
 -- The preview, by what is found before it.
---   both_long         where the length that stands for both lists is n, both have n numbers
---   stepping          the next step of a ready list can be taken
+--   both_long          where the length that stands for both lists is n, both have n numbers
+--   stepping           the next step of a ready list can be taken
 --   shown_with k t x   what is displayed, with t in the tableau, of k rounds
---   preview_ground    a preview is made of what is found
---   preview_shown     where nothing is refused it is what is displayed over the basis in the tableau
+--   preview_ground     a preview is made of what is found
+--   preview_shown      where nothing is refused it is what is displayed over the basis in the tableau
 -- Assumes nothing.
 use mathlib.Core.Path.{◌≡◌, refl, sym, ◌∙◌, ap}
 use mathlib.Core.Bool.{Bool, true, false, cond}

@@ -1,5 +1,5 @@
 -- The sizes of a tableau.
---   max_tableau         the numbers of the largest one
+--   max_tableau        the numbers of the largest one
 --   product_small      a row's place in a tableau is a small number
 -- Assumes nothing.
 use Prim.Native.Nat.{ℕ, ◌+◌, ◌*◌, ◌≤◌}

@@ -6,7 +6,7 @@
 --   n, m, matrix, columns P   the problem's parts; lent_of B, the lengths of the buffers
 --   refused ..       "number, counts 0", and "A refusal returns 0 rounds", with the lists as before; over_limit, refusal 7
 --   settled, settle_on   a verdict
---   rounds_of P       the rounds of the tableau
+--   rounds_of P      the rounds of the tableau
 --   solved, formed   the tableau with the right side, and without it; stands P v, the list v satisfies the rows, within ±M
 --   assign_fit, continue_fit   past the checks; on_check, on_found, on_seated by what is found before
 --   assign P B       "A whole assignment is the tableau, the right side, seating and settling."

@@ -3,7 +3,7 @@
 --   Place            how the basis lies there, and where its first number stands, which is the tableau's end where there is no vector (declared in
 --                    src/); place_behind n m h, behind h rows that lead in the first m columns; place_of p t, of the basis in the list t
 --   basis_view, basis_start p h   both of a problem
---   table_of p t      the rows of a list of the tableau's length; basis_of p t, the basis among them
+--   table_of p t     the rows of a list of the tableau's length; basis_of p t, the basis among them
 --   Parted p t       the list has that length, no number beyond ±M, and leads that rise, so that its leading rows stand above the others
 -- Assumes nothing.
 use Rattle.std.specs.Prelude.{◌≡◌, cond, List, ℕ, ◌+◌, ◌*◌, ◌-◌, ◌≤◌, ltb, ℤ, nat_abs, length}

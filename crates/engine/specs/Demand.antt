@@ -1,21 +1,21 @@
 -- Demand 3: "Nobody who restates a requirement can move the intervals", in document 01's words ("The words of demand 3") and, of ideals and strides,
 -- in those of document 02, (ii): "Two restated problems must now have the same ideals too before their verdicts, refusals, counts and intervals
 -- can be compared; their starting lists and bases are compared as before, and their strides where both have a verdict."
---   WithinLimits P B  "A problem is within the limits if none of causes 1 to 6 holds for it and the buffers lent with it."
---   PastLimit P B     "It is past the elimination limit if it meets 7"
---   IsNone P B        "and "none" if it meets 8"
+--   WithinLimits P B   "A problem is within the limits if none of causes 1 to 6 holds for it and the buffers lent with it."
+--   PastLimit P B      "It is past the elimination limit if it meets 7"
+--   IsNone P B         "and "none" if it meets 8"
 --   SatisfiesRows P x "A list satisfies the rows if it has n whole numbers, of any size, in bounds or not, and in each row the coefficients times
---                     these numbers add up to the right side."
---   SameRows P Q      "the same lists of whole numbers satisfy their rows"
---   Starts P s N      s is the starting list of P, and N its basis
---   EqualStarts P Q   "starting lists and bases are equal"
---   SameStart P Q ..  "starting lists and bases are equal, or both are "none""
+--                      these numbers add up to the right side."
+--   SameRows P Q       "the same lists of whole numbers satisfy their rows"
+--   Starts P s N       s is the starting list of P, and N its basis
+--   EqualStarts P Q    "starting lists and bases are equal"
+--   SameStart P Q ..   "starting lists and bases are equal, or both are "none""
 --   handed_in P j      the ideal that is handed in for column j, or that none is
---   SameColumns P Q   "the same bounds, goals and step limit", low and high goals, and "the same ideals too": the same are set, to the same numbers
---   SameOutcome d e   "Of two of them these are equal: the verdict or the refusal's number, and the step counts of both parts; with a verdict also
---                     the n intervals"
---   Restated P Q ..   what the demand says of two such problems
---   Demand3 P Q B C   the demand, as one statement about both problems and what was in their lent buffers. m and the rows may differ
+--   SameColumns P Q    "the same bounds, goals and step limit", low and high goals, and "the same ideals too": the same are set, to the same numbers
+--   SameOutcome d e    "Of two of them these are equal: the verdict or the refusal's number, and the step counts of both parts; with a verdict also
+--                      the n intervals"
+--   Restated P Q ..    what the demand says of two such problems
+--   Demand3 P Q B C    the demand, as one statement about both problems and what was in their lent buffers. m and the rows may differ
 -- The theorem is `demand_3`, in proofs/.
 -- Assumes nothing.
 use Rattle.std.specs.Prelude.{◌≡◌, ◌↔◌, ◌⊎◌, true, List, ℕ, ℤ}

@@ -1,7 +1,7 @@
 -- The end of a whole assignment, from the starting list on, in the terms of the buffers: seating, then settling over the basis in the tableau.
 --   Finished               the answer, and what the interval list and the strides then hold; `finished_with` makes one of the three
---   settled_by k C N v      with the step limit k the list v settled over the basis N, which gives the strides too
---   settled_over p C t v    the same over the basis in the tableau t
+--   settled_by k C N v     with the step limit k the list v settled over the basis N, which gives the strides too
+--   settled_over p C t v   the same over the basis in the tableau t
 --   finished p C t s v d   with the form in t, the starting list s, and v and d in the lists before; `on_seat` by what seating finds
 --   Finishable ..          what it needs, with the columns in the table c
 -- Assumes nothing.

@@ -1,9 +1,10 @@
 -- What Continue and the preview do before the one settles a list and the other looks at its next step.
---   Grounded           what is found, the rounds of the tableau, 0 with a refusal, and what the tableau then holds; `grounded` makes one of the three
---   laid_ground P v L t     of the list v, with the lengths L of the lent buffers and with t in the tableau: the first refusal that holds, of 1 to 6,
---                      then 10, then 7, or none; ground_fit, past the checks; on_first, by what they find
---   Groundable ..      what it needs: buffers of those lengths, and a table with room for all columns
---   Packs c P l        where nothing is refused, the list l begins with the columns of P, packed
+--   Grounded              what is found, the rounds of the tableau, 0 with a refusal, and what the tableau then holds; `grounded` makes one of the
+--                         three
+--   laid_ground P v L t   of the list v, with the lengths L of the lent buffers and with t in the tableau: the first refusal that holds, of 1 to 6,
+--                         then 10, then 7, or none; ground_fit, past the checks; on_first, by what they find
+--   Groundable ..         what it needs: buffers of those lengths, and a table with room for all columns
+--   Packs c P l           where nothing is refused, the list l begins with the columns of P, packed
 -- Assumes nothing.
 use Rattle.std.specs.Prelude.{◌≡◌, cond, List, ℕ, ◌*◌, ℤ, length, take}
 use Rattle.whole.specs.Lists.{zeros}

@@ -4,7 +4,7 @@
 --   one_goals_fit lo gs   document 01's cause 5 holds of no column
 --   one_goal_column ..    a column with one goal, whose wish is document 01's ideal; one_goal_columns P, those of the problem P by its low goals
 --   one_goal_ratio g v    document 01: "Its ratio, for goal g and value v of 1 or more, is the larger of 1000v/g and g/1000v"
---   OneGoalKept         all three are kept
+--   OneGoalKept           all three are kept
 -- The theorem is `one_goal_kept`, in proofs/OneGoal. Document 01's ideal and its cause 5 of one column stand in the room goals.
 -- Assumes nothing.
 use Rattle.std.specs.Prelude.{◌≡◌, Bool, cond, List, ℕ, ◌*◌, ℤ, pos, nat_abs, length}

@@ -1,6 +1,6 @@
 -- Demand 2: what the outcomes of a whole assignment and of a Continue say.
 --   KeepsRows P d         "Intervals returned satisfy every row": with a verdict, those that the call d leaves
---   basis_left P           the basis of the form that a call leaves in the tableau
+--   basis_left P          the basis of the form that a call leaves in the tableau
 --   VerdictMeans P d      "FITTED: all in bounds and no move improves. OUTSIDE: some column out of bounds and no move improves. SPENT: limit reached
 --                         and some move still improves.": of the values that the call d leaves, over that basis
 --   ExactRefusals P B     refusals 7 and 8 of a whole assignment, exactly when

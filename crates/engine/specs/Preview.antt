@@ -1,21 +1,21 @@
 -- Document 02, (i): the next step of a standing list, shown before it is taken.
---   Seen               what is told: a refusal, that no move improves, or a step's part, column and move (declared in src/)
---   Shown              what is told, the rounds of the tableau, and what the tableau, the list after and the strides then hold; `shown` makes one of
---                      the five
+--   Seen                what is told: a refusal, that no move improves, or a step's part, column and move (declared in src/)
+--   Shown               what is told, the rounds of the tableau, and what the tableau, the list after and the strides then hold; `shown` makes one of
+--                       the five
 --   with_limit k P      the problem P with the step limit k for the one held beside it
 --   list_length n a b   of two lists that need n numbers, a length that is n exactly if both are
 --   lent_beside n v B   with it the lengths of the buffers B
---   unshown ..         a refusal, with both lists as before; on_cause, by what the checks find
---   told, after        of a step: what is told of it, and the list after it
+--   unshown ..          a refusal, with both lists as before; on_cause, by what the checks find
+--   told, after         of a step: what is told of it, and the list after it
 --   shown_on P T N v    the next step of the list v over the basis N of the form T
 --   preview_fit P v B   past the checks
---   preview P v B      the preview of the problem P and the standing list v, which is only read; in B the interval list is the list after
+--   preview P v B       the preview of the problem P and the standing list v, which is only read; in B the interval list is the list after
 -- What is promised of it:
---   copied v B         the buffers B with "a copy of the list" v
---   ShowsStep x p      x shows a step of part p
---   Equals x d before  what is shown, x, is what a Continue has done, d; the list after held `before`
+--   copied v B          the buffers B with "a copy of the list" v
+--   ShowsStep x p       x shows a step of part p
+--   Equals x d before   what is shown, x, is what a Continue has done, d; the list after held `before`
 --   EqualsContinue, PreviewContinue   "It equals Continue with limit 1 on a copy of the list, refusals included.", where the list after has n
---                      numbers; PreviewRoom, elsewhere it is turned back with 1 or 2, all as before
+--                       numbers; PreviewRoom, elsewhere it is turned back with 1 or 2, all as before
 --   NamesStep, PreviewStep   what is named is the next step of document 01
 --   AtRest, PreviewRest   what "no move improves" says
 --   LimitUnused, PreviewLimit   a limit held beside the problem plays no part, so that 6 is never given

@@ -1,6 +1,6 @@
 -- What a call returns beside its buffers.
 --   Reply          the answer and the rounds (declared in src/)
---   reply_of a k    that of the answer a over a tableau of k rounds. Document 02, (vii): "A refusal returns 0 rounds."
+--   reply_of a k   that of the answer a over a tableau of k rounds. Document 02, (vii): "A refusal returns 0 rounds."
 -- Assumes nothing.
 use Rattle.std.specs.Prelude.{ℕ}
 use Rattle.problem.specs.declared.Answer.{Answer}

@@ -1,6 +1,6 @@
 -- The preview past the checks, in the terms of the buffers.
 --   Displayed             what is told, and what the list after and the strides then hold; `displayed` makes one of the three
---   displayed_by C N v     the next step of the list v over the basis N, with the strides that it gives
+--   displayed_by C N v    the next step of the list v over the basis N, with the strides that it gives
 --   displayed_over p C t v   the same over the basis in the tableau t
 --   Showable p v d        the list after and the strides have a number for each column
 --   Stepping x B v l      the step x, if it is one, can be taken on the list v over the basis in l

@@ -1,9 +1,9 @@
 -- Refusal 10 in the terms of a call's buffers: a list "beyond ±M or failing a row".
 --   max_sum             no more can a row add up to
---   Summable a v       a row of coefficients within the limits, and as many values within ±M
+--   Summable a v        a row of coefficients within the limits, and as many values within ±M
 --   keeps_row n a b v i   row i of the coefficients a, n to a row, adds up to its right side in b
 --   stands_in p a b v   no value lies beyond ±M, and every row is kept
---   Standable ..       what the checks leave of these lists; RowStandable, where the values lie within ±M too, of row i
+--   Standable ..        what the checks leave of these lists; RowStandable, where the values lie within ±M too, of row i
 -- Assumes nothing.
 use Rattle.std.specs.Prelude.{◌≡◌, Bool, not, ◌&&◌, List, ℕ, ◌*◌, ◌<◌, ◌≤◌, ℤ, nat_abs, ◌-ℤ◌, length, take, drop}
 use Rattle.whole.specs.Lists.{entry}

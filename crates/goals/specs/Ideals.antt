@@ -1,15 +1,15 @@
 -- Document 02, (v): "The ideal uses k, the whole part of (square root of low times high) / 1,000: k + 1 exactly if k(k + 1) × 1,000,000 < low × high,
 -- and 1 for k = 0."
---   raised p k t         t, if t × t × 1,000,000 is at most p; else k
+--   raised p k t          t, if t × t × 1,000,000 is at most p; else k
 --   root_bits b p k       k with those of the b lowest bits, the largest first, that keep k × k × 1,000,000 at most p
 --   whole_root p          "k, the whole part of (square root of low times high) / 1,000", of the product p of the two, by its twenty bits
 --   ideal_from p k        "k + 1 exactly if k(k + 1) × 1,000,000 < low × high, and 1 for k = 0"; else k
 --   goal_ideal low high   the ideal of a low and a high goal, before it is brought into the bounds
 -- What the root by its bits means:
 --   max_product           the most that two goals multiply to
---   IsRoot p k           k × k × 1,000,000 ≤ p < (k + 1) × (k + 1) × 1,000,000
---   RootIs               the whole root is that number, of every product of two goals
---   RootAlone            and no other is
+--   IsRoot p k            k × k × 1,000,000 ≤ p < (k + 1) × (k + 1) × 1,000,000
+--   RootIs                the whole root is that number, of every product of two goals
+--   RootAlone             and no other is
 -- The theorems are `root_is` and `root_alone`, in proofs/Roots.
 -- Assumes nothing.
 use Rattle.std.specs.Prelude.{◌≡◌, cond, ℕ, zero, suc, ◌+◌, ◌*◌, ◌^◌, ◌≤◌, ◌<◌, leb, ltb}

@@ -1,8 +1,8 @@
 -- Document 02, (v): "Older cases have both equal." What document 01 says of one goal, beside what is said of two that are equal.
 --   one_goal_ideal g     document 01's ideal: "k is floor(g/1000); take 1 if k = 0, k + 1 if k(k + 1) × 1,000,000 < g × g, else k"; one_from g k, so
 --   one_goal_fits lo g   document 01's cause 5 does not hold: "goal outside, or goal with lower below 1"
---   IdealKept          a goal written twice keeps its ideal
---   FitKept            and it is refused as 5 where it was
+--   IdealKept            a goal written twice keeps its ideal
+--   FitKept              and it is refused as 5 where it was
 -- The theorems are `ideal_kept` and `fit_kept`, in proofs/OneGoal. Of the ratio there is nothing to show: settling's is document 01's, letter for
 -- letter, where low and high are g.
 -- Assumes nothing.

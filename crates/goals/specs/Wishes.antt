@@ -1,7 +1,7 @@
 -- Document 01, "Seating": the ideal of a column, document 01's own term for the number that seating pulls it to.
 --   into lo hi x        x brought into the bounds lo to hi
 --   Wish                what a column is to come to: a number, or nothing set (declared in src/)
---   wish_of given x      the wish that two numbers stand for, a mark and a number: "unset" is the mark 0, and not a number
+--   wish_of given x     the wish that two numbers stand for, a mark and a number: "unset" is the mark 0, and not a number
 --   wish_mark, wish_number   the two numbers of a wish
 --   column_wish low high w   the wish of a column with these goals, where w is handed in: without a goal w, and else what the goals ask for
 --   wished w x          the wish, or the present value x where none is set

@@ -5,7 +5,7 @@
 --   map_set, map_behind   the numbers of columns with one of them changed, and with one more behind
 --   at_place              the number at a column's place, with anything behind the columns' numbers
 --   put_shared, put_behind   the number of a shared column set at its place, and of an unshared one behind
---   absorb_into_lem           so a list of the joined columns is filled, where the first's numbers stand before and anything behind
+--   absorb_into_lem       so a list of the joined columns is filled, where the first's numbers stand before and anything behind
 --   absorb_ideals_into    and so their ideals, with the marks
 -- Assumes nothing.
 use mathlib.Core.Path.{◌≡◌, refl, sym, ◌∙◌, ap, ap₂}

@@ -1,11 +1,11 @@
 -- The joined problem passes causes 1 to 5 itself: it is ready for a call as it stands.
---   Spans k x           x lies in −k to k
---   span_all, all_span_lem  a list's numbers lie in a range, by the test over the list and member by member
+--   Spans k x                x lies in −k to k
+--   span_all, all_span_lem   a list's numbers lie in a range, by the test over the list and member by member
 --   BoundsFit, GoalsFit c   the bounds, and the goals, of the column c fit
---   shared_bounds       a shared column's bounds fit, where they leave something
---   shared_goals        and its goals: a goal on either side brings a lower bound of 1 or more, and low stays at most high
---   absorb_all          what two columns hand on to the one they become holds of all joined columns
---   joined_passes       the joined problem, of parts that pass and partners that are ready, where its sizes fit
+--   shared_bounds            a shared column's bounds fit, where they leave something
+--   shared_goals             and its goals: a goal on either side brings a lower bound of 1 or more, and low stays at most high
+--   absorb_all               what two columns hand on to the one they become holds of all joined columns
+--   joined_passes            the joined problem, of parts that pass and partners that are ready, where its sizes fit
 -- Assumes nothing.
 use mathlib.Core.Path.{◌≡◌, refl, sym, ◌∙◌, ap, ap₂, subst}
 use mathlib.Core.Bool.{Bool, true, false, not, cond, ◌&&◌, ◌||◌}

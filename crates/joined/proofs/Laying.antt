@@ -126,7 +126,8 @@ absorbed_start f R S C l = record { within = omega arith; long = refl; rest = re
 
 absorb_next : (f : Rule) (R S : List ℕ) (C l : List ℤ) (j : ℕ) → j < length R → j < length S → j < length C
     → absorb_into f l (drop j R) (drop j S) (drop j C)
-    ≡ absorb_into f (set l (get_or S j 0) (taken f (get_or R j 0) (entry (get_or S j 0) l) (entry j C))) (drop (suc j) R) (drop (suc j) S) (drop (suc j) C)
+    ≡ absorb_into f (set l (get_or S j 0) (taken f (get_or R j 0) (entry (get_or S j 0) l) (entry j C))) (drop (suc j) R) (drop (suc j) S)
+    (drop (suc j) C)
 unfolding absorb_into
 absorb_next f R S C l j h k n =
     ap₂ (λ (x y : List ℕ). absorb_into f l x y (drop j C)) (drop-cons R j 0 h) (drop-cons S j 0 k)

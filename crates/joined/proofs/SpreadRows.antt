@@ -1,11 +1,11 @@
 -- The joined rows ask of a list what the two parts' rows ask of its shares.
---   Free r S                  the places S lie within r, r is 0 at each, and none comes twice
---   free_below                such places lie within r
---   places_free               the places of the second's columns among zeros are such; joined_free, those of a join
---   length_places             there is one for each column
---   places_below              they lie before the number of the joined columns, one for each column of the second
---   sums_padded, sums_spread  rows with zeros behind: the rows over the list's front; rows spread over such places: the rows over their numbers
---   padded_wide, spread_wide  the rows' lengths
+--   Free r S                   the places S lie within r, r is 0 at each, and none comes twice
+--   free_below                 such places lie within r
+--   places_free                the places of the second's columns among zeros are such; joined_free, those of a join
+--   length_places              there is one for each column
+--   places_below               they lie before the number of the joined columns, one for each column of the second
+--   sums_padded, sums_spread   rows with zeros behind: the rows over the list's front; rows spread over such places: the rows over their numbers
+--   padded_wide, spread_wide   the rows' lengths
 -- Assumes nothing.
 use mathlib.Core.Path.{◌≡◌, refl, sym, ◌∙◌, ap, ap₂, subst}
 use mathlib.Core.Bool.{false}

@@ -1,11 +1,11 @@
 -- Document 02, (vi): the columns of the joined problem, and where those of the second part come.
 --   goal_by a b both       of two goals, where 0 is none: the other one, or `both` where both are set; goal_of f a b, where that is made by f
---   shared c d            the column that c of the first and d of the second become
---   absorb L R C          the columns L joined with the second's columns C, whose partners are R (a number for each, as `pair_up` leaves them): a
---                         shared one is put together with its partner, an unshared one comes behind
+--   shared c d             the column that c of the first and d of the second become
+--   absorb L R C           the columns L joined with the second's columns C, whose partners are R (a number for each, as `pair_up` leaves them): a
+--                          shared one is put together with its partner, an unshared one comes behind
 --   places_from k R        the place of each of these columns among the joined ones, counted from 0, where the next unshared one comes to place k
---   places P R            those of all columns of the second
---   unshared R            how many columns of the second have no partner
+--   places P R             those of all columns of the second
+--   unshared R             how many columns of the second have no partner
 --   joined_count P R       how many columns there are then
 --   joined_columns P Q R   all of them
 -- Assumes nothing.

@@ -1,11 +1,11 @@
 -- The joined problem's lists as they are filled, number by number: what the loops in src/ carry out.
---   place_of q k, next_of q k    a column's place by its partner q, where the next unshared one comes to k; and the next place after it
---   combined r a b             what a shared column takes of two numbers, by the rule r for its list (Rule is declared in src/)
---   taken r q a x              the number at a column's place: x of an unshared one; of a shared one a and x combined
+--   place_of q k, next_of q k   a column's place by its partner q, where the next unshared one comes to k; and the next place after it
+--   combined r a b              what a shared column takes of two numbers, by the rule r for its list (Rule is declared in src/)
+--   taken r q a x               the number at a column's place: x of an unshared one; of a shared one a and x combined
 --   absorb_into r l R S C       the second's numbers C, with the partners R, taken at the places S into the list l
 --   taken_ideal q g a x         so of ideals, where g is the first's mark
 --   absorb_ideals g l R S D C   the second's ideals C and their marks D taken at the places S into the ideals l and their marks g
---   AllBelow n S               every place of S lies before n
+--   AllBelow n S                every place of S lies before n
 -- Assumes nothing.
 use Rattle.std.specs.Prelude.{cond, List, [], ◌∷◌, ℕ, zero, suc, ◌<◌, ℤ, length, get_or, set}
 use Rattle.whole.specs.Lists.{entry}

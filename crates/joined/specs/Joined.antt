@@ -1,9 +1,9 @@
 -- Document 02, (vi): the joined problem, and the shares of a list.
 --   padded k a            a row of the first part with k more columns behind it
---   spread_from r S a      each coefficient of a put into r at its column's place
+--   spread_from r S a     each coefficient of a put into r at its column's place
 --   spread n S a          a row of the second part over n columns, its columns at the places S
---   joined_matrix P Q R    the rows
---   lists_of A b C         the eight lists of the rows A, the right sides b and the columns C
+--   joined_matrix P Q R   the rows
+--   lists_of A b C        the eight lists of the rows A, the right sides b and the columns C
 --   joined P Q R          the joined problem, with the partners R
 --   first_share, second_share   "its two shares": the first n1 numbers; the numbers at the places of the second's columns
 -- Assumes nothing.

@@ -66,7 +66,8 @@ pub record JoiningCases : Type 0 where
   behind_places : places first (partners first second (1 ∷ 3 ∷ [])) ≡ 2 ∷ 3 ∷ 0 ∷ []
   behind_second : second_share (2 ∷ 3 ∷ 0 ∷ []) (pos 10 ∷ pos 20 ∷ pos 30 ∷ pos 40 ∷ []) ≡ pos 30 ∷ pos 40 ∷ pos 10 ∷ []
   -- any number but 0 marks an ideal as set, and where none is set the second's number is taken, not the first's
-  any_mark : (join (part 1 0 (lists [] [] (o ∷ []) (o ∷ []) (o ∷ []) (o ∷ []) (negsuc 6 ∷ []) (pos 3 ∷ []))) (plain 1) (1 ∷ 1 ∷ []) (lent 0 0 1)).lists
+  any_mark : (join (part 1 0 (lists [] [] (o ∷ []) (o ∷ []) (o ∷ []) (o ∷ []) (negsuc 6 ∷ []) (pos 3 ∷ []))) (plain 1) (1 ∷ 1 ∷ [])
+      (lent 0 0 1)).lists
       ≡ lists [] [] (o ∷ []) (o ∷ []) (o ∷ []) (o ∷ []) (negsuc 6 ∷ []) (pos 3 ∷ [])
   no_mark : (join (part 1 0 (lists [] [] (o ∷ []) (o ∷ []) (o ∷ []) (o ∷ []) (o ∷ []) (pos 3 ∷ []))) (plain 1) (1 ∷ 1 ∷ []) (lent 0 0 1)).lists
       ≡ lent 0 0 1

@@ -2,7 +2,7 @@
 --   Long n m l, lists_long   the lengths of lists that fit n columns and m rows, in numbers
 --   room_behind     how much room a list of the joined columns has behind the first's numbers
 --   unshared_most   no more columns are unshared than there are
---   list_for r l     the list of l that the rule r is for
+--   list_for r l    the list of l that the rule r is for
 --   filling         the eight lists as the code fills them
 --   lists_filled    the lists, filled with the partners that the pairs leave, are those of the joined problem
 -- Assumes nothing.

@@ -1,11 +1,11 @@
 -- Document 02, (vi): "From two problems and a list of pairs (column of the first, column of the second) make one".
---   on_passed c next       the refusal that the check c finds, else the next check
+--   on_passed c next      the refusal that the check c finds, else the next check
 --   pairing P Q ps        what is found of the pairs, and the partners that they leave; partners P Q ps, these
---   joined_sizes P Q R     the joined problem's sizes, as a problem's numbers
---   room_cause p B         1 and 2 of the joined problem p and the lent lists B
---   join_cause P Q ps B    the first cause that turns a join back, in the order of the request; B are the lent lists
+--   joined_sizes P Q R    the joined problem's sizes, as a problem's numbers
+--   room_cause p B        1 and 2 of the joined problem p and the lent lists B
+--   join_cause P Q ps B   the first cause that turns a join back, in the order of the request; B are the lent lists
 --   Left                  what a join answers (Joining is declared in src/), and what is left in the lent lists; `left` makes one
---   left_by c J B          what is left of the joined problem J and the lent lists B, by what the check c finds
+--   left_by c J B         what is left of the joined problem J and the lent lists B, by what the check c finds
 --   join P Q ps B         the whole: with a refusal "buffers as before"
 --   outcome P Q ps B s    where a join is made, of the sizes s, the problem that it leaves
 -- Assumes nothing.

@@ -1,19 +1,19 @@
 -- What a join promises.
---   PartCauses          the causes that turn a part back are those of a call's problem, where the call's own buffers and its limit are right
---   JoinShares          "A list satisfies the joined rows and bounds exactly when its two shares satisfy their own."
---   JoinFits            the joined problem is ready for a call: of the causes 1 to 6 none is left but 2 for the call's own buffers, and 6
+--   PartCauses            the causes that turn a part back are those of a call's problem, where the call's own buffers and its limit are right
+--   JoinShares            "A list satisfies the joined rows and bounds exactly when its two shares satisfy their own."
+--   JoinFits              the joined problem is ready for a call: of the causes 1 to 6 none is left but 2 for the call's own buffers, and 6
 --   first_of, second_of   the columns of pair k, each counted from 1 in its part; the pairs of ps are those with k * 2 + 1 < length ps
---   Alone ps j          the column j of the second part, counted from 0, stands in no pair
---   JoinWithin          the columns of a pair are columns of their parts
---   JoinMeets           the two columns of a pair are one: both shares of a list have the same number there
---   JoinAlone           a column of the second has the partner 0 exactly when it stands in no pair
---   JoinBehind          "the first's columns, then the second's unshared ones in order": the number of a column that stands in no pair comes
---                       behind those of the first's columns and of the unshared ones before it
---   JoinCounts          how large the joined problem is: n is the first's n and the second's, less the pairs; m is the first's m and the second's
---   FirstAlone ps i     the column i of the first part, counted from 0, stands in no pair
---   ColumnsOf P Q ps l  the lists l say of each column what the parts say of it: of a pair's, what `shared` makes of both; of one that stands in no
---                       pair, what its part says, at its place
---   JoinColumns         so it is of the joined problem's lists
+--   Alone ps j            the column j of the second part, counted from 0, stands in no pair
+--   JoinWithin            the columns of a pair are columns of their parts
+--   JoinMeets             the two columns of a pair are one: both shares of a list have the same number there
+--   JoinAlone             a column of the second has the partner 0 exactly when it stands in no pair
+--   JoinBehind            "the first's columns, then the second's unshared ones in order": the number of a column that stands in no pair comes
+--                         behind those of the first's columns and of the unshared ones before it
+--   JoinCounts            how large the joined problem is: n is the first's n and the second's, less the pairs; m is the first's m and the second's
+--   FirstAlone ps i       the column i of the first part, counted from 0, stands in no pair
+--   ColumnsOf P Q ps l    the lists l say of each column what the parts say of it: of a pair's, what `shared` makes of both; of one that stands in no
+--                         pair, what its part says, at its place
+--   JoinColumns           so it is of the joined problem's lists
 -- The theorems are `part_causes`, `join_shares` and `join_fits`, in proofs/Shares, `join_within`, `join_meets`, `join_alone` and `join_behind`, in
 -- proofs/Meeting, `join_counts`, in proofs/Counts, and `join_columns`, in proofs/SharedColumns.
 -- Assumes nothing.

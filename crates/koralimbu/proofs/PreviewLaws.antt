@@ -1,9 +1,9 @@
 -- What the preview's call for C comes to.
---   stored_seven            seven numbers stored in a list of seven are that list
+--   stored_seven               seven numbers stored in a list of seven are that list
 --   sign_minus, -none, -plus, vector_none, -some   the numbers of a sign and of a vector
---   read_signs              the machine reads the signs of a move back as they are
---   small_step              what a preview shows fits the report
---   is_shown_lem, is_unshown    what is returned and left after a preview, and where the report has a wrong length and nothing was done
+--   read_signs                 the machine reads the signs of a move back as they are
+--   small_step                 what a preview shows fits the report
+--   is_shown_lem, is_unshown   what is returned and left after a preview, and where the report has a wrong length and nothing was done
 -- Assumes nothing.
 use mathlib.Core.Path.{◌≡◌, refl, sym, ◌∙◌, ap, subst}
 use mathlib.Core.Bool.{true, false, true≢false}
@@ -84,7 +84,8 @@ module _ (P : Posed) (v : List ℤ) (B : Buffers) where
     pub is_shown_lem : (r : List ℕ) (n : ℕ) (p : List ℕ) → length r ≡ preview_length → p ≡ step_of x k → n ≡ seen_number x
         → returned n (buffers t u s) p ≡ preview_called P v B r
     unfolding preview_called
-    is_shown_lem r n p l ep en = (λ i. returned (en i) (buffers t u s) (ep i)) ∙ ap preview_told e ∙ sym (rw (eq-eqb (length r) preview_length l) refl)
+    is_shown_lem r n p l ep en =
+        (λ i. returned (en i) (buffers t u s) (ep i)) ∙ ap preview_told e ∙ sym (rw (eq-eqb (length r) preview_length l) refl)
 
   pub is_unshown : (r : List ℕ) (n : ℕ) → (length r ≡ preview_length → ⊥) → n ≡ refusal_number Length → returned n B r ≡ preview_called P v B r
   unfolding preview_called

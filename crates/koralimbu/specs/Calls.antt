@@ -1,7 +1,7 @@
 -- The calls as C makes them: what they return and what they leave in each lent buffer.
 --   problem_of n m limit   a problem's numbers as one value
---   verdict_number a    1 FITTED, 2 OUTSIDE, 3 SPENT; 0 with a refusal
---   report_of a k       the report_length numbers that tell of a and its k rounds: the verdict's, the steps of the two parts, and the rounds
+--   verdict_number a   1 FITTED, 2 OUTSIDE, 3 SPENT; 0 with a refusal
+--   report_of a k      the report_length numbers that tell of a and its k rounds: the verdict's, the steps of the two parts, and the rounds
 --   Called             what a call returns, and what the buffers that it fills and the report then hold; `returned` makes one of the three
 --   told d             of a whole assignment or a Continue that has done d: the refusal's number, 0 for a verdict, and the report
 --   untold B r         where the report r has a wrong length: refusal 2, "nothing changed"

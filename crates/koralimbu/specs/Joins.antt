@@ -2,7 +2,7 @@
 --   part_sizes n m     a part's sizes as one value
 --   joining_number a   0 for a join that is made, or the refusal's number
 --   joined_of a        the joined_length numbers that tell of a: n and m of the joined problem; 0s with a refusal
---   JoinCalled        what the call returns, and what the joined problem's lists and the sizes then hold; `join_returned` makes one of the three
+--   JoinCalled         what the call returns, and what the joined problem's lists and the sizes then hold; `join_returned` makes one of the three
 --   join_told d        of a join that has left d
 --   join_untold B z    where the sizes z have a wrong length: refusal 2, and nothing is changed
 --   join_called P Q ps B z   either, by the length of z; P and Q are the parts, ps the pairs, B the lent lists

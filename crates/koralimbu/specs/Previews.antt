@@ -3,11 +3,11 @@
 --   part_number p       1 the bounds part, 2 the goals part
 --   sign_number z       1 plus, 2 minus; 0 where there is no vector
 --   vector_number s z   the vector s, which z is the sign of, counted from 1; 0 where there is none
---   step_of x k         the preview_length numbers that tell of x and its k rounds: the part, the column, counted from 1, the vectors of the move with
---                      their signs, 0s where no move improves, and with a refusal; then the rounds
+--   step_of x k         the preview_length numbers that tell of x and its k rounds: the part, the column, counted from 1, the vectors of the move
+--                       with their signs, 0s where no move improves, and with a refusal; then the rounds
 --   preview_told x      what is returned and left of a preview that has shown x; in the buffers the interval list is the list after
 --   preview_called P v B r   that of P and the standing list v, by the length of the report r
---   SmallStep x        column and move of a step are such as a problem can have
+--   SmallStep x         column and move of a step are such as a problem can have
 -- Assumes nothing.
 use Rattle.std.specs.Prelude.{◌≡◌, cond, List, [], ◌∷◌, ℕ, zero, suc, ◌<◌, eqb, ℤ, pos, negsuc, length}
 use Rattle.problem.specs.Answers.{refusal_number}

@@ -1,10 +1,10 @@
 -- The reader as C calls it: what it returns and what it leaves in each lent buffer.
---   reading_number r   0 for a text that is read, or the refusal's number
---   sizes_of r         the sizes_length numbers that tell of r: n, m, and how many of the n columns are intervals; 0s with a refusal
---   ReadCalled        what the call returns, and what the buffers that it fills and the sizes then hold; `read_returned` makes one of the three
---   read_told d        of a reader that has done d: the number, the eight buffers of a problem, and the sizes
---   read_untold B z    where the sizes z have a wrong length: refusal 2, "nothing changed"
---   read_called s B z  either, by the length of z; s is the text
+--   reading_number r    0 for a text that is read, or the refusal's number
+--   sizes_of r          the sizes_length numbers that tell of r: n, m, and how many of the n columns are intervals; 0s with a refusal
+--   ReadCalled          what the call returns, and what the buffers that it fills and the sizes then hold; `read_returned` makes one of the three
+--   read_told d         of a reader that has done d: the number, the eight buffers of a problem, and the sizes
+--   read_untold B z     where the sizes z have a wrong length: refusal 2, "nothing changed"
+--   read_called s B z   either, by the length of z; s is the text
 -- Assumes nothing.
 use Rattle.std.specs.Prelude.{cond, List, [], ◌∷◌, ℕ, eqb, length}
 use Rattle.problem.specs.Answers.{refusal_number}

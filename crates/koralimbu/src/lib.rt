@@ -1,7 +1,7 @@
 #![tactic(auto)]
 
-// The engine's calls for C: include/koralimbu.h. The preview's stands in previewing.rt, the reader's in reading.rt, the join's in joins.rt, the
-// version in version.rt.
+// The engine's calls over numbers and lists alone, as C makes them: crate koralimbu_c exports them for include/koralimbu.h. The preview's stands in
+// previewing.rt, the reader's in reading.rt, the join's in joins.rt, the version in version.rt.
 // They have no `requires`: what a caller can break is an answer.
 pub mod joins;
 pub mod previewing;

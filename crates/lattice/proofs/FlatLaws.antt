@@ -1,13 +1,13 @@
 -- Laws of tables in one list, row after row.
---   flat_append, flat_chop, chop_flat   rows put end to end; a list cut into rows is that list; rows put end to end and cut are those rows
---   first_wide, chop_rows, length_chop  the rows have the width; there are as many as asked for
---   chop_split, chop_take               the first a rows, and b more; rows in the front of a list
---   one-less, chop_next                 the first row, and those behind it
+--   flat_append, flat_chop, chop_flat    rows put end to end; a list cut into rows is that list; rows put end to end and cut are those rows
+--   first_wide, chop_rows, length_chop   the rows have the width; there are as many as asked for
+--   chop_split, chop_take                the first a rows, and b more; rows in the front of a list
+--   one-less, chop_next                  the first row, and those behind it
 --   length_flat, front_rows, front_rest rows in one list: how long it is; the rows in front of a list, and that list
---   chop_row, chop_set                  row j of a table; row j replaced
---   row_number                          a number of row j, in the list
---   in_table, row_in_table              where a number and a row of a table lie
---   put_take, put_drop                  a part u put into a list at `at`: what stands up to its end, and behind it
+--   chop_row, chop_set                   row j of a table; row j replaced
+--   row_number                           a number of row j, in the list
+--   in_table, row_in_table               where a number and a row of a table lie
+--   put_take, put_drop                   a part u put into a list at `at`: what stands up to its end, and behind it
 -- Assumes nothing.
 use mathlib.Core.Path.{◌≡◌, refl, sym, ◌∙◌, ap, ap₂}
 use mathlib.Core.List.{List, [], ◌∷◌, ◌++◌, append_assoc}

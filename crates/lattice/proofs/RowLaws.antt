@@ -6,7 +6,7 @@
 --   minus-..                u − v by way of w; turned round; of two sums; of a sum and one of its parts; behind m zeros
 --   Zero-.., ZeroTo-..      what zeros are, and what keeps them
 --   entry-..                the number at a place of a sum, a negated row, a unit list
---   all_zero_Zero            what the test for zeros says
+--   all_zero_Zero           what the test for zeros says
 --   lead_behind             a lead at column c or behind, looked for from there on
 -- Assumes nothing.
 use mathlib.Core.Path.{◌≡◌, refl, sym, ◌∙◌, ap, ap₂, subst}

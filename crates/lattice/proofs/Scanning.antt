@@ -1,6 +1,6 @@
 -- Laws of `lead` and `all_zero` for a loop that has come to the number at i.
---   lead_on, lead_at_lem, lead_end     the number there is 0; it is not; there is none left
---   zero_on, zero_at, zero_end     the same of `all_zero`
+--   lead_on, lead_at_lem, lead_end   the number there is 0; it is not; there is none left
+--   zero_on, zero_at, zero_end       the same of `all_zero`
 -- Assumes nothing.
 use mathlib.Core.Path.{◌≡◌, refl, ◌∙◌, ap}
 use mathlib.Core.Bool.{true, false}

@@ -1,13 +1,13 @@
 -- Laws of dot and sums: they are linear, in the list and in the row.
---   sums_plus         of v + c u: the sums of v, and c times those of u
---   sums_unit         of a unit list: one number of each row
---   sums_Zero         of zeros: zeros
---   length_sums       as many as rows
---   dot_row_plus      of the row a + c r: that of a, and c times that of r
---   dot_row_zeros     of a row of zeros: 0
---   dot_row_set       of a row in which c takes the place of a 0: c times the list's number there is added
---   satisfies_append  a list satisfies rows end to end exactly when it satisfies these and those
---   satisfies_zeros   right sides that are 0: every sum is 0
+--   sums_plus          of v + c u: the sums of v, and c times those of u
+--   sums_unit          of a unit list: one number of each row
+--   sums_Zero          of zeros: zeros
+--   length_sums        as many as rows
+--   dot_row_plus       of the row a + c r: that of a, and c times that of r
+--   dot_row_zeros      of a row of zeros: 0
+--   dot_row_set        of a row in which c takes the place of a 0: c times the list's number there is added
+--   satisfies_append   a list satisfies rows end to end exactly when it satisfies these and those
+--   satisfies_zeros    right sides that are 0: every sum is 0
 -- Assumes nothing.
 use mathlib.Core.Path.{◌≡◌, refl, sym, ◌∙◌, ap, ap₂, subst}
 use mathlib.Core.Logic.{◌↔◌}

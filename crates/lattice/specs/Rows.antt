@@ -5,8 +5,8 @@
 --   unit n j      the j-th unit list of n numbers, j counted from 0
 --   Zero v        every number of v is 0
 --   ZeroTo c v    the first c numbers are 0
---   all_zero r     the test: every number is 0
---   lead_at x k    the lead's column, where x stands before a row whose lead is at k
+--   all_zero r    the test: every number is 0
+--   lead_at x k   the lead's column, where x stands before a row whose lead is at k
 --   lead r        the column of the first number other than 0; r's length if there is none
 --   flat T        a table's rows one after the other, as they lie in a buffer
 --   chop k w l    the first k rows of w numbers of a buffer

@@ -1,8 +1,8 @@
 -- Document 02, (ii): the reader's ideals are those of its clauses.
---   some_fails      a test that does not hold at every place fails at one
---   shared, shares  a shared row, by the test of the rows; neighbour, a neighbour, by its test; plain, such an interval
---   columns t k h   the columns that a test admits, of k from h on: their numbers are those chosen, each stands once, and they are all
---   readers_rule    the rule
+--   some_fails       a test that does not hold at every place fails at one
+--   shared, shares   a shared row, by the test of the rows; neighbour, a neighbour, by its test; plain, such an interval
+--   columns t k h    the columns that a test admits, of k from h on: their numbers are those chosen, each stands once, and they are all
+--   readers_rule     the rule
 -- Assumes nothing.
 use mathlib.Core.Path.{◌≡◌, refl, sym, ◌∙◌, ap, subst}
 use mathlib.Core.Logic.{◌↔◌, inl, inr, ⊎_elim}

@@ -2,9 +2,9 @@
 -- intervals with a goal that have a nonzero coefficient in some row with it, each counted once. It is unset if there are none, and for slacks".
 --   Stated            what a text states: its rows, how many of its columns are intervals, the coefficient of row i at column j, and the bounds and
 --                     the goals of column j; stated_by makes one of the count of columns and the lists of a problem
---   has_goal S h       column h has a goal
---   ideal_of S h       the ideal of a column with a goal, document 02's, (v): after its bounds
---   in_row S i j       column j has a nonzero coefficient in row i
+--   has_goal S h      column h has a goal
+--   ideal_of S h      the ideal of a column with a goal, document 02's, (v): after its bounds
+--   in_row S i j      column j has a nonzero coefficient in row i
 --   shares S j h      columns j and h have one in the same row
 --   is_neighbour S j h h is to count for j
 --   chosen t x k h    the numbers x of those columns that the test t admits, of k columns from column h on, each once

@@ -1,7 +1,7 @@
 -- Document 02, (v): "Older cases have both equal." The ideals that the reader hands in are then made of document 01's.
 --   one_goal_ideal_of S h   the ideal of a column with one goal, document 01's: after its bounds
---   one_goal_wish S j      what the reader hands in for column j by these
---   OneGoalWishes        so it is where each column's goals are the same, and within the limit
+--   one_goal_wish S j       what the reader hands in for column j by these
+--   OneGoalWishes           so it is where each column's goals are the same, and within the limit
 -- The theorem is `one_goal_wishes`, in proofs/OneGoal.
 -- Assumes nothing.
 use Rattle.std.specs.Prelude.{◌≡◌, cond, ℕ, ◌≤◌, ℤ, pos, nat_abs}

@@ -1,6 +1,6 @@
 -- Laws of `uses` and of `pair_up` for a loop that has come to the member j, or to the pair k.
 --   uses_on, uses_at, uses_end      the partner there is another one; it is the one looked for; there is none left
---   column_in_lem                       a column of n, counted from 1
+--   column_in_lem                   a column of n, counted from 1
 --   free_columns                    a pair that is free has columns of the two parts
 --   pairs_taken, pairs_none         the pair there is turned back as 14, or as 15
 --   pairs_next, pairs_end           it leaves its partner, and those behind it follow; there is none left
@@ -92,7 +92,8 @@ module _ (X Y : Bounds) (ps R : List ℕ) (k : ℕ) (l : k < length ps / 2) wher
 
   -- the pair there, by what is found of it
   on : (c : Check) → or_next free Pair (or_next left PairBounds Passed) ≡ c
-      → pair_up X Y (drop (k * 2) ps) R ≡ on_pair c R (pair_up X Y (drop ((k + 1) * 2) ps) (set R (get_or ps (k * 2 + 1) 0 - 1) (get_or ps (k * 2) 0)))
+      → pair_up X Y (drop (k * 2) ps) R
+      ≡ on_pair c R (pair_up X Y (drop ((k + 1) * 2) ps) (set R (get_or ps (k * 2 + 1) 0 - 1) (get_or ps (k * 2) 0)))
   unfolding pair_check free left a b
   on c e = pairs_on X Y ps R k l ∙ ap
       (λ (z : Check). on_pair z R (pair_up X Y (drop ((k + 1) * 2) ps) (set R (get_or ps (k * 2 + 1) 0 - 1) (get_or ps (k * 2) 0)))) e

@@ -1,15 +1,15 @@
 -- Document 02, (vi): "a list of pairs (column of the first, column of the second)", looked at in its order.
---   larger, smaller       of two numbers
---   leave lo hi lo' hi'   of two pairs of bounds: "bounds of a pair that leave nothing" does not hold
+--   larger, smaller        of two numbers
+--   leave lo hi lo' hi'    of two pairs of bounds: "bounds of a pair that leave nothing" does not hold
 --   Bounds, bounds, bounds_of   a part's lower and upper bounds, made of two lists, and of a part; it has as many columns as lower bounds
---   leaves X Y i j        so for column i of the first and j of the second, counted from 0
---   partners              a number for each column of the second part: its partner in the first, counted from 1, or 0 for an unshared one
---   unpaired n            before the first pair: none is shared
---   uses R a              the column a of the first, counted from 1, is used by some pair before
+--   leaves X Y i j         so for column i of the first and j of the second, counted from 0
+--   partners               a number for each column of the second part: its partner in the first, counted from 1, or 0 for an unshared one
+--   unpaired n             before the first pair: none is shared
+--   uses R a               the column a of the first, counted from 1, is used by some pair before
 --   is_column n a          a, counted from 1, is one of n columns
 --   is_free n k R a b      the pair's columns lie within their parts, of n and k columns, and neither is used before
 --   pair_check X Y R a b   what is found of one pair: 14, then 15
---   Matched               what is found of pairs, and the partners that then stand; `matched` makes one
+--   Matched                what is found of pairs, and the partners that then stand; `matched` makes one
 --   on_pair c R z          what is found of a pair with the partners R before it: where it passes, z, and else the refusal, with R left
 --   pair_up X Y ps R       the pairs ps after those that left the partners R
 -- Columns of pairs are counted from 1, as in texts and listings, so 0 lies outside. A last number without a second one is left alone: an odd

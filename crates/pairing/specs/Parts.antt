@@ -1,19 +1,19 @@
 -- Document 02, (vi): the two parts of a join, as they are handed in.
---   Lists             a problem's eight lists: the coefficients, n to a row, and the right sides; of the columns the bounds, the low and high goals,
---                     the marks of the ideals that are set, 0 where none is, and their numbers
---   Part              a problem without a step limit, its sizes and its lists: "Two blocks of a hull share curves."
+--   Lists              a problem's eight lists: the coefficients, n to a row, and the right sides; of the columns the bounds, the low and high goals,
+--                      the marks of the ideals that are set, 0 where none is, and their numbers
+--   Part               a problem without a step limit, its sizes and its lists: "Two blocks of a hull share curves."
 --   lists, part_of     the eight lists of a call's arguments, and a part of its sizes (Sizes is declared in src/) and its lists
---   sized n m limit   the sizes as a problem's numbers, with a step limit
+--   sized n m limit    the sizes as a problem's numbers, with a step limit
 --   as_posed P limit   a part as a call takes it, with a step limit
 --   room_for p         the lengths of the buffers that a call on the problem p fills
---   matrix P          its rows
---   PartColumn        what a part says of one column; no_column stands past the last one
+--   matrix P           its rows
+--   PartColumn         what a part says of one column; no_column stands past the last one
 --   column_in l j      what the lists l say of column j, counted from 0
 --   columns_from l j k those of k columns from column j on; columns P, all columns of P in order; at C j, the column at place j
 --   lists_fit p l      cause 2 does not hold: each list is exactly as long as n and m need
 --   part_cause P       the first cause of 1 to 5 that holds of a part
 --   in_bounds P x      each number lies in its column's bounds
---   Fulfils P x       x satisfies the rows of P and lies in its bounds
+--   Fulfils P x        x satisfies the rows of P and lies in its bounds
 -- Assumes nothing.
 use Rattle.std.specs.Prelude.{◌≡◌, Bool, true, ◌&&◌, List, [], ◌∷◌, ℕ, zero, suc, ◌+◌, ◌*◌, ℤ, pos, get_or}
 use Rattle.whole.specs.Lists.{entry}

@@ -1,12 +1,12 @@
 -- What a problem that passes the checks has.
---   tested_at     what a test of a column's numbers in two lists answers, where the machine reads them back
---   Room p, room  a problem of the allowed sizes has lengths that a usize holds
+--   tested_at      what a test of a column's numbers in two lists answers, where the machine reads them back
+--   Room p, room   a problem of the allowed sizes has lengths that a usize holds
 --   column_lengths   the columns' lists have a number for each column, once their lengths have passed
---   Passes P L    each of the tests of causes 1 to 6 holds
---   passes        so it is where no cause is named
---   all_small     how large a list's numbers are, by the test over the list
---   Fits P L      in numbers: sizes, lengths, and how large the numbers of each list are, at every place
---   fits          so it is
+--   Passes P L     each of the tests of causes 1 to 6 holds
+--   passes         so it is where no cause is named
+--   all_small      how large a list's numbers are, by the test over the list
+--   Fits P L       in numbers: sizes, lengths, and how large the numbers of each list are, at every place
+--   fits           so it is
 -- Assumes nothing.
 use mathlib.Core.Path.{◌≡◌, refl, sym, ◌∙◌, ap, ap₂, subst}
 use mathlib.Core.Bool.{Bool, true, false, ◌&&◌, ◌||◌}

@@ -1,13 +1,13 @@
 -- A problem as it is handed to a call, and the causes 1 to 6 that turn it back.
 --   empty_problem     no columns, no rows, no steps
---   Posed            a problem with its lists: the coefficients, n to a row, and the right sides; the bounds of the columns; document 02, (v), their
---                    low and high goals; and, document 02, (ii), the ideals handed in: whether there is one, 0 where there is none, and the number
+--   Posed             a problem with its lists: the coefficients, n to a row, and the right sides; the bounds of the columns; document 02, (v), their
+--                     low and high goals; and, document 02, (ii), the ideals handed in: whether there is one, 0 where there is none, and the number
 --   sizes_fit columns rows p   cause 1 does not hold, with that many columns and rows allowed
 --   row_lengths_fit, column_lengths_fit, ideal_lengths_fit, lent_fit   nor cause 2, of the rows' lists, the columns' lists, the ideals' lists and the
---                    buffers that the call fills
+--                     buffers that the call fills
 --   all_span k l      every number of l lies in −k to k
 --   rows_fit, bound_fits, bounds_fit, goal_fits, goals_fit, limit_fits   nor the causes 3 to 6; at one column, and at all. goal_inside, of one goal;
---                    both_or_none, of a low and a high one
+--                     both_or_none, of a low and a high one
 --   or_next t why c   the refusal where the test t fails, else the next check c
 --   first_cause P L   the first cause of 1 to 6 that holds of the problem P and the lengths L of the buffers lent with it
 -- "Any number may be handed in as an ideal": no cause looks at what the marks and the ideals hold.

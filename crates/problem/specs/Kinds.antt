@@ -1,6 +1,6 @@
 -- Document 01, "Continue, text, listing": "A row has a kind, equal, at least, at most or even with its least half."
 --   Slack        the y of a row: its coefficient in the row and its lower bound; `none` for an equal row
---   slack_of k    "Equal: sum = number. At least: sum − y = number, y from 0. At most: sum + y = number, y from 0. Even: sum − 2y = 0, y from the
+--   slack_of k   "Equal: sum = number. At least: sum − y = number, y from 0. At most: sum + y = number, y from 0. Even: sum − 2y = 0, y from the
 --                number, which is 0 to 1,000,000."
 --   slack_columns y, slack_count k   how many columns a y is, and how many the kind adds
 -- Assumes nothing.

@@ -1,17 +1,17 @@
 -- Document 01, "The problem": its limits, named once.
 --   max_columns, max_rows   "n columns, 1 to 48; m rows, 0 to 48"
---   max_coefficient        "Coefficients −1,000 to 1,000"
---   max_right              "Right sides −1,000,000 to 1,000,000"
---   max_bound              "a lower and an upper bound, both within ±1,000,000"
---   max_goal               "a goal in thousandths of an interval, 0 (no goal) to 1,000,000,000"
---   max_steps              "Step limit 0 to 65,535"
---   M                     "M is 2,147,483,647"
---   limits                all of them; `Problem::limits` in src/ holds the code's constants to these
+--   max_coefficient         "Coefficients −1,000 to 1,000"
+--   max_right               "Right sides −1,000,000 to 1,000,000"
+--   max_bound               "a lower and an upper bound, both within ±1,000,000"
+--   max_goal                "a goal in thousandths of an interval, 0 (no goal) to 1,000,000,000"
+--   max_steps               "Step limit 0 to 65,535"
+--   M                       "M is 2,147,483,647"
+--   limits                  all of them; `Problem::limits` in src/ holds the code's constants to these
 --   group_columns, group_rows   the same of a group: the columns and rows that one elimination forms together. A problem is one group today;
---                         the names are apart so that a problem may come to hold more than one group does
---   group_limits           both; `Group::limits` in src/ holds the code's constants to these
---   beyond x              x lies beyond ±M
---   any_beyond r           some number of the list does
+--                           the names are apart so that a problem may come to hold more than one group does
+--   group_limits            both; `Group::limits` in src/ holds the code's constants to these
+--   beyond x                x lies beyond ±M
+--   any_beyond r            some number of the list does
 -- Assumes nothing.
 use Rattle.std.specs.Prelude.{Bool, false, ◌||◌, List, [], ◌∷◌, ℕ, ltb, ℤ, nat_abs}
 use Rattle.problem.specs.declared.Limits.{Limits}

@@ -2,14 +2,14 @@
 -- counts, then a line for each column: column, value, stride. NONE stands alone (refusal 8). REFUSED is followed by the number. Fields are parted by
 -- one space; each line ends with byte 10."
 --   FITTED, OUTSIDE, SPENT, NONE, REFUSED   the words; field, after one space; line_end
---   verdict w k            the first line of a verdict's word with its counts, which counts_of makes
---   refusal k              the line of the refusal that has the number k; numbered, REFUSED with it
---   headline a             the first line
---   line c v d             a column's line; lines_from, those of the columns behind the first; lines_of, how many are listed
---   listing a v d          the listing of the answer a, with the values v and the strides d where it is a verdict
---   Written                what is returned: how many bytes were written, or that the lists are not of one length or the buffer has no room
---                          (declared in src/)
---   ListingDone            what is returned, and what the lent buffer then holds; `listing_done` makes one of both
+--   verdict w k             the first line of a verdict's word with its counts, which counts_of makes
+--   refusal k               the line of the refusal that has the number k; numbered, REFUSED with it
+--   headline a              the first line
+--   line c v d              a column's line; lines_from, those of the columns behind the first; lines_of, how many are listed
+--   listing a v d           the listing of the answer a, with the values v and the strides d where it is a verdict
+--   Written                 what is returned: how many bytes were written, or that the lists are not of one length or the buffer has no room
+--                           (declared in src/)
+--   ListingDone             what is returned, and what the lent buffer then holds; `listing_done` makes one of both
 --   placed_in o w           the call that puts w at the front of the lent buffer o, where it fits
 --   write_listing o a v d   the call on the lent buffer o, which then holds the listing's bytes, and then what stood there
 -- Assumes nothing.

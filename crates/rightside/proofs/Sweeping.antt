@@ -1,9 +1,9 @@
 -- Laws of taking rows from a list, one after the other.
 --   over_left, kept_left   what taking rows leaves, with a number beyond ±M and without
---   Sweeps         the loop: the rows that are still ahead are to be taken from v
---   next, next-..  the row that comes next, its lead, and that it is a pivot there
+--   Sweeps          the loop: the rows that are still ahead are to be taken from v
+--   next, next-..   the row that comes next, its lead, and that it is a pivot there
 --   sweep_starts, -on, -stops, -ends   at first, after a row, at a number beyond ±M, past the last row
---   sweep_within   a whole sweep keeps numbers within ±M where it marks none beyond
+--   sweep_within    a whole sweep keeps numbers within ±M where it marks none beyond
 -- Assumes nothing.
 use mathlib.Core.Path.{◌≡◌, refl, sym, ◌∙◌, ap, subst}
 use mathlib.Core.Bool.{Bool, true, false, ◌||◌}

@@ -2,13 +2,13 @@
 -- back": for 7 "tableau all 0, lists as before", for 8 "tableau the form, lists as before".
 --   Solvable p t a b s   what the causes 1 to 3 leave of a problem p, the tableau's buffer t, the coefficients a, the right sides b and the buffer
 --                        s of the starting list
---   solved_of p a b       the form and the right side
+--   solved_of p a b      the form and the right side
 --   answer_of f, solution_of x   what is answered, where no number lies beyond ±M, and in any case
---   solving_of x k        the same beside the k rounds of the form. Document 02, (vii): "A refusal returns 0 rounds.", by `rounds_for`
+--   solving_of x k       the same beside the k rounds of the form. Document 02, (vii): "A refusal returns 0 rounds.", by `rounds_for`
 --   tableau_after x t, start_after x s   what the two buffers hold then; by `start_of`, where no number lies beyond ±M
 --   Righted              what the right side of a form answers, and what the list that it works on holds then
 --   righted m T v        that of the form T, the right side v and m rows: all 0 where a number lies beyond ±M, else the list that is left
---   righted_of m k t v    that of the form's k rows in t
+--   righted_of m k t v   that of the form's k rows in t
 -- Assumes nothing.
 use Rattle.std.specs.Prelude.{◌≡◌, true, false, cond, List, ℕ, ℤ, length}
 use Rattle.whole.specs.Lists.{zeros}

@@ -1,8 +1,8 @@
 -- What taking the rows of a form from a list asks, answers and leaves.
 --   Sweepable w k t        t holds k rows of w numbers within ±M, with leads above 0 that rise
---   swept_of k t v          the k rows in t taken from v
+--   swept_of k t v         the k rows in t taken from v
 --   Swept x v r u          what taking rows from v answers, r, and leaves of it, u: all 0 where a number lies beyond ±M
---   found_of p t b          the right side of the form in the list t, for the right sides b
+--   found_of p t b         the right side of the form in the list t, for the right sides b
 --   Findable p v t b s     what that asks
 -- Assumes nothing.
 use Rattle.std.specs.Prelude.{◌≡◌, Bool, false, List, ◌++◌, ℕ, ◌+◌, ◌*◌, ℤ, length}

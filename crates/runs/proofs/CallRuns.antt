@@ -45,7 +45,8 @@ module _ (P : Posed) where
 
   -- ---- whole assignments
   module _ (T : List (List ℤ)) (B : Buffers) where
-    seated_settles : (N : List (List ℤ)) (z : Seated) → is_verdict (on_seated P T N B z).answer ≡ true → Settles (seated_run P N z) (on_seated P T N B z)
+    seated_settles : (N : List (List ℤ)) (z : Seated) → is_verdict (on_seated P T N B z).answer ≡ true
+        → Settles (seated_run P N z) (on_seated P T N B z)
     seated_settles N far e = untrue e
     seated_settles N (seated v) e = settle_settles T N v
 

@@ -35,7 +35,8 @@ use Rattle.settling.specs.declared.Step.TheVariants.{Take}
 use Rattle.settling.specs.Columns.{Columns, listed}
 use Rattle.settling.specs.Moves.{single, singles, pairs_with, pairs, moves, moved}
 use Rattle.settling.specs.Measures.{fraction, below, measure}
-use Rattle.settling.specs.Steps.{measure_at, part_of, is_ranked, passes, improves, insert, rank_from, first_move, first_column, step_at, step_of, next_step}
+use Rattle.settling.specs.Steps.{measure_at, part_of, is_ranked, passes, improves, insert, rank_from, first_move, first_column, step_at, step_of}
+use Rattle.settling.specs.Steps.{next_step}
 use Rattle.runs.specs.Sorted.{above, sorted, lower}
 use Rattle.runs.specs.Runs.{measures_from, distances, ratios, lower_than, standing}
 
@@ -128,27 +129,33 @@ abbrev plus_first : Move
 plus_first = single 0 (pos 1)
 
 pub dragged_step : next_step dragged (three (pos 1) (pos 2) (pos 2) ∷ []) (three (pos 0) (pos 0) (pos 0)) ≡ Take 0 plus_first
-unfolding every plus singles pairs_with pairs moves moved measure is_ranked passes improves insert rank_from first_move first_column step_at step_of next_step
+unfolding every plus singles pairs_with pairs moves moved measure is_ranked passes improves insert rank_from first_move first_column step_at step_of
+    next_step
 dragged_step = refl
 
 pub crossed_step : next_step crossed (two (pos 2) (pos 1) ∷ []) (two (pos 0) (pos 0)) ≡ Take 1 plus_first
-unfolding every plus singles pairs_with pairs moves moved measure is_ranked passes improves insert rank_from first_move first_column step_at step_of next_step
+unfolding every plus singles pairs_with pairs moves moved measure is_ranked passes improves insert rank_from first_move first_column step_at step_of
+    next_step
 crossed_step = refl
 
 pub held_step : next_step held (two (pos 0) (pos 1) ∷ []) (two (pos 0) (pos 0)) ≡ Take 1 plus_first
-unfolding every plus singles pairs_with pairs moves moved measure is_ranked passes improves insert rank_from first_move first_column step_at step_of next_step
+unfolding every plus singles pairs_with pairs moves moved measure is_ranked passes improves insert rank_from first_move first_column step_at step_of
+    next_step
 held_step = refl
 
 pub spoilt_step : next_step spoilt (two (pos 1) (pos 1) ∷ []) (two (pos 1) (pos 1)) ≡ Take 1 plus_first
-unfolding every plus singles pairs_with pairs moves moved measure is_ranked passes improves insert rank_from first_move first_column step_at step_of next_step
+unfolding every plus singles pairs_with pairs moves moved measure is_ranked passes improves insert rank_from first_move first_column step_at step_of
+    next_step
 spoilt_step = refl
 
 pub nudged_step : next_step nudged (two (pos 1) (pos 1) ∷ []) (two (pos 1) (pos 4)) ≡ Take 0 plus_first
-unfolding every plus singles pairs_with pairs moves moved measure is_ranked passes improves insert rank_from first_move first_column step_at step_of next_step
+unfolding every plus singles pairs_with pairs moves moved measure is_ranked passes improves insert rank_from first_move first_column step_at step_of
+    next_step
 nudged_step = refl
 
 pub free_step : next_step free (two (pos 1) (pos 1) ∷ []) (two (pos 1) (pos 0)) ≡ Take 0 plus_first
-unfolding every plus singles pairs_with pairs moves moved measure is_ranked passes improves insert rank_from first_move first_column step_at step_of next_step
+unfolding every plus singles pairs_with pairs moves moved measure is_ranked passes improves insert rank_from first_move first_column step_at step_of
+    next_step
 free_step = refl
 
 -- the claims

@@ -1,7 +1,7 @@
 -- Document 02, (xiii): a step lowers the measures of its part.
---   measures_determinate  the measures that a part compares are not 0/0; `measures_down` sorted, none stands before a larger one
---   taken_lower           a taken step lowers the measures that its part compares, sorted
---   next_lower            so does the next step, in the part that the values are in
+--   measures_determinate   the measures that a part compares are not 0/0; `measures_down` sorted, none stands before a larger one
+--   taken_lower            a taken step lowers the measures that its part compares, sorted
+--   next_lower             so does the next step, in the part that the values are in
 -- Nothing is asked of the problem, the basis or the list: a ratio with a goal is never 0/0, whatever the value.
 -- Assumes nothing.
 use mathlib.Core.Path.{◌≡◌, refl, sym, ◌∙◌, ap, subst}

@@ -1,9 +1,9 @@
 -- Document 02, (xiii): the run of a call. A whole assignment and Continue settle once, and that is their run.
---   settle_run P N v     the run of settling from the list v over the basis N, under the problem's limit
+--   settle_run P N v    the run of settling from the list v over the basis N, under the problem's limit
 --   seated_run, found_run the run from what seating leaves, and from what the right side finds; none where that is no list
---   of_verdict d R       R where the call that does d has a verdict, otherwise none
---   assign_run P B       the lists that stand while a whole assignment settles, the seated list first; none where it is refused
---   continue_run P B     the same of Continue, the lent list first
+--   of_verdict d R      R where the call that does d has a verdict, otherwise none
+--   assign_run P B      the lists that stand while a whole assignment settles, the seated list first; none where it is refused
+--   continue_run P B    the same of Continue, the lent list first
 --   NoListTwice P R d   what holds of the run R of a call that does d
 -- Assumes nothing.
 use Rattle.std.specs.Prelude.{◌≡◌, true, false, cond, List, [], ℤ}

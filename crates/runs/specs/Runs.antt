@@ -3,11 +3,11 @@
 --                       measures_from .. k j, of k columns from j on
 --   distances C v       "the list of distances" of the values v: of all columns
 --   ratios C v          "the same for ratios": of the columns with a goal
---   lower_than K L       K, "sorted largest first, is lower at the first place where it differs" from L
---   after_step s f       what f makes of the step's move, and nothing where no move improves
+--   lower_than K L      K, "sorted largest first, is lower at the first place where it differs" from L
+--   after_step s f      what f makes of the step's move, and nothing where no move improves
 --   standing g C N v    the lists that stand in a run of at most g steps from v, its own term: v, then the list after each step
---   list_at j R          the list at place j of a run, counted from 0
---   total_steps k        the steps of both parts
+--   list_at j R         the list at place j of a run, counted from 0
+--   total_steps k       the steps of both parts
 --   Descent C R         what the request says of the lists R of a run
 --   Ends C R k w        R has one list more than the steps k and its last is w; the steps counted for the bounds part come first, and were taken in
 --                       it, as the others in the goals part

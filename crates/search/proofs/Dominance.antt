@@ -1,11 +1,11 @@
 -- Moves that a number dominates: they are no better than it.
---   Still o k        the move o changes no column before place k
---   zero_still       so it is where both its vectors change none
---   still_dominated  it improves from place k on only, where its number is z or more
---   none_dominated   it changes no column of the ranking
+--   Still o k         the move o changes no column before place k
+--   zero_still        so it is where both its vectors change none
+--   still_dominated   it improves from place k on only, where its number is z or more
+--   none_dominated    it changes no column of the ranking
 --   blocked_dominated   it does not improve the first column that it changes, and so no later one
---   fails_dominated  a column fails against the measure of place k, and so against those of later places
---   dominated_less   what is no better than z is no better than what lies below
+--   fails_dominated   a column fails against the measure of place k, and so against those of later places
+--   dominated_less    what is no better than z is no better than what lies below
 -- Assumes nothing.
 use mathlib.Core.Path.{◌≡◌, refl, sym, ◌∙◌, ap, ap₂}
 use mathlib.Core.Logic.{⊎_elim}

@@ -45,7 +45,8 @@ use Rattle.search.proofs.Numbering.{sign_is, sign_one, number_pair, number_liste
 
 -- ---- a pair of two vectors with the signs of two marks
 module _ (s x t y : ℕ) where
-  both_cases : (P : Move → Type 0) → (s < t → P (pair s (sign_of x) t (sign_of y))) → (t ≤ s → P (pair t (sign_of y) s (sign_of x))) → P (both s x t y)
+  both_cases : (P : Move → Type 0) → (s < t → P (pair s (sign_of x) t (sign_of y))) → (t ≤ s → P (pair t (sign_of y) s (sign_of x)))
+      → P (both s x t y)
   both_cases P f g = go (ltb s t) refl
     where
       go : (c : Bool) → ltb s t ≡ c → P (cond c (pair s (sign_of x) t (sign_of y)) (pair t (sign_of y) s (sign_of x)))

@@ -1,18 +1,18 @@
 -- From place to place.
---   by_marks             every listed move, by its vectors and the marks of their signs
---   by_left              every move, where those of a set and those of the vectors outside it are no better
---   explored-..          what was tried: with a smaller incumbent, with a set of the same places, and with a set that loses a vector
+--   by_marks              every listed move, by its vectors and the marks of their signs
+--   by_left               every move, where those of a set and those of the vectors outside it are no better
+--   explored-..           what was tried: with a smaller incumbent, with a set of the same places, and with a set that loses a vector
 --   before_none, -past, -end   before the first place, behind the place of the incumbent, and behind the last place
---   searched-..          the end at an earlier place, the end of the ranking, the next place, and a set of the same places
---   fresh-..             the vectors that are seen at a place: they were not seen before and change its column
---   unfresh, later_zero  the other vectors that were not seen change no column up to the next place
+--   searched-..           the end at an earlier place, the end of the ranking, the next place, and a set of the same places
+--   fresh-..              the vectors that are seen at a place: they were not seen before and change its column
+--   unfresh, later_zero   the other vectors that were not seen change no column up to the next place
 --   singled_again, -before   singles of a place that leave the incumbent as it is
 --   singles_done, pairs_done   the singles of a place are no better, and the pairs from a vector on
---   single_ends          a single that improves this place is the end
+--   single_ends           a single that improves this place is the end
 --   Pairing h T v b L u w z y l p   the loop over the pairs of a place: of the set u the vectors of w are seen here, those of p are to be paired,
---                        and l are left; the incumbent was z and is y
---   pairing-..           how it begins, what is left, where it ends early, what its calls ask for, its next turn, and its end
---   final_step           what no move is better than is the step of the definition
+--                         and l are left; the incumbent was z and is y
+--   pairing-..            how it begins, what is left, where it ends early, what its calls ask for, its next turn, and its end
+--   final_step            what no move is better than is the step of the definition
 -- Assumes nothing.
 use mathlib.Core.Path.{◌≡◌, refl, sym, ◌∙◌, ap, ap₂, subst}
 use mathlib.Core.Logic.{◌⊎◌, inl, inr, ⊎_elim}

@@ -1,5 +1,5 @@
 -- What a turn of settling needs, from what it is handed.
---   search_of p B         the search for a step of part p over the view B
+--   search_of p B        the search for a step of part p over the view B
 --   search_sized         where a step may be searched for, each column has a size that can be measured
 --   search_measurable    so the columns can be measured in the search's part
 --   search_proper        and the ranked ones have proper measures

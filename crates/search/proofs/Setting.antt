@@ -1,17 +1,17 @@
 -- Laws of sets that are kept as words.
---   none_has              the empty set has no place
---   double_first, -later  a place more below the others, which go up by one
---   add_has, -small       a place more above the others
+--   none_has               the empty set has no place
+--   double_first, -later   a place more below the others, which go up by one
+--   add_has, -small        a place more above the others
 --   first_has, -small, -le   the first place is in its set, and its digit is one of the word
---   first_least           no place of the set is below it
---   rest_has, -less       the rest of a set has its other places
---   first_in, rest_in     what is in a set is its first place or in the rest, and what is in the rest is in the set
---   meet_has, union_has   the places of both of two sets, or of either
---   subset_le             a set whose places are all in another is no larger
---   minus_has             a set without such a one has its other places
---   below_has, only_has   the places below n, and n alone
---   Walk I D Q w          a loop over a set: the places of w are left, and I holds of them; Q holds of the others of which D speaks
---   walk-..               for its turns, from the first place on
+--   first_least            no place of the set is below it
+--   rest_has, -less        the rest of a set has its other places
+--   first_in, rest_in      what is in a set is its first place or in the rest, and what is in the rest is in the set
+--   meet_has, union_has    the places of both of two sets, or of either
+--   subset_le              a set whose places are all in another is no larger
+--   minus_has              a set without such a one has its other places
+--   below_has, only_has    the places below n, and n alone
+--   Walk I D Q w           a loop over a set: the places of w are left, and I holds of them; Q holds of the others of which D speaks
+--   walk-..                for its turns, from the first place on
 -- Assumes nothing.
 use mathlib.Core.Path.{◌≡◌, refl, sym, ◌∙◌, ap, ap₂, subst}
 use mathlib.Core.Logic.{◌⊎◌, inl, inr, ⊎_elim}
@@ -131,7 +131,8 @@ unfolding count_trailing_zeros
 lowest zero w h l = absurd (omega arith)
 lowest (suc k) w h l = go (w % 2) refl (λ (e : w % 2 ≡ 0). lowest k (w / 2) (omega arith) (half_lt k w l))
   where
-    go : (r : ℕ) → w % 2 ≡ r → (w % 2 ≡ 0 → Lowest k (w / 2) (count_trailing_zeros k (w / 2))) → Lowest (suc k) w (under r (count_trailing_zeros k (w / 2)))
+    go : (r : ℕ) → w % 2 ≡ r → (w % 2 ≡ 0 → Lowest k (w / 2) (count_trailing_zeros k (w / 2)))
+        → Lowest (suc k) w (under r (count_trailing_zeros k (w / 2)))
     go zero e ih = lowest_even k w (count_trailing_zeros k (w / 2)) e (ih e)
     go (suc r) e ih = lowest_odd k w (omega arith)
 

@@ -62,7 +62,8 @@ module _ (h : Place) (T v b : List ℤ) where
       → passing h.search T v b (alone s x) h.q c ≡ false → Blocked h T v b l s x
   fails_noted l s x c e i k = record { inside = omega arith; fails = ap (passing h.search T v b (alone s x) h.q) e ∙ k }
 
-  blocked_over : (l m : List ℕ) (s : ℕ) → ((x : ℕ) → x < 2 → blocking_at m s x ≡ blocking_at l s x) → BothBlocked h T v b l s → BothBlocked h T v b m s
+  blocked_over : (l m : List ℕ) (s : ℕ) → ((x : ℕ) → x < 2 → blocking_at m s x ≡ blocking_at l s x) → BothBlocked h T v b l s
+      → BothBlocked h T v b m s
   blocked_over l m s e k = record {
     each = λ x i. fails_noted m s x (blocking_at l s x) (e x i) (k.each x i).inside (k.each x i).fails;
   }

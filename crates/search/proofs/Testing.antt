@@ -1,9 +1,9 @@
 -- Laws of the tests of one move.
---   moved_passes          whether a column passes, by what is added to it
---   still_passes          a column to which 0 is added passes
+--   moved_passes           whether a column passes, by what is added to it
+--   still_passes           a column to which 0 is added passes
 --   change_small, moved_near   how large what is added is, and the value after it
---   both-, alone_covered  the sets of a move's vectors have the columns that it changes
---   blocking_every        by a blocking column, whether all pass
+--   both-, alone_covered   the sets of a move's vectors have the columns that it changes
+--   blocking_every         by a blocking column, whether all pass
 --   Seeking n f w j      a loop over a set of columns: j is tried, those of w are left, and the others pass
 --   seek-..              for its turns, from the first column on
 -- Assumes nothing.

@@ -1,13 +1,13 @@
 -- From one step to the next.
---   part_goals, -bounds  the part that is reached, by whether a column is ranked in the bounds part
---   reached_rankable     the columns can be ranked in that part
+--   part_goals, -bounds   the part that is reached, by whether a column is ranked in the bounds part
+--   reached_rankable      the columns can be ranked in that part
 --   gathered_ranked        its columns, put into their ranking
---   ranked_part          a ranking that is kept is of that part
---   ready_turnable       ready columns can be ranked in the part that is reached
---   ranked_setup         a ranking of that part can be searched
---   turned               the step along the ranking is the next step
+--   ranked_part           a ranking that is kept is of that part
+--   ready_turnable        ready columns can be ranked in the part that is reached
+--   ranked_setup          a ranking of that part can be searched
+--   turned                the step along the ranking is the next step
 --   arranged_none, -next   what is kept at first, and after a step
---   arranged_listed      in the goals part that has its columns
+--   arranged_listed       in the goals part that has its columns
 -- Assumes nothing.
 use mathlib.Core.Path.{◌≡◌, refl, sym, ◌∙◌, ap, ap₂, subst}
 use mathlib.Core.Bool.{Bool, true, false}
@@ -32,7 +32,8 @@ use Rattle.settling.specs.Columns.{Columns, columns_in, cell}
 use Rattle.settling.specs.Measures.{distance, measure}
 use Rattle.settling.specs.Moves.{moved}
 use Rattle.settling.specs.Ready.{Ready}
-use Rattle.settling.specs.Steps.{in_bounds, part_if, part_of, is_ranked, is_allowed, ranked_at, larger_at, ranking, first_column, step_at, step_of, next_step}
+use Rattle.settling.specs.Steps.{in_bounds, part_if, part_of, is_ranked, is_allowed, ranked_at, larger_at, ranking, first_column, step_at, step_of}
+use Rattle.settling.specs.Steps.{next_step}
 use Rattle.settling.specs.Views.{vectors}
 use Rattle.settling.proofs.Views.{moved_length}
 use Rattle.settling.proofs.Blocking.{weak}

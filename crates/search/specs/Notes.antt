@@ -1,7 +1,7 @@
 -- What a search notes of each vector, in one list of numbers: for either sign a column at which it failed alone.
 --   note_width, notes_long   how many numbers a vector has, and how many all have
---   blocking_at l s x       the column noted for vector s with the sign of mark x
---   Noted n l              a list of notes that name columns, of n; at first they may be any
+--   blocking_at l s x        the column noted for vector s with the sign of mark x
+--   Noted n l                a list of notes that name columns, of n; at first they may be any
 -- Assumes nothing.
 use Rattle.std.specs.Prelude.{◌≡◌, List, ℕ, ◌+◌, ◌*◌, ◌<◌, length, get_or}
 use Rattle.problem.specs.Limits.{max_columns}

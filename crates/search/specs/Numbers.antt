@@ -1,14 +1,14 @@
 -- A move at a place of the ranking as one number, so that better is smaller.
 --   Sign a             +1 or −1
---   first_pair          the number of the first pair; singles lie below it
+--   first_pair         the number of the first pair; singles lie below it
 --   span               how far the numbers of one place lie from those of the next
 --   mark a             1 for a sign below 0, else 0
---   number_of o         the number of the move o, which rises in document 01's order of moves
---   number_at k o       the same at place k
---   sign_of m           the sign of a mark
---   pair_of d           the pair that is d after the first one
---   move_of n           the move of a number
---   step_in L z         the step that the number z stands for, along the ranking L; a place behind the ranking is none
+--   number_of o        the number of the move o, which rises in document 01's order of moves
+--   number_at k o      the same at place k
+--   sign_of m          the sign of a mark
+--   pair_of d          the pair that is d after the first one
+--   move_of n          the move of a number
+--   step_in L z        the step that the number z stands for, along the ranking L; a place behind the ranking is none
 --   DominatedBy imp L z o   the candidate o is no better than z: at each place of L whose column it improves its number is z or more
 --   ImprovingNumber imp L r z   z is the number of a move over r vectors, at a place of L whose column it improves
 --   ImprovingOrNone imp L r z   z is such a number, or the least one behind the ranking

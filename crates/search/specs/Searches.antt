@@ -1,9 +1,9 @@
 -- What the search reads from its slices, and what it needs of them.
 --   Search                 the part, and the view of the basis (declared in src/)
---   columns_of S T          the columns of the table T
+--   columns_of S T         the columns of the table T
 --   better S T v b         which columns a move improves, from the values v, over the basis b
 --   passing S T v b o q    which columns pass under the move o, against the measure q
---   step_along S T v b L    the step of the definition, where the columns are tried along L
+--   step_along S T v b L   the step of the definition, where the columns are tried along L
 --   Measurable p T v       there is a record for each value, and each column can be measured in part p
 --   Searchable S T v b     the slices are ready, and the values are such as a move of the part may leave
 --   InOrder S T v L        the columns of the list L are a ranking: proper, and none larger than an earlier one

@@ -1,14 +1,15 @@
 -- Sets of columns or of vectors, each kept as one number.
---   has w j              place j is in the set w: binary digit j of w is 1, counted from the lowest
---   first_of w, rest_of w  the least place of a set, and the set without it
---   support_of v          the places at which the row v is not 0
---   touches B b s j      vector s of the view B changes column j
---   Indexed B b S H      S has each vector's set of the columns that it changes, H each column's set of the vectors that change it
---   Held w x l m         m is the list l with x added at each place of the set w
---   Holdable w x l       it may be: the places lie in the list, and the sums are words
---   Blank l              a list of empty sets
+--   has w j                 place j is in the set w: binary digit j of w is 1, counted from the lowest
+--   first_of w, rest_of w   the least place of a set, and the set without it
+--   support_of v            the places at which the row v is not 0
+--   touches B b s j         vector s of the view B changes column j
+--   Indexed B b S H         S has each vector's set of the columns that it changes, H each column's set of the vectors that change it
+--   Held w x l m            m is the list l with x added at each place of the set w
+--   Holdable w x l          it may be: the places lie in the list, and the sums are words
+--   Blank l                 a list of empty sets
 -- Assumes nothing.
-use Rattle.std.specs.Prelude.{◌≡◌, Bool, true, not, cond, ◌&&◌, List, [], ◌∷◌, ℕ, zero, suc, ◌+◌, ◌-◌, ◌*◌, ◌/◌, ◌%◌, ◌^◌, ◌<◌, ltb, eqb, ℤ, length, get_or}
+use Rattle.std.specs.Prelude.{◌≡◌, Bool, true, not, cond, ◌&&◌, List, [], ◌∷◌, length, get_or}
+use Rattle.std.specs.Prelude.{ℕ, zero, suc, ◌+◌, ◌-◌, ◌*◌, ◌/◌, ◌%◌, ◌^◌, ◌<◌, ltb, eqb, ℤ}
 use Rattle.std.specs.Int.Count.{count_trailing_zeros}
 use Rattle.whole.specs.Lists.{entry}
 use Rattle.whole.specs.Tests.{is_zero}

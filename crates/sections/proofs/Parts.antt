@@ -1,10 +1,10 @@
 -- Laws of the parts of a text, one for each way through the code: what was read, or at which number it was refused.
 --   interval_read, -lower, -upper, -low, -high   an interval; intervals-more, -stop, -end, so many of them
---   row_even, slack_few, number_small       a kind's row, how many columns it adds, and how large its number is
+--   row_even, slack_few, number_small        a kind's row, how many columns it adds, and how large its number is
 --   kind_read, -no, row_read, -kind, -number   a row's kind and number
---   term_read, -index, -coefficient, -in    a term; terms-more, -stop, -end, so many of them
---   line_read, -row, -count, -terms, -room  a row with its terms; lines_more, -stop, -end, so many of them
---   intervals_count, -no, rows_count, -no   sections, with their counts
+--   term_read, -index, -coefficient, -in     a term; terms-more, -stop, -end, so many of them
+--   line_read, -row, -count, -terms, -room   a row with its terms; lines_more, -stop, -end, so many of them
+--   intervals_count, -no, rows_count, -no    sections, with their counts
 -- Assumes nothing.
 use mathlib.Core.Path.{◌≡◌, refl, ap, subst}
 use mathlib.Core.Bool.{Bool, true, false}
@@ -22,7 +22,8 @@ use Rattle.problem.specs.declared.Row.{Row}
 use Rattle.problem.specs.declared.Refusal.{Refusal}
 use Rattle.problem.specs.declared.Refusal.TheVariants.{Size, Coefficient, Bound, Goal, Term as WrongTerm}
 use Rattle.sections.specs.Rules.{Outcome, ok, no, then, within}
-use Rattle.sections.specs.Sections.{deck_columns, deck_rows, spanning, upper_from, top_goal, high_from, interval, intervals, row_of, kind_of, with_room}
+use Rattle.sections.specs.Sections.{deck_columns, deck_rows, spanning, upper_from, top_goal, high_from, interval, intervals, row_of, kind_of}
+use Rattle.sections.specs.Sections.{with_room}
 use Rattle.sections.specs.Sections.{kind_number, least_number, row, coefficient, term, terms, Line, line, lines, interval_section, row_section}
 use Rattle.sections.specs.declared.Interval.{Interval}
 use Rattle.sections.specs.declared.Term.{Term}

@@ -1,13 +1,13 @@
 -- Document 01, "Continue, text, listing": numbers read one after the other. "The first place that breaks its rule decides the refusal; a run of other
 -- bytes that is no such number, a missing number or one too many is 11 there."
---   Outcome A              something read, with the place after it in the text; or the refusal
---   then                   one after the other: the first refusal decides
---   inside lo hi why v e   the number v, with the place e after it, which is lo to hi or else refused
---   number s at            the next number of the text s at or after a place; on_number is that of a token
---   within s lo hi why at  the next number, which is lo to hi or else refused
+--   Outcome A               something read, with the place after it in the text; or the refusal
+--   then                    one after the other: the first refusal decides
+--   inside lo hi why v e    the number v, with the place e after it, which is lo to hi or else refused
+--   number s at             the next number of the text s at or after a place; on_number is that of a token
+--   within s lo hi why at   the next number, which is lo to hi or else refused
 --   no_less s lo why at     the next number, which is lo or more or else refused
---   nonzero why            what was read is not 0 or else refused
---   closed s a at          no number or other run is left; on_end is that of a token
+--   nonzero why             what was read is not 0 or else refused
+--   closed s a at           no number or other run is left; on_end is that of a token
 -- Assumes nothing.
 use Rattle.std.specs.Prelude.{cond, List, ℕ, ℤ}
 use Rattle.std.specs.Int.Signed.{le_z}

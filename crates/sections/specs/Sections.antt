@@ -2,19 +2,19 @@
 -- goal; the count of rows, then for each its kind, its number, its count of terms (0 to the count of intervals), then index and coefficient for each
 -- term." Document 02, (v): "an interval's line in the text has four numbers", with "a low and a high goal" for the goal.
 --   deck_columns, deck_rows   the most columns and rows of a text: the problem's
---   coefficient_count        the most coefficients
---   max_text                 "a text over 32,768 bytes is 11"
---   deck_sizes               columns, rows and bytes; `Sizes::limits` in src/ holds the code's constants to these
---   Interval, Term          declared in src/; Row and Kind are the problem's
---   Line                    a row with its terms
---   spanning s k why at     a number in −k to k
---   interval, intervals     an interval, by upper_from, top_goal and high_from with its top_high, and so many of them
---   PairRule                a pair of goals is 5 in a text exactly where it is 5 in buffers; the theorem is `pair_rule`, in proofs/Limits
---   row                     a row's kind and number, by row_of, kind_of, with_room, kind_number and least_number
---   term, terms             a term, with its coefficient, and so many of them
---   line, lines             a row with its terms, and so many of them
---   interval_section s at    the section of intervals of the text s, from a place on
---   row_section s n at       the section of rows of a text with n intervals
+--   coefficient_count         the most coefficients
+--   max_text                  "a text over 32,768 bytes is 11"
+--   deck_sizes                columns, rows and bytes; `Sizes::limits` in src/ holds the code's constants to these
+--   Interval, Term            declared in src/; Row and Kind are the problem's
+--   Line                      a row with its terms
+--   spanning s k why at       a number in −k to k
+--   interval, intervals       an interval, by upper_from, top_goal and high_from with its top_high, and so many of them
+--   PairRule                  a pair of goals is 5 in a text exactly where it is 5 in buffers; the theorem is `pair_rule`, in proofs/Limits
+--   row                       a row's kind and number, by row_of, kind_of, with_room, kind_number and least_number
+--   term, terms               a term, with its coefficient, and so many of them
+--   line, lines               a row with its terms, and so many of them
+--   interval_section s at     the section of intervals of the text s, from a place on
+--   row_section s n at        the section of rows of a text with n intervals
 -- Each section starts at the place where the one before ended, so that another can be put between or behind them.
 -- Assumes nothing.
 use Rattle.std.specs.Prelude.{◌≡◌, cond, ◌&&◌, List, [], ◌∷◌, ◌++◌, ℕ, zero, suc, ◌+◌, ◌*◌, ltb, ℤ, pos, nat_abs, neg_ℤ}

@@ -5,9 +5,9 @@
 --   RowStored                what a row whose terms are in its line leaves; Lengths, of buffers of the largest size
 --   Cursor                   where reading has come to (declared in src/); `cursor` makes one of the place, the intervals, the columns and the rows
 --   IntervalsDone            what the section of intervals answers and leaves; `intervals_done` makes one
---   intervals_left o          that of the outcome o, in a table that held 0: its columns, or 0 again
+--   intervals_left o         that of the outcome o, in a table that held 0: its columns, or 0 again
 --   RowsDone                 what the section of rows answers and leaves; `rows_done` makes one
---   rows_left n u o           that of the outcome o after n intervals in the columns u: the y's behind them, right sides and coefficients, or 0
+--   rows_left n u o          that of the outcome o after n intervals in the columns u: the y's behind them, right sides and coefficients, or 0
 -- Assumes nothing.
 use Rattle.std.specs.Prelude.{◌≡◌, List, ◌∷◌, [], map, ℕ, ◌+◌, ◌*◌, ◌≤◌, ℤ, length}
 use Rattle.text.specs.Overwriting.{overwritten}

@@ -1,12 +1,12 @@
 -- Document 01, "Continue, text, listing": the columns and the rows that the lines of a text state, and how the reader holds them.
---   slack_interval lo   "Each y goes up to 1,000,000, has no goal, and takes the next column after the intervals, in row order."
---   slack_column y      the y of a row, or none; slack_columns ls, those of the rows
---   coefficient_row ..  a row's n coefficients: its terms `placed`, and `with_slack` its y at column c; coefficient_rows, those of the rows
+--   slack_interval lo    "Each y goes up to 1,000,000, has no goal, and takes the next column after the intervals, in row order."
+--   slack_column y       the y of a row, or none; slack_columns ls, those of the rows
+--   coefficient_row ..   a row's n coefficients: its terms `placed`, and `with_slack` its y at column c; coefficient_rows, those of the rows
 --   lower_of, upper_of, low_of, high_of, right_of   the numbers of an interval and of a row
---   cell i             a column as it lies in the reader's table of columns: lower, upper, low, high; column_width numbers. `cells`, of all columns
---   column_cells        the most numbers of that table
---   padded size u      a buffer of size numbers that starts with the list u: "the rest becomes 0"
---   blank n            n numbers that are 0; shut, since a long list of them is written out wherever it is open
+--   cell i               a column as it lies in the reader's table of columns: lower, upper, low, high; column_width numbers. `cells`, of all columns
+--   column_cells         the most numbers of that table
+--   padded size u        a buffer of size numbers that starts with the list u: "the rest becomes 0"
+--   blank n              n numbers that are 0; shut, since a long list of them is written out wherever it is open
 -- Assumes nothing.
 use Rattle.std.specs.Prelude.{List, [], ◌∷◌, ◌++◌, ℕ, ◌+◌, ◌-◌, ◌*◌, ℤ, pos, length, set}
 use Rattle.whole.specs.Lists.{zeros}

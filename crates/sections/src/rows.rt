@@ -7,8 +7,8 @@ ghost use Rattle.sections.specs.Sections.{deck_columns, deck_rows, coefficient_c
 ghost use Rattle.sections.specs.Sections.{row as row·rule, coefficient as coefficient·rule, term as term·rule, terms, line as line·rule};
 ghost use Rattle.sections.specs.Sections.{row_section};
 ghost use Rattle.sections.specs.StatedColumns.{slack_column, with_slack, column_width, column_cells, cells, blank};
-ghost use Rattle.sections.specs.SectionsRead.{got_of, row_got_of, kind_got_of, term_got_of, slack_is, TermsRead, LineRead, Lengths, RowStored, OneRead};
-ghost use Rattle.sections.specs.SectionsRead.{RowsRead, rows_done, rows_left};
+ghost use Rattle.sections.specs.SectionsRead.{got_of, row_got_of, kind_got_of, term_got_of, slack_is, TermsRead, LineRead, Lengths};
+ghost use Rattle.sections.specs.SectionsRead.{RowStored, OneRead, RowsRead, rows_done, rows_left};
 
 use crate::columns::put_column;
 use crate::rules::{natural, signed, spanning, within};

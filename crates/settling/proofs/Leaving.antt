@@ -89,7 +89,8 @@ module _ (C : Columns) (N : List (List ℤ)) where
       go (next_step C N v) (λ o. settle_steps g limit (counted (part_of C v) k) (moved N o v) (omega arith))
     where
       go : (z : Step) → ((o : Move) → total (answer_counts (settle_from g C N (counted (part_of C v) k) (moved N o v)).answer) ≤ limit)
-          → total (answer_counts (on_step z (ended (at_rest (part_of C v) k) v) (λ o. settle_from g C N (counted (part_of C v) k) (moved N o v))).answer)
+          → total (answer_counts
+          (on_step z (ended (at_rest (part_of C v) k) v) (λ o. settle_from g C N (counted (part_of C v) k) (moved N o v))).answer)
           ≤ limit
       go Rest ih = rest_steps (part_of C v) k limit (omega arith)
       go (Take i o) ih = ih o

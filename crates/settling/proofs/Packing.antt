@@ -124,7 +124,8 @@ packed_at : (f : ℕ → Column) (k s j i : ℕ) → j < k → i ≡ s + j → c
 unfolding packed_from
 packed_at f zero s j i h e = absurd (omega (arith, h))
 packed_at f (suc k) s zero i h e = column_first (f s) (packed_from f k (suc s)) ∙ ap f (omega (arith, e))
-packed_at f (suc k) s (suc j) i h e = column_behind (f s) (packed_from f k (suc s)) j ∙ packed_at f k (suc s) j i (omega (arith, h)) (omega (arith, e))
+packed_at f (suc k) s (suc j) i h e =
+    column_behind (f s) (packed_from f k (suc s)) j ∙ packed_at f k (suc s) j i (omega (arith, h)) (omega (arith, e))
 
 -- past the table all numbers are 0
 past : (t : List ℤ) (j : ℕ) → length t ≤ width * j → column_at t j ≡ column_of (pos 0) (pos 0) (pos 0) (pos 0) Unset

@@ -55,7 +55,8 @@ between k (negsuc l) hi (negsuc y) a b e f = omega (arith, ltb-false l y e)
 pub inside_small : (k : ℕ) (c : Cell) → nat_abs c.lower ≤ k → nat_abs c.upper ≤ k → distance c ≡ 0 → nat_abs c.value ≤ k
 inside_small k c a b d = at c.lower c.upper c.value a b d
   where
-    at : (lo hi y : ℤ) → nat_abs lo ≤ k → nat_abs hi ≤ k → cond (lt_z y lo) (nat_abs (lo -ℤ y)) (cond (lt_z hi y) (nat_abs (y -ℤ hi)) 0) ≡ 0 → nat_abs y ≤ k
+    at : (lo hi y : ℤ) → nat_abs lo ≤ k → nat_abs hi ≤ k → cond (lt_z y lo) (nat_abs (lo -ℤ y)) (cond (lt_z hi y) (nat_abs (y -ℤ hi)) 0) ≡ 0
+        → nat_abs y ≤ k
     at lo hi y a b d = go (lt_z y lo) (lt_z hi y) refl refl d
       where
         from_lower : lo +ℤ neg_ℤ (lo -ℤ y) ≡ y
@@ -69,7 +70,8 @@ inside_small k c a b d = at c.lower c.upper c.value a b d
         go false true e f d = omega (arith, ap nat_abs from_upper, abs_add hi (y -ℤ hi))
         go false false e f d = between k lo hi y a b e f
 
-above_under : (lo hi y : ℤ) → le_z (pos 1) lo ≡ true → cond (lt_z y lo) (nat_abs (lo -ℤ y)) (cond (lt_z hi y) (nat_abs (y -ℤ hi)) 0) ≡ 0 → 0 < nat_abs y
+above_under : (lo hi y : ℤ) → le_z (pos 1) lo ≡ true → cond (lt_z y lo) (nat_abs (lo -ℤ y)) (cond (lt_z hi y) (nat_abs (y -ℤ hi)) 0) ≡ 0
+    → 0 < nat_abs y
 above_under lo hi (pos (suc k)) a d = omega arith
 above_under lo hi (negsuc k) a d = omega arith
 above_under (negsuc k) hi (pos zero) a d = absurd (false≢true a)

@@ -1,11 +1,11 @@
 -- Where the vectors of a basis lie in its slice, and what a move makes of the values.
---   rows_length        there are as many as the view says
---   vectors_is, -drop  vector s, and those from s on
---   vectors_at         the number at column j of vector s
---   vector_end, -part  where it ends in the slice, if there are columns, and that the part of the slice up to there is it
+--   rows_length         there are as many as the view says
+--   vectors_is, -drop   vector s, and those from s on
+--   vectors_at          the number at column j of vector s
+--   vector_end, -part   where it ends in the slice, if there are columns, and that the part of the slice up to there is it
 --   vector_long, -small   it has a number for each column, none beyond ±M
 --   unit_small, sum_small   how large a signed number, and so the sum of two, can be
---   moved_length, -at  the values after a move
+--   moved_length, -at   the values after a move
 -- Assumes nothing.
 use mathlib.Core.Path.{◌≡◌, refl, sym, ◌∙◌, ap}
 use mathlib.Core.Logic.{⊎_elim}

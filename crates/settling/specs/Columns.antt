@@ -9,9 +9,9 @@
 --                      and one of numbers
 --   width              how many numbers the record of a column has in a table: lower bound, upper bound, low goal, high goal, whether a wish is set,
 --                      wish
---   column_at t j       the column whose record is the j-th of the table t
---   columns_in n t      the n columns of a table
---   record_of c         the record of a column
+--   column_at t j      the column whose record is the j-th of the table t
+--   columns_in n t     the n columns of a table
+--   record_of c        the record of a column
 --   packed C           the table of the columns C, record after record; packed_from f k j, of k columns from column j on
 -- Assumes nothing.
 use Rattle.std.specs.Prelude.{List, [], ◌∷◌, ◌++◌, ℕ, zero, suc, ◌+◌, ◌*◌, ℤ}

@@ -1,6 +1,6 @@
 -- Document 01, "Seating", its own term: each basis vector is added so often that its lead column comes nearest to its ideal.
 --   ideal_at, gap_at C v c   the ideal of column c, and that less the present value
---   seat_one C r v     the values v after the addition for the vector r
+--   seat_one C r v    the values v after the addition for the vector r
 --   Seated            the seated list; or `far`, "a value beyond ±M after a seating addition" (refusal 9)
 --   seat C N v        "For N1 to Nr in order"
 --   SeatDone          what the call returns, whether the list is seated, and what the lent list then holds; `seat_done` makes one

@@ -1,9 +1,9 @@
 -- Document 01, "Moves and settling": settling under a limit, its own term.
 --   Settled            the verdict with the step counts of the two parts, and the values; `ended` makes one
---   at_rest, counted    the verdict where no move improves; the counts with one more step of a part
---   on_step s z f       z where no move improves, else what f makes of the step's move
+--   at_rest, counted   the verdict where no move improves; the counts with one more step of a part
+--   on_step s z f      z where no move improves, else what f makes of the step's move
 --   settle limit ..    steps while some move improves and the limit is not reached; "The limit covers both parts together."
---   settle_from g ..    with g steps left, after the steps counted
+--   settle_from g ..   with g steps left, after the steps counted
 -- "FITTED: all in bounds and no move improves. OUTSIDE: some column out of bounds and no move improves. SPENT: limit reached and some move still
 -- improves."
 -- Assumes nothing.

@@ -1,17 +1,17 @@
 -- Document 01, "Moves and settling": a step.
---   in_bounds C v       all distances are 0
---   part_of C v         "Bounds part, while some distance is above 0"; "Goals part, once all distances are 0"; `part_if` by in_bounds
+--   in_bounds C v      all distances are 0
+--   part_of C v        "Bounds part, while some distance is above 0"; "Goals part, once all distances are 0"; `part_if` by in_bounds
 --   is_ranked, is_compared, is_allowed   of one column: it is tried; a move that changes it is to lower its measure; a move may leave its value
 --   passes p c e q     a move that adds e to a column, which is then c, does what it has to, against the measure q
 --   measure_at, ranked_at, passes_at, larger_at   the same of a problem's columns
 --   improves ..        a move improves a column
 --   ranking part C v   the columns in the order in which they are tried; `insert` and rank_from sort them
 --   first_move, first_column   the first good move, and the first column with a step; or_else, the one step or else the other
---   step_at, step_of     the step of a column, and of a part
+--   step_at, step_of   the step of a column, and of a part
 --   Step               the column and its move, or that no move improves (declared in src/)
---   next_step C N v     "A step takes the first column with an improving move, and its first such move, once."
+--   next_step C N v    "A step takes the first column with an improving move, and its first such move, once."
 --   Turn               a step with the part that it belongs to (declared in src/)
---   turn_of C N v       the next one
+--   turn_of C N v      the next one
 -- Assumes nothing.
 use Rattle.std.specs.Prelude.{Bool, true, false, not, cond, ◌&&◌, ◌||◌, List, [], ◌∷◌, ℕ, zero, suc, ltb, eqb, ℤ, length}
 use Rattle.whole.specs.Tests.{is_zero, every}

@@ -1,6 +1,6 @@
 -- A basis as it lies in a slice.
 --   Basis              how: a number of vectors of `columns` numbers, each `stride` after the last (declared in src/)
---   rows_of r n w l     r rows of n numbers, each w after the last
+--   rows_of r n w l    r rows of n numbers, each w after the last
 --   vectors B l        the vectors of the view B of the slice l
 --   Viewed B l         they lie in the slice, and no number of it lies beyond ±M
 --   OfBasis r o        the move o adds or takes away vectors of the first r

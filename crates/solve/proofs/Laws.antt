@@ -1,17 +1,17 @@
 -- Laws of the listing program: the parts of buffers of the largest size, and what a text comes to by what the reader returns.
---   write_even       lists of one length are listed
+--   write_even        lists of one length are listed
 --   clear_strides n   n strides that are 0; shut, as `blank` is
---   few_tableau      a problem within the limits has its tableau within the largest buffer
+--   few_tableau       a problem within the limits has its tableau within the largest buffer
 --   put_back, part_back      a part that was lent is again the part of its buffer
---   cleared P        the parts of blank buffers that a problem needs
---   listed_into      they are its zero_buffers, and an assignment's lists are of one length, so that its listing is put into the buffer
+--   cleared P         the parts of blank buffers that a problem needs
+--   listed_into       they are its zero_buffers, and an assignment's lists are of one length, so that its listing is put into the buffer
 --   refused_headline         a refusal lists no column
 --   largest, largest_fit     the buffers that the reader is lent, which have the lengths that it asks for
---   refused_into     a text that is turned back
---   Taken, taken     a text that is accepted, with what the reader's buffers hold
+--   refused_into      a text that is turned back
+--   Taken, taken      a text that is accepted, with what the reader's buffers hold
 --   few_columns, few_rows    it is within the limits: its bounds and its right sides fit into buffers of that length
 --   problem_part n m ..       the parts of the largest buffers that a problem of n columns and m rows needs
---   accepted_into    these parts are the text's problem
+--   accepted_into     these parts are the text's problem
 -- Assumes nothing.
 use mathlib.Core.Path.{◌≡◌, refl, sym, ap, ◌∙◌}
 use mathlib.Core.Bool.{true}

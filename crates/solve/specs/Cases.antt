@@ -1,12 +1,12 @@
 -- The deck cases that document 01 marks with *, as one table of the definitions.
---   problem ..    a problem in lists: n, m, the rows' coefficients, the right sides, lower bounds, upper bounds, goals and the step limit; "Older
---                 cases have both equal", low and high goals, and no ideal is handed in
---   Shown         an answer, with the values and the strides; `gives` makes one, and `shown` those of a call
---   assigned P    what the whole assignment of P shows, in buffers that held 7s before, `used P`
---   seated_of P    what seating makes of the starting list and the basis that are found for P, by seat_found
---   five_ideals v  the ideals to which seating pulls columns with the goals of five_goals, `five_columns`, at the values v
+--   problem ..      a problem in lists: n, m, the rows' coefficients, the right sides, lower bounds, upper bounds, goals and the step limit; "Older
+--                   cases have both equal", low and high goals, and no ideal is handed in
+--   Shown           an answer, with the values and the strides; `gives` makes one, and `shown` those of a call
+--   assigned P      what the whole assignment of P shows, in buffers that held 7s before, `used P`
+--   seated_of P     what seating makes of the starting list and the basis that are found for P, by seat_found
+--   five_ideals v   the ideals to which seating pulls columns with the goals of five_goals, `five_columns`, at the values v
 --   sum_and_difference, three_two, tied, paving_text, paving_listing   problems, a text and its listing; curve, a line of the text
---   DeckCases     the cases, one to a field, in document 01's order
+--   DeckCases       the cases, one to a field, in document 01's order
 -- Assumes nothing.
 use Rattle.std.specs.Prelude.{◌≡◌, List, [], ◌∷◌, ◌++◌, map, ℕ, ◌+◌, ◌*◌, ℤ, pos, negsuc, replicate}
 use Rattle.whole.specs.Lists.{zeros}

@@ -1,8 +1,8 @@
 -- Document 02, (v): cases of a low and a high goal, as one table of the definitions.
 --   curve lo low high   one column without rows, with bounds lo to 100 and these goals
---   tied_curves      v1 = v2, bounds 1..10, the first with the goals 1000 and 4000, the second with 5000 twice
+--   tied_curves     v1 = v2, bounds 1..10, the first with the goals 1000 and 4000, the second with 5000 twice
 --   two_goals_text, two_goals_listing   a text with two goals that differ, and its listing
---   refused_goal     refusal 5, with both lists as before
+--   refused_goal    refusal 5, with both lists as before
 --   GoalCases       the cases, one to a field
 -- Assumes nothing.
 use Rattle.std.specs.Prelude.{◌≡◌, List, [], ◌∷◌, ℕ, ℤ, pos, negsuc}

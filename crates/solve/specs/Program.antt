@@ -1,14 +1,14 @@
 -- Document 01, "Continue, text, listing": "The listing program reads the text from standard input, uses limit 10,000 and prints" the listing.
---   program_limit    the step limit
---   zero_buffers P   buffers of just the lengths that a problem needs, all 0, as the program lends them
---   printed s       the bytes that the program prints for the text s
---   print_into o s   what a call returns and leaves that puts these bytes at the front of the lent buffer o
---   list_into o P    the same of the listing of an assignment
---   listing_room     the bytes of the program's buffer for a listing
---   longest_listing  no listing has more: a first line of at most 20 bytes, as `OUTSIDE 10000 10000` and byte 10 are, and 48 lines of at most 26, as
---                   `48 -2147483647 2147483647` and byte 10 are
---   ListedWhole s   the listing of s has room there, so that a call leaves all of it at the front of the buffer and never returns that there is
---                   none
+--   program_limit     the step limit
+--   zero_buffers P    buffers of just the lengths that a problem needs, all 0, as the program lends them
+--   printed s         the bytes that the program prints for the text s
+--   print_into o s    what a call returns and leaves that puts these bytes at the front of the lent buffer o
+--   list_into o P     the same of the listing of an assignment
+--   listing_room      the bytes of the program's buffer for a listing
+--   longest_listing   no listing has more: a first line of at most 20 bytes, as `OUTSIDE 10000 10000` and byte 10 are, and 48 lines of at most 26, as
+--                     `48 -2147483647 2147483647` and byte 10 are
+--   ListedWhole s     the listing of s has room there, so that a call leaves all of it at the front of the buffer and never returns that there is
+--                     none
 -- Assumes nothing.
 use Rattle.std.specs.Prelude.{◌≡◌, List, [], ◌++◌, ℕ, ◌+◌, ◌*◌, ◌≤◌, length, drop, replicate}
 use Rattle.whole.specs.Lists.{zeros}

@@ -100,11 +100,11 @@ abbrev marks : List (List ℤ) → Bool × Bool
 marks A = ((form 3 A).over, (form_down 3 A).over)
 
 seven_now : marks ((pos 93 ∷ pos 0 ∷ negsuc 834 ∷ []) ∷ (pos 331 ∷ negsuc 924 ∷ pos 0 ∷ []) ∷ []) ≡ (true, false)
-unfolding plus neg any_beyond lowered_by reduced each choose exchange clear_by round_by gather_by pass_column_by pass_columns_by eliminate_by tableau_from
-    tableau form form_down
+unfolding plus neg any_beyond lowered_by reduced each choose exchange clear_by round_by gather_by pass_column_by pass_columns_by eliminate_by
+    tableau_from tableau form form_down
 seven_now = refl
 
 seven_before : marks ((pos 863 ∷ negsuc 448 ∷ pos 350 ∷ []) ∷ (pos 122 ∷ pos 247 ∷ pos 960 ∷ []) ∷ []) ≡ (false, true)
-unfolding plus neg any_beyond lowered_by reduced each choose exchange clear_by round_by gather_by pass_column_by pass_columns_by eliminate_by tableau_from
-    tableau form form_down
+unfolding plus neg any_beyond lowered_by reduced each choose exchange clear_by round_by gather_by pass_column_by pass_columns_by eliminate_by
+    tableau_from tableau form form_down
 seven_before = refl

@@ -104,7 +104,8 @@ last_row c [] r = only (nat_abs (entry c r))
     only : (k : ℕ) → prefer k none ≡ below none 0 k
     only zero = refl
     only (suc k) = refl
-last_row c (a ∷ A) r = ap (prefer (nat_abs (entry c a))) (last_row c A r) ∙ both_ends (nat_abs (entry c a)) (choose c A) (length A) (nat_abs (entry c r))
+last_row c (a ∷ A) r =
+    ap (prefer (nat_abs (entry c a))) (last_row c A r) ∙ both_ends (nat_abs (entry c a)) (choose c A) (length A) (nat_abs (entry c r))
 
 last_count : (c : ℕ) (A : List (List ℤ)) (r : List ℤ) → nonzeros c (A ++ (r ∷ [])) ≡ nonzeros c A + counted (nat_abs (entry c r))
 unfolding nonzeros

@@ -2,7 +2,7 @@
 --   rounds_on, -skip     those of several columns: the first one's and the others', or the others' alone where it has no choice
 --   rounds_past, -done   there are none where no column is left, or no row
 --   rounds_all           all columns of a lent table
---   passed_rounds_lem        those of a column with a choice are gathering's
+--   passed_rounds_lem    those of a column with a choice are gathering's
 --   passed_few           of numbers within ±M a column has at most 31
 -- Assumes nothing.
 use mathlib.Core.Path.{◌≡◌, refl, sym, ◌∙◌, ap}

@@ -1,10 +1,10 @@
 -- Laws of passing the columns of a table: it is made of elementary row steps, and leaves a Hermite form.
 --   pass_columns_steps    the steps of d columns
---   skips c H            c columns of zeros before H
---   reduced_residue      to reduce a row above by the pivot's row as it is found, and then by the later rows, is to reduce it by the form
---   Formed d c A B       the last d of c + d columns leave a Hermite form of d columns: the rows A above reduced by it, its rows, and rows of zeros
+--   skips c H             c columns of zeros before H
+--   reduced_residue       to reduce a row above by the pivot's row as it is found, and then by the later rows, is to reduce it by the form
+--   Formed d c A B        the last d of c + d columns leave a Hermite form of d columns: the rows A above reduced by it, its rows, and rows of zeros
 --   pass_columns_formed   they do, where the rows B from row k on have only zeros in the first c columns
---   eliminated           so elimination leaves the table T in its Hermite form, where T's rows are independent
+--   eliminated            so elimination leaves the table T in its Hermite form, where T's rows are independent
 -- Assumes nothing.
 use mathlib.Core.Path.{◌≡◌, refl, sym, ◌∙◌, ap, ap₂, subst}
 use mathlib.Core.List.{List, [], ◌∷◌, ◌++◌, map, append_assoc}
@@ -104,7 +104,8 @@ reduced_residue zero p t H (x ∷ a) l e h =
     (coset_sums (rows H) q t t' a (omega arith) (coset_turn (rows H) t' t (omega arith) (residue_coset H t e))))
 reduced_residue (suc c) p t H [] l e h = absurd (omega arith)
 reduced_residue (suc c) p t H (y ∷ a) l e h =
-    ap₂ ◌∷◌ (add_none (neg_ℤ (floor_quotient (entry c a) (entry c (zeros c ++ (p ∷ t))))) y (pos 0) refl) (reduced_residue c p t H a (omega arith) e h)
+    ap₂ ◌∷◌ (add_none (neg_ℤ (floor_quotient (entry c a) (entry c (zeros c ++ (p ∷ t))))) y (pos 0) refl)
+    (reduced_residue c p t H a (omega arith) e h)
 
 -- the rows above and the pivot's row, each by f
 stack : (f k : List ℤ → List ℤ) (h : List ℤ → Left) (r : List ℤ) (X A : List (List ℤ)) → All (λ (a : List ℤ). f (h a).row ≡ k a) A
@@ -147,7 +148,8 @@ module _ {quotient : ℤ → ℤ → ℤ} (S : Shrinks quotient) where
     rest = i.rest;
     none_left = i.none_left;
     is =
-        ap (λ (z : Choice). (pass_columns_by quotient d (suc c) (pass_column_by quotient c A B z).above (pass_column_by quotient c A B z).below).table) e
+        ap (λ (z : Choice).
+        (pass_columns_by quotient d (suc c) (pass_column_by quotient c A B z).above (pass_column_by quotient c A B z).below).table) e
         ∙ subst (λ (S : Echelon). (pass_columns_by quotient d (suc c) A B).table ≡ map (residue S) A ++ (rows S ++ i.rest))
         (sym (skips_skip c i.form)) i.is;
   }

@@ -56,7 +56,8 @@ exchange_count c none b B = refl
 exchange_count c (at zero p) b B = refl
 exchange_count c (at (suc j) p) b B = go B j
   where
-    go : (B : List (List ℤ)) (j : ℕ) → counted (nat_abs (entry c (get_or B j b))) + nonzeros c (set B j b) ≡ counted (nat_abs (entry c b)) + nonzeros c B
+    go : (B : List (List ℤ)) (j : ℕ)
+        → counted (nat_abs (entry c (get_or B j b))) + nonzeros c (set B j b) ≡ counted (nat_abs (entry c b)) + nonzeros c B
     go [] j = refl
     go (s ∷ B) zero = omega arith
     go (s ∷ B) (suc j) = omega (arith, go B j)

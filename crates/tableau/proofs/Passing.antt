@@ -285,7 +285,8 @@ whole {n} {w} {c} {k} {t} h =
 
 -- where the columns left change nothing more
 module _ {n w c k : ℕ} {t : List ℤ} {E : Run} (d : ℕ) (h : Standing n w c k t) (r : pass_columns d c (above_of w k t) (below_of n w k t) ≡ E) where
-  stop : pass_columns d c (above_of w k t) (below_of n w k t) ≡ record { table = above_of w k t ++ below_of n w k t; over = false } → StopsRun E false t
+  stop : pass_columns d c (above_of w k t) (below_of n w k t) ≡ record { table = above_of w k t ++ below_of n w k t; over = false }
+      → StopsRun E false t
   stop e = record {
     answer = ap (λ (x : Run). x.over) (sym e ∙ r);
     left = λ _. sym (whole h) ∙ ap (λ (x : Run). flat x.table) (sym e ∙ r);

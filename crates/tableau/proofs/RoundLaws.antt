@@ -1,15 +1,15 @@
 -- Laws of the count of rounds, document 02, (vii).
 --   rounds_none              without a choice there is no round
 --   rounds_fuel              more rounds allowed than the first pivot's magnitude change no count
---   gathering_rounds_first    it is what `column_rounds` calls
---   following_rounds c z x    the rounds that follow on the round x, where z is the choice in its lower rows
---   gathering_rounds_round    one round, and those that follow: one turn of a loop
---   gather_rounds_lem            gathering takes at most as many rounds as the first pivot has binary digits
---   column_rounds_lem            so the rounds of a column are at most the bit length of its first pivot
+--   gathering_rounds_first   it is what `column_rounds` calls
+--   following_rounds c z x   the rounds that follow on the round x, where z is the choice in its lower rows
+--   gathering_rounds_round   one round, and those that follow: one turn of a loop
+--   gather_rounds_lem        gathering takes at most as many rounds as the first pivot has binary digits
+--   column_rounds_lem        so the rounds of a column are at most the bit length of its first pivot
 --   column_bits              a column of rows within ±M takes at most 31
 --   Paid n k B C             a column's k rounds and what it leaves of the rows B, C: rows within ±M, one less if there is a round
 --   eliminate_rounds         at most 31 for each row of the table, where no number beyond ±M is met
---   form_rounds_lem              at most 31 for each column of a problem
+--   form_rounds_lem          at most 31 for each column of a problem
 -- Assumes nothing.
 use mathlib.Core.Path.{◌≡◌, refl, sym, ◌∙◌, ap}
 use mathlib.Core.Bool.{false}

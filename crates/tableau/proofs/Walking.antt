@@ -1,10 +1,10 @@
 -- Laws of a loop that takes the rows of a table one after the other, each by the step f, and stops at a number beyond ±M.
---   Step f                 f keeps a row's length, and within ±M a row that it does not mark
+--   Step f                  f keeps a row's length, and within ±M a row that it does not mark
 --   Walk f w k t₀ t at left   the rows before the number `at` of t are done, and `left` rows of w numbers are still those of t₀
---   starts, goes_on        it holds at first, and after a row that f does not mark
---   next_small             the row that comes next lies within ±M
---   stops, ends            at a row that f marks the answer is true; past the last row it is false, and the table is the definition's
---   each_wide, each_count  the rows keep their length, and their count
+--   starts, goes_on         it holds at first, and after a row that f does not mark
+--   next_small              the row that comes next lies within ±M
+--   stops, ends             at a row that f marks the answer is true; past the last row it is false, and the table is the definition's
+--   each_wide, each_count   the rows keep their length, and their count
 --   reduced_step, stepping the step by a pivot is such a step
 -- Assumes nothing.
 use mathlib.Core.Path.{◌≡◌, refl, sym, ◌∙◌, ap, ap₂}

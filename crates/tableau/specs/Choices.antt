@@ -1,6 +1,6 @@
 -- The code's choice of a row, as the definition has it.
 --   sighted n j p   row j with the magnitude p, where n entries are other than 0
---   choice_of z      the definition's choice
+--   choice_of z     the definition's choice
 --   below z i k     the choice z with an entry of magnitude k put below, in row i
 --   counted k       1 for an entry other than 0
 --   nonzeros c B    how many of the rows B have an entry other than 0 at c

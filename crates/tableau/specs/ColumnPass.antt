@@ -1,7 +1,7 @@
 -- What the functions that pass columns ask and what they leave.
 --   Standing n w c k t    t is a table of n rows of w numbers within ±M, of which k are done, and the others are 0 before column c
---   above_of, below_of      the rows that are done, and the others
---   passed_of n w c k t    column c of such a table; passed_rounds, its rounds
+--   above_of, below_of    the rows that are done, and the others
+--   passed_of n w c k t   column c of such a table; passed_rounds, its rounds
 --   rejoined x            the rows above row k and those from it on, as one table
 -- Assumes nothing.
 use Rattle.std.specs.Prelude.{◌≡◌, List, ◌++◌, ℕ, ◌*◌, ◌-◌, ◌≤◌, ℤ, length, drop}

@@ -1,25 +1,25 @@
 -- Document 01, "The tableau": the steps that bring a table into its Hermite form, over unbounded whole numbers. Of the quotient that gathering
 -- takes, `quotient`, document 02, (vii), says: "Gathering takes the nearest quotient, floor((2 × entry + p) / 2p), in place of the rounded-down one;
 -- the rows above are reduced as now." So the steps are said of any quotient, and then taken with the nearest.
---   Left             a row after a subtraction, and whether that left a number beyond ±M in it
+--   Left               a row after a subtraction, and whether that left a number beyond ±M in it
 --   subtract q r s, kept s       q times r taken from s; no subtraction
---   reduced c r s    the row r taken from a row s above it, by their entries at c
---   Run              a table after the steps, and whether a subtraction of theirs left a number beyond ±M
---   each f B         the step f of each row in turn, top first
---   Choice           the row that gathering chooses, counted from row k, with its magnitude; `none` where all entries are 0
---   choose c B       that of the rows B at column c; by `shifted` and `prefer`, from the last row up
---   Gathered         row k and the rows below it after gathering, and whether a subtraction left a number beyond ±M
+--   reduced c r s      the row r taken from a row s above it, by their entries at c
+--   Run                a table after the steps, and whether a subtraction of theirs left a number beyond ±M
+--   each f B           the step f of each row in turn, top first
+--   Choice             the row that gathering chooses, counted from row k, with its magnitude; `none` where all entries are 0
+--   choose c B         that of the rows B at column c; by `shifted` and `prefer`, from the last row up
+--   Gathered           row k and the rows below it after gathering, and whether a subtraction left a number beyond ±M
 --   exchange, signed   what a round begins with: the chosen row to row k, its sign
---   onward over g    what gathering leaves, with a round's mark added
---   Passed           the rows above row k and those from it on after a column, and whether a subtraction left a number beyond ±M
+--   onward over g      what gathering leaves, with a round's mark added
+--   Passed             the rows above row k and those from it on after a column, and whether a subtraction left a number beyond ±M
 -- of any quotient:
---   lowered_by c r s  the row r taken from a lower row s, by their entries at c
---   clear_by c r B    the lower rows B by the row r
---   round_by c b B    one round on row k, which is b, and the rows B below it
+--   lowered_by c r s   the row r taken from a lower row s, by their entries at c
+--   clear_by c r B     the lower rows B by the row r
+--   round_by c b B     one round on row k, which is b, and the rows B below it
 --   gather_by f c z b B   the rounds of one column, f at most
 --   pass_column_by     one column c: gathering, then the rows above
 --   pass_columns_by    d columns from c on
---   eliminate_by w T  all w columns of the table T, from left to right
+--   eliminate_by w T   all w columns of the table T, from left to right
 -- with the nearest:
 --   lowered, clear, round, gather, pass_column, pass_columns, eliminate   the same
 -- A subtraction goes on with the number that it left, beyond ±M or not: `over` only remembers it. So the table is that of the rules over

@@ -1,11 +1,11 @@
 -- What elimination answers and leaves in a lent table. Document 01, "Turned back", 7: "tableau all 0".
 --   Formable p t a   what the causes 1 to 3 leave of a problem p, the tableau's buffer t and the coefficients a
---   matrix_of p a     the matrix, its rows one after the other in the coefficients
---   form_of p a       the form of the tableau
---   form_after x t    what the buffer t of a table holds after the steps x
+--   matrix_of p a    the matrix, its rows one after the other in the coefficients
+--   form_of p a      the form of the tableau
+--   form_after x t   what the buffer t of a table holds after the steps x
 --   Tally            whether a number beyond ±M was left, and the rounds (declared in src/)
---   tally_of x k      that of the steps x, which take k rounds. Document 02, (vii): "A refusal returns 0 rounds."
---   form_tally p a    that of the form
+--   tally_of x k     that of the steps x, which take k rounds. Document 02, (vii): "A refusal returns 0 rounds."
+--   form_tally p a   that of the form
 --   Outcome          what is answered, and what the lent table holds then
 --   outcome x k t    that of the steps x, which take k rounds, on the table that lay in t
 --   eliminated_of k w t, rounds_in k w t   the elimination of the k rows of w numbers in t, and its rounds

@@ -1,16 +1,16 @@
 -- Document 01, "The tableau", **Right side**: the starting list and the basis, or "none".
---   further over x  a subtraction marked `over`, and what follows on it
---   sweep T v       with each row of T, top first, the rounded-down quotient times that row subtracted from v
---   leading m T     the rows whose lead lies in the first m columns
---   remaining m T   the others
---   basis m T       "The remaining table rows, without their m zeros, are the basis"
---   Found           "no whole numbers satisfy the rows", or the starting list and the basis
---   Solved          what is found, the form, and whether the problem is past the elimination limit (refusal 7)
+--   further over x    a subtraction marked `over`, and what follows on it
+--   sweep T v         with each row of T, top first, the rounded-down quotient times that row subtracted from v
+--   leading m T       the rows whose lead lies in the first m columns
+--   remaining m T     the others
+--   basis m T         "The remaining table rows, without their m zeros, are the basis"
+--   Found             "no whole numbers satisfy the rows", or the starting list and the basis
+--   Solved            what is found, the form, and whether the problem is past the elimination limit (refusal 7)
 --   right_side m T o v   the right side v of a form T, with what is found; by `after_leading`, from the list after the leading rows
---   list_left m T v  the list that v has become then: after the leading rows where no whole numbers satisfy the rows, else after the others
---                   too; by `left_of`
---   form n A        the form of the tableau of n columns and the matrix A
---   solve n A b     the tableau and the right side of n columns, the matrix A and the right sides b
+--   list_left m T v   the list that v has become then: after the leading rows where no whole numbers satisfy the rows, else after the others
+--                     too; by `left_of`
+--   form n A          the form of the tableau of n columns and the matrix A
+--   solve n A b       the tableau and the right side of n columns, the matrix A and the right sides b
 -- "starting list" is document 01's term: the reduced representative of the coset of solutions. The basis is the kernel basis in Hermite form.
 -- Assumes nothing.
 use Rattle.std.specs.Prelude.{Bool, false, cond, ◌||◌, List, [], ◌∷◌, ◌++◌, map, ℕ, ◌+◌, ltb, ℤ, length, take, drop}

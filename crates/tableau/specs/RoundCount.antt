@@ -2,7 +2,7 @@
 --   gather_rounds f c z b B   the rounds of `gather f c z b B`. A look that finds only 0 chooses nothing and is none; a lone entry is chosen once
 --   column_rounds c B z       those of column c, with the choice z among the rows B from row k on
 --   rounds_from d c A B       those of d columns from c on
---   rounds w T               those of `eliminate w T`
+--   rounds w T                those of `eliminate w T`
 --   form_rounds n A           those of the form of n columns and the matrix A
 --   first_bits z              "the bit length of its first pivot", of a column whose first choice is z; 0 where the column is passed over
 --   refused_none over k       "A refusal returns 0 rounds.": k, or 0 where a number lies beyond ±M

@@ -1,7 +1,7 @@
 -- Document 02, (vii): "Forms and starting lists are unchanged where neither way meets 7." The other way is document 01's, where gathering takes the
 -- rounded-down quotient.
---   form_down n A        the form of the tableau of n columns and the matrix A, that way
---   solve_down n A b     the tableau and the right side, that way
+--   form_down n A       the form of the tableau of n columns and the matrix A, that way
+--   solve_down n A b    the tableau and the right side, that way
 --   FormUnchanged       the form is the same
 --   FoundUnchanged      and so is what is found: "none", or the starting list and the basis
 --   SolveUnchanged      where neither way is past the elimination limit, all of it is the same

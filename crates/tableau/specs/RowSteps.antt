@@ -1,12 +1,12 @@
 -- What the functions on rows ask and what they leave.
---   Stops over l r t   what a function that stops at the first number beyond ±M answers, r, and leaves, t: whether there is one, and where
---                      there is none, the list l
+--   Stops over l r t    what a function that stops at the first number beyond ±M answers, r, and leaves, t: whether there is one, and where
+--                       there is none, the list l
 --   StopsRow, StopsRun   that of a row after a subtraction, and of a table after steps
 --   quotient_of way     the quotient by which a pivot is taken from the rows below it, or from those above
 --   row_step way c r    a row's step by the row r at column c: gathering's in the lower rows, or that in the rows above
 --   each_of way c r k   that of each of k rows in one list
---   Pivot w c r        r has w numbers within ±M, 0 before column c and above 0 there
---   Leads r            r's first number other than 0 is above 0: it has one
+--   Pivot w c r         r has w numbers within ±M, 0 before column c and above 0 there
+--   Leads r             r's first number other than 0 is above 0: it has one
 --   left_after x s      what a row's buffer s holds after the step x: all 0 where a number lies beyond ±M
 -- Assumes nothing.
 use Rattle.std.specs.Prelude.{◌≡◌, Bool, false, cond, List, ℕ, ℤ, length}

@@ -3,7 +3,7 @@
 --   tableau_from k j n A   the table rows j to j + k − 1
 --   tableau n A     "One table row per column of the problem: table row j is column j of the matrix (m numbers), then the j-th unit list (n
 --                   numbers)."
---   max_width        the most numbers that a row of a table can have: those of a group's table
+--   max_width       the most numbers that a row of a table can have: those of a group's table
 -- Columns are counted from 0.
 -- Assumes nothing.
 use Rattle.std.specs.Prelude.{List, [], ◌∷◌, ◌++◌, map, ℕ, zero, suc, ◌+◌, ℤ}

@@ -1,11 +1,11 @@
 -- What the functions on the rows from row k on ask and what they leave. A tail is those rows in one list.
---   Tail k w c t       t is k rows of w numbers within ±M, each 0 before column c
---   Picked k w c t j   row j of t is gathering's choice at column c
---   lower_first w j t   t with its first row in the place of row j too
---   brought w j t      t with its first row and row j swapped
---   lifted_row w c j t  row j, negated if its entry is negative
---   Lifted             the row that is brought to the top, and the tail then
---   Gathers            what a function that gathers, and stops at a number beyond ±M, answers and leaves
+--   Tail k w c t         t is k rows of w numbers within ±M, each 0 before column c
+--   Picked k w c t j     row j of t is gathering's choice at column c
+--   lower_first w j t    t with its first row in the place of row j too
+--   brought w j t        t with its first row and row j swapped
+--   lifted_row w c j t   row j, negated if its entry is negative
+--   Lifted               the row that is brought to the top, and the tail then
+--   Gathers              what a function that gathers, and stops at a number beyond ±M, answers and leaves
 --   round_of, gathering_of   a round, and gathering, of a tail; gathering_rounds_of, its rounds
 -- Assumes nothing.
 use Rattle.std.specs.Prelude.{◌≡◌, Bool, false, List, ◌∷◌, ◌++◌, ℕ, ◌+◌, ◌*◌, ◌-◌, ◌<◌, ℤ, length, take, drop}

@@ -1,10 +1,10 @@
 -- Laws of `overwritten` for any element, and of `Wrote`.
---   length_written                 a list that fits leaves the buffer as long as it was
---   written_none, -all, -one       no element, as many as the buffer has, and one
---   written_then                   two lists, one after the other
---   copied_none, -more, -all       a loop that copies: none, one more, and all elements stand in the buffer
---   wrote_none, -length, -then     the same of words, each with the place after it
---   room_first, -next, wrote_both  two words in a buffer that has room for both
+--   length_written                  a list that fits leaves the buffer as long as it was
+--   written_none, -all, -one        no element, as many as the buffer has, and one
+--   written_then                    two lists, one after the other
+--   copied_none, -more, -all        a loop that copies: none, one more, and all elements stand in the buffer
+--   wrote_none, -length, -then      the same of words, each with the place after it
+--   room_first, -next, wrote_both   two words in a buffer that has room for both
 -- Assumes nothing.
 use mathlib.Core.Path.{◌≡◌, sym, ap, ◌∙◌}
 use mathlib.Core.List.{List, [], ◌∷◌, ◌++◌, append-nil, append_assoc}

@@ -1,9 +1,9 @@
 -- Laws of `natural` and `integer`.
---   tenth_less                       a number of two digits or more has a smaller tenth
---   natural_small, -more             its clauses, with the room for digits out of sight
---   length_natural, length_integer   a number below a power of ten has no more digits than the power says
---   integer_low, -high               with a sign, and without
---   length_more, wrote_small, -more  written: one digit, and the last digit behind those of the tenth
+--   tenth_less                        a number of two digits or more has a smaller tenth
+--   natural_small, -more              its clauses, with the room for digits out of sight
+--   length_natural, length_integer    a number below a power of ten has no more digits than the power says
+--   integer_low, -high                with a sign, and without
+--   length_more, wrote_small, -more   written: one digit, and the last digit behind those of the tenth
 -- Assumes nothing.
 use mathlib.Core.Path.{◌≡◌, refl, ap, subst}
 use mathlib.Core.Bool.{Bool, true, false, cond}

@@ -1,13 +1,13 @@
 -- Laws of tokens at the code's positions.
---   stretch_more, -stop, -end   a gap or a run, a byte at a time; run-le: it ends within the text
---   runs_blank, -gap, -first    what opens a text does not count, and then comes the first run
---   digit_low, -high            a digit is 48 to 57
---   worth_none, -more, -stop    what digits are worth, a byte at a time; value-below, plain-below: which is below a power of ten
---   needed_none, -zero, -other  the test of a needless zero
+--   stretch_more, -stop, -end    a gap or a run, a byte at a time; run-le: it ends within the text
+--   runs_blank, -gap, -first     what opens a text does not count, and then comes the first run
+--   digit_low, -high             a digit is 48 to 57
+--   worth_none, -more, -stop     what digits are worth, a byte at a time; value-below, plain-below: which is below a power of ten
+--   needed_none, -zero, -other   the test of a needless zero
 --   unsigned_is, -not, minus_is, -not   a run's token, from what its digits are worth
---   token_none, -minus, -plain  a run by its first byte
---   next_is, next_end           what stands at or after a position
---   tokens_found, tokens_end    what `next_at` finds from a position on is the head of the tokens from there, and the rest stands after it
+--   token_none, -minus, -plain   a run by its first byte
+--   next_is, next_end            what stands at or after a position
+--   tokens_found, tokens_end     what `next_at` finds from a position on is the head of the tokens from there, and the rest stands after it
 --   Met, found_token, end_token   and the other way round: the head of these tokens is what it finds
 -- Assumes nothing.
 -- ---- gaps and runs, a byte at a time

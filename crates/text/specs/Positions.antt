@@ -1,9 +1,9 @@
 -- How a text is walked: from a position on.
 --   stretch t s      how many bytes open the text s that part numbers, where t is true, or how many others; `belongs` tests a byte
 --   gap s, run s     both of them
---   worth_of w        what bytes are worth if all are digits (Worth is declared in src/)
---   plain_worth w     what they are worth if they are a number with no sign
---   next_at s at      the first token at or after a position, and where it ends (Next is declared in src/); next_from takes the place after the
+--   worth_of w       what bytes are worth if all are digits (Worth is declared in src/)
+--   plain_worth w    what they are worth if they are a number with no sign
+--   next_at s at     the first token at or after a position, and where it ends (Next is declared in src/); next_from takes the place after the
 --                    gap. The laws tokens-found and tokens-end of proofs/Scanning say that it is the head of `tokens (drop at s)`, and that the
 --                    rest stands after it
 -- Assumes nothing.

@@ -1,11 +1,11 @@
 -- Document 01, "Continue, text, listing": the numbers of a text. "The text is numbers (optional minus, 1 to 10 digits, no needless zero in front, no
 -- −0) parted by runs of byte 32 or 10, which may also open and close it."
---   is_blank b     a byte that parts numbers
+--   is_blank b    a byte that parts numbers
 --   runs s        the runs of other bytes, in order; `opens` tests whether one goes on, and `join` puts a byte in front
 --   is_digit, all_digits, value     a digit, digits alone, and what digits are worth after others
 --   max_digits, no_needless_zero, is_plain   "1 to 10 digits, no needless zero in front"
 --   Token         a run that is a number, or one that is none (declared in src/)
---   token_of w     what a run is: `after_minus` or `unsigned`
+--   token_of w    what a run is: `after_minus` or `unsigned`
 --   tokens s      what the runs of a text are, in order
 -- A text is the list of its bytes.
 -- Assumes nothing.

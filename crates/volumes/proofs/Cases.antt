@@ -1,7 +1,7 @@
 -- Cases of the section of volumes that the checker computes, of a text with four intervals and one row.
---   forty_eight, many    48 or the largest number in front of a text, as `digit` and `minus_one` put one digit or −1 there
+--   forty_eight, many   48 or the largest number in front of a text, as `digit` and `minus_one` put one digit or −1 there
 --   reads s             what the section s gives
---   rows_of vs           the coefficients of the rows that the volumes vs add
+--   rows_of vs          the coefficients of the rows that the volumes vs add
 --   VolumeCases         the cases, one to a field; volume-cases, they hold
 -- Assumes nothing.
 use mathlib.Core.Path.{◌≡◌, refl}

@@ -1,7 +1,7 @@
 -- Laws of lines end to end, and of the lines that volumes add.
 --   tables_two                    the rows of lines end to end, as a table
 --   swept_slacks, -rights, no_column_lem   a path's line is an equal row with the number 0: it has no y, and its right side is 0
---   term_row n l                   the row of a line without a y: its terms alone; swept-table, those of the lines that volumes add
+--   term_row n l                  the row of a line without a y: its terms alone; swept-table, those of the lines that volumes add
 -- Assumes nothing.
 use mathlib.Core.Path.{◌≡◌, refl, sym, ap, ap₂, ◌∙◌}
 use mathlib.Core.List.{List, [], ◌∷◌, ◌++◌, map, append-nil}

@@ -1,14 +1,14 @@
 -- Laws of the line of a path, and of the row that two paths make.
---   entry_termed               what stands at a place once the terms of a path are placed
---   entry_ones, one_on         what stands at an interval's place, and whether it tells that the interval is on the path
---   ones_none, -more, -are     the line of no index, of one more, and what all of them are; length-ones, how long
---   on_without, named_without  the indices of a path that are not on another
---   path_row                   path 1 less path k, as a row of n numbers; swept-row, of the largest size
+--   entry_termed                what stands at a place once the terms of a path are placed
+--   entry_ones, one_on          what stands at an interval's place, and whether it tells that the interval is on the path
+--   ones_none, -more, -are      the line of no index, of one more, and what all of them are; length-ones, how long
+--   on_without, named_without   the indices of a path that are not on another
+--   path_row                    path 1 less path k, as a row of n numbers; swept-row, of the largest size
 -- Assumes nothing.
 use mathlib.Core.Path.{◌≡◌, refl, sym, ◌∙◌, ap, ap₂, subst}
 use mathlib.Core.Bool.{Bool, true, false, cond, not, ◌&&◌, ◌||◌}
 use mathlib.Core.List.{List, [], ◌∷◌, ◌++◌}
-use Prim.Native.Nat.{ℕ, suc, ◌+◌, ◌-◌, ◌≤◌, ◌<◌}
+use Prim.Native.Nat.{ℕ, suc, ◌-◌, ◌≤◌, ◌<◌}
 use native.Mathlib.Omega.{arith}
 use borrow.Author.Tests.{eqb-true, eqb-false, ltb-true, ltb-false}
 use lib.Dec.{eqb, ltb}

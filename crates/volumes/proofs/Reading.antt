@@ -1,8 +1,8 @@
 -- What the section of volumes gives where it is read.
---   Distinct p             no index comes twice on the path p
---   Proper n p             the path p of a text with n intervals: its indices name intervals, none comes twice
---   EachProper, AllProper  so it is on each path of a volume, and of all volumes
---   section_proper         the volumes that were read are so
+--   Distinct p              no index comes twice on the path p
+--   Proper n p              the path p of a text with n intervals: its indices name intervals, none comes twice
+--   EachProper, AllProper   so it is on each path of a volume, and of all volumes
+--   section_proper          the volumes that were read are so
 -- Assumes nothing.
 use mathlib.Core.Path.{◌≡◌, refl, sym, subst}
 use mathlib.Core.Bool.{Bool, true, false, cond}

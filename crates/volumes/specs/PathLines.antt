@@ -1,6 +1,6 @@
 -- Document 02, (iii): the rows that volumes add. "Path 1 less path k equals 0 is added, after all rows so far and in text order, as an equal row like
 -- any other for each later path. An interval on both paths cancels and leaves no term."
---   without q p         the indices of the path p that are not on the path q
+--   without q p          the indices of the path p that are not on the path q
 --   terms_of c p         a term with the coefficient c for each index of the path p
 --   path_terms first p   path 1 less path k: what is on the one of them alone
 --   path_line first p    the row of a later path, as a line; its terms need not rise

@@ -1,14 +1,14 @@
 -- Document 02, (iii), swept volumes: the third section of a text. "A third section follows the rows: the count of volumes; for each, its count of
 -- paths; for each path, its count of intervals and their indices in any order."
---   SweepPath               a path: the indices of its intervals, from 1, in the order of the text
---   Volume                  a volume: its paths, in the order of the text
---   is_on j p                the index j stands on the path p
---   index, indices          an index after those of its path so far, and so many of them
---   path, paths             a path of a text with so many intervals, and so many of them
---   later_paths k            how many paths come after the first, of k
+--   SweepPath                 a path: the indices of its intervals, from 1, in the order of the text
+--   Volume                    a volume: its paths, in the order of the text
+--   is_on j p                 the index j stands on the path p
+--   index, indices            an index after those of its path so far, and so many of them
+--   path, paths               a path of a text with so many intervals, and so many of them
+--   later_paths k             how many paths come after the first, of k
 --   with_rows, path_count     a count of paths, where there are rows already
---   volume, volumes         a volume, and so many of them, where there are rows already
---   volume_section s n m at  the section of volumes of a text with n intervals and m rows
+--   volume, volumes           a volume, and so many of them, where there are rows already
+--   volume_section s n m at   the section of volumes of a text with n intervals and m rows
 -- "volume" and "path" are document 02's own terms. 13 and the new 1 come "at that number's place in the text": a count of volumes or of
 -- intervals that is only too large is not refused there, and then the text ends (11) or an index comes twice (13).
 -- Assumes nothing.

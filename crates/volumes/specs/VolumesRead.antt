@@ -1,17 +1,17 @@
 -- What the functions of the section of volumes answer, as outcomes, and what they leave in the buffers that they are lent.
---   count_got_of               a count that was read, as an outcome
+--   count_got_of             a count that was read, as an outcome
 --   Names n j                the index j names one of n intervals; Named n p, so does each index of the path p; EachNamed, so it is on each path
---   ones_of p                 the line of the path p, of the largest size: 1 for each of its intervals, 0 for the others
+--   ones_of p                the line of the path p, of the largest size: 1 for each of its intervals, 0 for the others
 --   Ones v                   a line of the largest size, of numbers no larger than 1
 --   PathRead                 a path, as an outcome, with its line where it was not refused: PathStored
---   later_row f p             the row of the later path p, where path 1 has the line f
+--   later_row f p            the row of the later path p, where path 1 has the line f
 --   LaterRead, PathsRead     the next later path, and all later ones of a volume, as outcomes, with the rows that they left: LaterStored, PathsStored
 --   VolumeRead               a volume, likewise: VolumeStored
 --   VolumesDone              what the section of volumes answers and leaves; `volumes_done` makes one
---   volumes_left c t o        that of the outcome o, from the cursor c on in the table t: the rows behind those that are there, or 0
+--   volumes_left c t o       that of the outcome o, from the cursor c on in the table t: the rows behind those that are there, or 0
 --   SectionRead              the same, where what a refused section left is open
 -- Assumes nothing.
-use Rattle.std.specs.Prelude.{◌≡◌, List, [], ◌∷◌, ◌++◌, map, ℕ, ◌+◌, ◌*◌, ◌≤◌, ℤ, pos, nat_abs, length}
+use Rattle.std.specs.Prelude.{◌≡◌, List, ◌++◌, map, ℕ, ◌+◌, ◌*◌, ◌≤◌, ℤ, pos, nat_abs, length}
 use Rattle.whole.specs.Lists.{entry}
 use Rattle.lattice.specs.Rows.{minus, flat}
 use Rattle.lattice.specs.Span.{All}

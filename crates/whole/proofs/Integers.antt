@@ -8,7 +8,7 @@
 --   positive-.., above-..    what "above 0" says
 --   multiple-..              multiples of a number above 0: which is 0, which two are the same
 --   floor_quotient_low, -high what the floor quotient leaves lies in 0 to p − 1
---   floor_quotient_left       and has a magnitude below p
+--   floor_quotient_left      and has a magnitude below p
 --   floor_by_machine         the floor quotient is the machine's, which cuts towards 0, less 1 where the remainder is below 0
 -- Assumes nothing.
 use mathlib.Core.Path.{◌≡◌, refl, ◌∙◌, ap}

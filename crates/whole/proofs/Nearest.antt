@@ -1,9 +1,9 @@
 -- Laws of the quotient of document 02, (vii), "the nearest quotient, floor((2 × entry + p) / 2p)", for p above 0.
---   nearest_left e p      what the nearest quotient leaves of e, e − q p
+--   nearest_left e p     what the nearest quotient leaves of e, e − q p
 --   halves               quotients of halves, computed: a half is rounded upwards
 --   nearest_low, -high   twice what it leaves lies in −p to p − 1
 --   nearest_half         so that twice the magnitude of what it leaves is at most p
---   nearest_left_lem         and that magnitude is below p, which is all that the steps of elimination ask of a quotient
+--   nearest_left_lem     and that magnitude is below p, which is all that the steps of elimination ask of a quotient
 --   quotient_small       a quotient that leaves less than p is no larger than the entry
 --   nearest_small        so is the nearest
 --   nearest_one          by 1 it is the entry

@@ -1,12 +1,12 @@
 -- Laws of signed numbers. A bound on a signed number is a bound on its `nat_abs`.
---   sub_ge, sub_lt       a difference of two naturals, where the test is known
---   abs_neg, -add, -mul  magnitudes of the operations
---   sfits_abs            a number of magnitude below 2 to the 63rd is an i64
---   back                 what the machine reads back is what was stored
---   flip, flip-..        −1 − z, which is an i64 where z is
---   over                 what the machine's division by a number above 0 asks for
+--   sub_ge, sub_lt        a difference of two naturals, where the test is known
+--   abs_neg, -add, -mul   magnitudes of the operations
+--   sfits_abs             a number of magnitude below 2 to the 63rd is an i64
+--   back                  what the machine reads back is what was stored
+--   flip, flip-..         −1 − z, which is an i64 where z is
+--   over                  what the machine's division by a number above 0 asks for
 --   rem_fits, floor_fits the remainder and the floor quotient are i64s where the number divided is
---   lt_zero              what a test against 0 says of the sign
+--   lt_zero               what a test against 0 says of the sign
 -- Assumes nothing.
 use mathlib.Core.Path.{◌≡◌, refl, ap, ◌∙◌}
 use mathlib.Core.Bool.{Bool, true, false, not}

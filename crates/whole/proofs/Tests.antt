@@ -1,9 +1,9 @@
 -- Laws of tests.
---   both_true, all_true        where two or all_true tests hold together, each of them holds
---   neither                    where neither of two marks is set
---   passed, failed             what a test t is, where the code branches on its result r
---   not_less                   "at most", by the test that the code makes
---   range_low, -spans, -small  a range from 0 to k: no number below 0 lies in it, of the others those whose magnitude is at most k
+--   both_true, all_true         where two or all_true tests hold together, each of them holds
+--   neither                     where neither of two marks is set
+--   passed, failed              what a test t is, where the code branches on its result r
+--   not_less                    "at most", by the test that the code makes
+--   range_low, -spans, -small   a range from 0 to k: no number below 0 lies in it, of the others those whose magnitude is at most k
 -- Assumes nothing.
 use mathlib.Core.Path.{◌≡◌, refl, sym, ◌∙◌}
 use mathlib.Core.Bool.{Bool, true, false, not, ◌&&◌, ◌||◌, and-eq-true_iff, true≢false, false≢true}

@@ -1,8 +1,8 @@
 -- The greatest common divisor.
 --   divisor_by f a b   at most f calls
---   divisor a b       "The divisor of a number and 0 is that number; otherwise it is that of the second and the remainder."
---   Greatest a b d    d is the greatest common divisor of a and b: it divides both, and whatever divides both divides it
---   DivisorGreatest   the divisor of a and b is that
+--   divisor a b        "The divisor of a number and 0 is that number; otherwise it is that of the second and the remainder."
+--   Greatest a b d     d is the greatest common divisor of a and b: it divides both, and whatever divides both divides it
+--   DivisorGreatest    the divisor of a and b is that
 -- d ∣ a is mathlib's: a is d times some natural number, so that every number divides 0 and 0 divides 0 alone.
 -- The second number falls at each call, so that one call more than its value is enough.
 -- Assumes nothing.

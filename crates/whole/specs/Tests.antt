@@ -1,5 +1,5 @@
 -- Tests on whole numbers and on counted places.
---   is_zero x          x is 0
+--   is_zero x         x is 0
 --   spans k x         x lies in −k to k
 --   inRange lo hi x   x lies in lo to hi
 --   every k f         f holds at 0 to k − 1

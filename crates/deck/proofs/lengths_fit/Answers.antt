@@ -10,7 +10,8 @@ pub returns-then-rights-ne-ROWS : goal.returns-then-rights-ne-ROWS
 returns-then-rights-ne-ROWS c = rw (eq-eqb _ _ c.if-coefficients-ne-COEFFICIENTS.false, ne_eqb _ _ c.if-rights-ne-ROWS.true)
 
 pub returns-then-lower-ne-COLUMNS : goal.returns-then-lower-ne-COLUMNS
-returns-then-lower-ne-COLUMNS c = rw (eq-eqb _ _ c.if-coefficients-ne-COEFFICIENTS.false, eq-eqb _ _ c.if-rights-ne-ROWS.false, ne_eqb _ _ c.if-lower-ne-COLUMNS.true)
+returns-then-lower-ne-COLUMNS c =
+    rw (eq-eqb _ _ c.if-coefficients-ne-COEFFICIENTS.false, eq-eqb _ _ c.if-rights-ne-ROWS.false, ne_eqb _ _ c.if-lower-ne-COLUMNS.true)
 
 pub returns-then-upper-ne-COLUMNS : goal.returns-then-upper-ne-COLUMNS
 returns-then-upper-ne-COLUMNS c =

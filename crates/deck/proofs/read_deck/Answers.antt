@@ -14,7 +14,8 @@ use Rattle.deck.specs.Posing.{deck}
 use Rattle.deck.specs.Reader.{DeckBuffers, deck_buffers, lengths_fit}
 use Rattle.deck.specs.ReaderTables.{DeckStored, DeckRead}
 use Rattle.deck.proofs.Whole.{read_short, read_long, read_not, Largest, sizes, Holds, holds, sized, small, accepting}
-use Rattle.deck.proofs.read_deck.Goals.{After-compact, After-copy, After-lengths_fit, After-pick_columns, After-scan-d, After-wipe, Else-not-lengths_fit, Else-text-gt-TEXT, Start}
+use Rattle.deck.proofs.read_deck.Goals.{After-compact, After-copy, After-lengths_fit, After-pick_columns, After-scan-d, After-wipe}
+use Rattle.deck.proofs.read_deck.Goals.{Else-not-lengths_fit, Else-text-gt-TEXT, Start}
 use Rattle.deck.proofs.read_deck.Goals as goal
 
 -- the lists that are lent, and what the test says of their lengths
@@ -116,7 +117,8 @@ module _ (c : After-compact) where
 
 pub returns-then-not-lengths_fit : goal.returns-then-not-lengths_fit
 returns-then-not-lengths_fit c =
-    sym (read_short c.args.text.now (lent (goal.at.returns-then-not-lengths_fit c).Start) (tested (goal.at.returns-then-not-lengths_fit c).After-lengths_fit ∙ c.if-not-lengths_fit.true))
+    sym (read_short c.args.text.now (lent (goal.at.returns-then-not-lengths_fit c).Start)
+    (tested (goal.at.returns-then-not-lengths_fit c).After-lengths_fit ∙ c.if-not-lengths_fit.true))
 
 pub returns-then-text-gt-TEXT : goal.returns-then-text-gt-TEXT
 returns-then-text-gt-TEXT c =
@@ -160,7 +162,8 @@ pub returns-in-Read : goal.returns-in-Read
 returns-in-Read c =
     let a = (goal.at.returns-in-Read c).After-compact in
     let s = scanned a in
-    accepting (text s) (cursor a) (k s) (b s) (t s) (accepted a) (coefficients a) (rights a) (lower a) (upper a) (low a) (high a) (out a) (lent (start s))
+    accepting (text s) (cursor a) (k s) (b s) (t s) (accepted a) (coefficients a) (rights a) (lower a) (upper a) (low a) (high a) (out a)
+    (lent (start s))
     c.hand_in.new.given c.hand_in.new.ideals (fitting s) (looked s).if-text-gt-TEXT.false c.hand_in.ensures.0 c.hand_in.ensures.1
 
 pub returns-in-Refused : goal.returns-in-Refused

@@ -132,7 +132,8 @@ returns-in-Refused-v c =
     let b = after_b v in
     let a = after_a b in
     deck_volumes (text a) (cursor b) (further v) (columns a) _ _ _ (begun b) (read_rows v) _
-    (volumes_refused (further v) b.read_rows-b.new.table v.read_volumes-v.new.table (swept v) _ (ap (told v) (sym c.in-Refused-v.is) ∙ c.read_volumes-v.ensures))
+    (volumes_refused (further v) b.read_rows-b.new.table v.read_volumes-v.new.table (swept v) _
+    (ap (told v) (sym c.in-Refused-v.is) ∙ c.read_volumes-v.ensures))
 
 pub returns-in-Refused-b : goal.returns-in-Refused-b
 returns-in-Refused-b c =

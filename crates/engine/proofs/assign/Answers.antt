@@ -136,7 +136,8 @@ slice_bounds-solve-end c = sym (length-take-le _ _ (f (goal.at.slice_bounds-solv
 pub solve-solved-requires : goal.solve-solved-requires
 solve-solved-requires c =
     let s = at (goal.at.solve-solved-requires c).In_default in
-    solvable (P s) (lent_of (B s)) (q (goal.at.solve-solved-requires c).In_default) s.args.tableau.now _ refl (length-take-le _ _ (f (goal.at.solve-solved-requires c).In_default).few_columns)
+    solvable (P s) (lent_of (B s)) (q (goal.at.solve-solved-requires c).In_default) s.args.tableau.now _ refl
+    (length-take-le _ _ (f (goal.at.solve-solved-requires c).In_default).few_columns)
 
 pub overflow_mul-k : goal.overflow_mul-k
 overflow_mul-k c = omega (arith, (fit c).few_columns)
@@ -145,7 +146,9 @@ pub slice_bounds-columns-end : goal.slice_bounds-columns-end
 slice_bounds-columns-end c = omega (arith, (fit c).few_columns)
 
 pub slice_bounds-pack-end : goal.slice_bounds-pack-end
-slice_bounds-pack-end c = part_length (cells (P (from (over (goal.at.slice_bounds-pack-end c).In-Found)))) _ (omega (arith, (fit (goal.at.slice_bounds-pack-end c).In-Found).few_columns))
+slice_bounds-pack-end c =
+    part_length (cells (P (from (over (goal.at.slice_bounds-pack-end c).In-Found)))) _
+    (omega (arith, (fit (goal.at.slice_bounds-pack-end c).In-Found).few_columns))
 
 pub pack-requires : goal.pack-requires
 pack-requires c =
@@ -191,7 +194,8 @@ returns-in-Over c =
     let s = from (goal.at.returns-in-Over c).After-solve-solved in
     let r : Over ≡ solution_of (solved (P s)) = answered (goal.at.returns-in-Over c).After-solve-solved c.in-Over.is in
     ap (λ (x : Reply). done_by x c.solve-solved.new.t s.args.values.now s.args.strides.now) c.reply_of-in-Over.ensures
-    ∙ ap (λ (t : List ℤ). refused Elimination t (B s)) (holds (goal.at.returns-in-Over c).After-solve-solved (solution_over (solved (P s)) r)) ∙ sym (assign_over (P s) (B s) r)
+    ∙ ap (λ (t : List ℤ). refused Elimination t (B s)) (holds (goal.at.returns-in-Over c).After-solve-solved (solution_over (solved (P s)) r))
+    ∙ sym (assign_over (P s) (B s) r)
     ∙ sym (assign_passed (P s) (B s) (passed (checked (goal.at.returns-in-Over c).After-solve-solved)))
 
 pub shape_of-tableau-in-None : goal.shape_of-tableau-in-None
@@ -202,7 +206,8 @@ returns-in-None c =
     let s = from (goal.at.returns-in-None c).After-solve-solved in
     let r : None ≡ solution_of (solved (P s)) = answered (goal.at.returns-in-None c).After-solve-solved c.in-None.is in
     ap (λ (x : Reply). done_by x c.solve-solved.new.t s.args.values.now s.args.strides.now) c.reply_of-in-None.ensures
-    ∙ ap (λ (t : List ℤ). refused NoWholeNumbers t (B s)) (holds (goal.at.returns-in-None c).After-solve-solved (solution_none (solved (P s)) r)) ∙ sym (assign_none (P s) (B s) r)
+    ∙ ap (λ (t : List ℤ). refused NoWholeNumbers t (B s)) (holds (goal.at.returns-in-None c).After-solve-solved (solution_none (solved (P s)) r))
+    ∙ sym (assign_none (P s) (B s) r)
     ∙ sym (assign_passed (P s) (B s) (passed (checked (goal.at.returns-in-None c).After-solve-solved)))
 
 pub shape_of-tableau-in-Found : goal.shape_of-tableau-in-Found

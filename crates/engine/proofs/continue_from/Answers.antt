@@ -71,9 +71,11 @@ module _ (w : In_default) where
 pub returns-in-Failed : goal.returns-in-Failed
 returns-in-Failed c =
     let s = under (goal.at.returns-in-Failed c).After-lay_ground-ground in
-    ap (λ (r : Reply). done_by r (tableau (goal.at.returns-in-Failed c).After-lay_ground-ground) s.args.values.now s.args.strides.now) c.reply_of.ensures
+    ap (λ (r : Reply). done_by r (tableau (goal.at.returns-in-Failed c).After-lay_ground-ground) s.args.values.now s.args.strides.now)
+    c.reply_of.ensures
     ∙ ap (by_ground (λ why t. refused why t (B s)) _)
-    (ap (λ (r : Check). grounded r c.lay_ground-ground.result.rounds (tableau (goal.at.returns-in-Failed c).After-lay_ground-ground)) (sym c.in-Failed.is)
+    (ap (λ (r : Check). grounded r c.lay_ground-ground.result.rounds (tableau (goal.at.returns-in-Failed c).After-lay_ground-ground))
+    (sym c.in-Failed.is)
     ∙ c.lay_ground-ground.ensures.0)
     ∙ sym (continue_ground (P s) (B s))
 
@@ -84,11 +86,15 @@ pub slice_bounds-columns-end : goal.slice_bounds-columns-end
 slice_bounds-columns-end c = room (goal.at.slice_bounds-columns-end c).In_default
 
 pub slice_bounds-settle_over-end : goal.slice_bounds-settle_over-end
-slice_bounds-settle_over-end c = table_fills (P (at (goal.at.slice_bounds-settle_over-end c).In_default)) _ (packed (goal.at.slice_bounds-settle_over-end c).In_default)
+slice_bounds-settle_over-end c =
+    table_fills (P (at (goal.at.slice_bounds-settle_over-end c).In_default)) _ (packed (goal.at.slice_bounds-settle_over-end c).In_default)
 
 pub settle_over-answer-requires : goal.settle_over-answer-requires
-settle_over-answer-requires c =
-    (clear_placed _ _ _ _ (found (goal.at.settle_over-answer-requires c).In_default) (fit (goal.at.settle_over-answer-requires c).In_default).values_long (packed (goal.at.settle_over-answer-requires c).In_default), record { long = (fit (goal.at.settle_over-answer-requires c).In_default).strides_long })
+settle_over-answer-requires c = (
+  clear_placed _ _ _ _ (found (goal.at.settle_over-answer-requires c).In_default)
+      (fit (goal.at.settle_over-answer-requires c).In_default).values_long (packed (goal.at.settle_over-answer-requires c).In_default),
+  record { long = (fit (goal.at.settle_over-answer-requires c).In_default).strides_long },
+)
 
 pub returns : goal.returns
 returns c =
@@ -99,6 +105,8 @@ returns c =
     ∙ ap₂ (λ (k : ℕ) (x : Finished). done_with k (tableau (over (goal.at.returns c).In_default)) x) (counted (goal.at.returns c).In_default)
     (c.settle_over-answer.ensures
     ∙ ap (λ (C : Columns). settled_over s.args.p C (tableau (over (goal.at.returns c).In_default)) s.args.values.now)
-    (ap (columns_in s.args.p.columns) (packed (goal.at.returns c).In_default) ∙ table_columns (P s) (lent_of (B s)) (fit (goal.at.returns c).In_default)))
-    ∙ sym (continue_settled (P s) (B s) (lent_of (B s)) (clear_passes _ _ _ _ (found (goal.at.returns c).In_default)) (clear_laid _ _ _ _ (found (goal.at.returns c).In_default)) (found (goal.at.returns c).In_default).standing)
+    (ap (columns_in s.args.p.columns) (packed (goal.at.returns c).In_default)
+    ∙ table_columns (P s) (lent_of (B s)) (fit (goal.at.returns c).In_default)))
+    ∙ sym (continue_settled (P s) (B s) (lent_of (B s)) (clear_passes _ _ _ _ (found (goal.at.returns c).In_default))
+    (clear_laid _ _ _ _ (found (goal.at.returns c).In_default)) (found (goal.at.returns c).In_default).standing)
     ∙ sym (continue_passed (P s) (B s) (found (goal.at.returns c).In_default).passed)

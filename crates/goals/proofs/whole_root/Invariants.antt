@@ -1,6 +1,6 @@
 -- What holds at each turn of `goals::whole_root`. Assumes nothing.
 use mathlib.Core.Path.{◌≡◌}
-use Prim.Native.Nat.{ℕ, ◌+◌, ◌-◌, ◌^◌, ◌≤◌}
+use Prim.Native.Nat.{ℕ, ◌+◌, ◌^◌, ◌≤◌}
 use Rattle.goals.specs.Ideals.{root_bits, whole_root}
 use Rattle.goals.proofs.whole_root.Given as goal
 

@@ -28,7 +28,10 @@ use Rattle.joining.proofs.Causes.{join_refused, join_made, first_fails, second_f
 use Rattle.joining.proofs.Causes.{size_fails, lent_fails, none_fails}
 use Rattle.joining.proofs.Made.{Makes, cause_makes}
 use Rattle.joining.proofs.Filled.{Long, lists_long, unshared_most, filling, lists_filled}
-use Rattle.joining.proofs.join.Goals.{After-as_problem-p, After-fill_places, After-join_list, After-join_list-2, After-join_list-3, After-join_list-4, After-join_rights, After-join_rows, After-lists_fit, After-pair_up, After-sizes_fit, After-unshared, Else-not-lists_fit, Else-not-sizes_fit, Else-pairs-ne0, In_default, In_default-pair_up, In_default-part_cause, Start}
+use Rattle.joining.proofs.join.Goals.{After-as_problem-p, After-fill_places, After-join_list, After-join_list-2, After-join_list-3, After-join_list-4}
+use Rattle.joining.proofs.join.Goals.{After-join_rights, After-join_rows, After-lists_fit, After-pair_up, After-sizes_fit, After-unshared}
+use Rattle.joining.proofs.join.Goals.{Else-not-lists_fit, Else-not-sizes_fit, Else-pairs-ne0, In_default, In_default-pair_up, In_default-part_cause}
+use Rattle.joining.proofs.join.Goals.{Start}
 use Rattle.joining.proofs.join.Goals as goal
 
 module _ (s : Start) where
@@ -173,7 +176,8 @@ module _ (c : After-lists_fit) where
 
   lent_tested : c.lists_fit.result
       ≡ lists_fit (joined_sizes (P from_lent) (Q from_lent) (partners (P from_lent) (Q from_lent) (ps from_lent))) (B from_lent)
-  lent_tested = c.lists_fit.ensures ∙ ap (λ (p : Problem). lists_fit p (B from_lent)) (is_sized (goal.at.Else-not-sizes_fit at_lent).After-as_problem-p)
+  lent_tested =
+      c.lists_fit.ensures ∙ ap (λ (p : Problem). lists_fit p (B from_lent)) (is_sized (goal.at.Else-not-sizes_fit at_lent).After-as_problem-p)
 
 -- what has passed before the joined sizes are looked at
 module _ (c : After-unshared) where
@@ -199,8 +203,10 @@ module _ (c : Else-not-lists_fit) where
 
   none : join_cause (P at) (Q at) (ps at) (B at) ≡ Passed
   none =
-      none_fails (P at) (Q at) (ps at) (B at) (one sized_at) (two sized_at) (even (at_even sized_at)) (found (goal.at.After-unshared sized_at).In_default-pair_up)
-      (passed (tested (goal.at.Else-not-sizes_fit lent_at).After-sizes_fit) lent_at.if-not-sizes_fit.false) (passed (lent_tested (goal.at.Else-not-lists_fit c).After-lists_fit) c.if-not-lists_fit.false)
+      none_fails (P at) (Q at) (ps at) (B at) (one sized_at) (two sized_at) (even (at_even sized_at))
+      (found (goal.at.After-unshared sized_at).In_default-pair_up)
+      (passed (tested (goal.at.Else-not-sizes_fit lent_at).After-sizes_fit) lent_at.if-not-sizes_fit.false)
+      (passed (lent_tested (goal.at.Else-not-lists_fit c).After-lists_fit) c.if-not-lists_fit.false)
 
   k : Makes (P at) (Q at) (ps at) (B at)
   k = cause_makes (P at) (Q at) (ps at) (B at) none
@@ -316,20 +322,24 @@ module _ (c : After-join_list-4) where
 
 pub returns-in-Failed : goal.returns-in-Failed
 returns-in-Failed c =
-    join_refused (P (goal.at.returns-in-Failed c).Start) (Q (goal.at.returns-in-Failed c).Start) (ps (goal.at.returns-in-Failed c).Start) (B (goal.at.returns-in-Failed c).Start)
-    (first_fails (P (goal.at.returns-in-Failed c).Start) (Q (goal.at.returns-in-Failed c).Start) (ps (goal.at.returns-in-Failed c).Start) (B (goal.at.returns-in-Failed c).Start) (sym c.part_cause.ensures ∙ c.in-Failed.is))
+    join_refused (P (goal.at.returns-in-Failed c).Start) (Q (goal.at.returns-in-Failed c).Start) (ps (goal.at.returns-in-Failed c).Start)
+    (B (goal.at.returns-in-Failed c).Start)
+    (first_fails (P (goal.at.returns-in-Failed c).Start) (Q (goal.at.returns-in-Failed c).Start) (ps (goal.at.returns-in-Failed c).Start)
+    (B (goal.at.returns-in-Failed c).Start) (sym c.part_cause.ensures ∙ c.in-Failed.is))
 
 pub returns-in-Failed-part_cause : goal.returns-in-Failed-part_cause
 returns-in-Failed-part_cause c =
     let s = from_first (goal.at.returns-in-Failed-part_cause c).In_default in
     join_refused (P s) (Q s) (ps s) (B s)
-    (second_fails (P s) (Q s) (ps s) (B s) (first_passed (goal.at.returns-in-Failed-part_cause c).In_default) (sym c.part_cause-2.ensures ∙ c.in-Failed-part_cause.is))
+    (second_fails (P s) (Q s) (ps s) (B s) (first_passed (goal.at.returns-in-Failed-part_cause c).In_default)
+    (sym c.part_cause-2.ensures ∙ c.in-Failed-part_cause.is))
 
 pub returns-then-pairs-ne0 : goal.returns-then-pairs-ne0
 returns-then-pairs-ne0 c =
     let s = from_second (goal.at.returns-then-pairs-ne0 c).In_default-part_cause in
     join_refused (P s) (Q s) (ps s) (B s)
-    (odd_fails (P s) (Q s) (ps s) (B s) (first_passed (before_second (goal.at.returns-then-pairs-ne0 c).In_default-part_cause)) (second_passed (goal.at.returns-then-pairs-ne0 c).In_default-part_cause) (ne_eqb _ _ c.if-pairs-ne0.true))
+    (odd_fails (P s) (Q s) (ps s) (B s) (first_passed (before_second (goal.at.returns-then-pairs-ne0 c).In_default-part_cause))
+    (second_passed (goal.at.returns-then-pairs-ne0 c).In_default-part_cause) (ne_eqb _ _ c.if-pairs-ne0.true))
 
 pub slice_bounds-partners-end : goal.slice_bounds-partners-end
 slice_bounds-partners-end c = few c
@@ -341,21 +351,26 @@ pub pair_up-requires : goal.pair_up-requires
 pair_up-requires c =
     let x = f (goal.at.pair_up-requires c).In_default-part_cause in
     let y = g (goal.at.pair_up-requires c).In_default-part_cause in
-    record { upper_len = (x.upper_long ∙ sym x.lower_long, y.upper_long ∙ sym y.lower_long); partners_len = length-take-le _ _ (few (goal.at.pair_up-requires c).Else-pairs-ne0) ∙ sym y.lower_long }
+    record {
+      upper_len = (x.upper_long ∙ sym x.lower_long, y.upper_long ∙ sym y.lower_long);
+      partners_len = length-take-le _ _ (few (goal.at.pair_up-requires c).Else-pairs-ne0) ∙ sym y.lower_long;
+    }
 
 pub returns-in-Failed-pair_up : goal.returns-in-Failed-pair_up
 returns-in-Failed-pair_up c =
     let e = at_pairs (goal.at.returns-in-Failed-pair_up c).After-pair_up in
     let s = from_pairs (goal.at.returns-in-Failed-pair_up c).After-pair_up in
     join_refused (P s) (Q s) (ps s) (B s)
-    (pair_fails (P s) (Q s) (ps s) (B s) (first_passed (before_second (goal.at.Else-pairs-ne0 e).In_default-part_cause)) (second_passed (goal.at.Else-pairs-ne0 e).In_default-part_cause) (even e)
+    (pair_fails (P s) (Q s) (ps s) (B s) (first_passed (before_second (goal.at.Else-pairs-ne0 e).In_default-part_cause))
+    (second_passed (goal.at.Else-pairs-ne0 e).In_default-part_cause) (even e)
     (sym (λ i. (paired (goal.at.returns-in-Failed-pair_up c).After-pair_up i).found) ∙ c.in-Failed-pair_up.is))
 
 pub slice_bounds-partners-end-2 : goal.slice_bounds-partners-end-2
 slice_bounds-partners-end-2 c = room (goal.at.slice_bounds-partners-end-2 c).After-pair_up _
 
 pub slice_bounds-unshared-end : goal.slice_bounds-unshared-end
-slice_bounds-unshared-end c = sym (ap length (again (goal.at.slice_bounds-unshared-end c).After-pair_up _) ∙ long (goal.at.slice_bounds-unshared-end c).After-pair_up)
+slice_bounds-unshared-end c =
+    sym (ap length (again (goal.at.slice_bounds-unshared-end c).After-pair_up _) ∙ long (goal.at.slice_bounds-unshared-end c).After-pair_up)
 
 pub overflow_add-s : goal.overflow_add-s
 overflow_add-s c = omega (arith, few_unshared (goal.at.overflow_add-s c).After-unshared, few_first (goal.at.overflow_add-s c).After-unshared)
@@ -363,14 +378,19 @@ overflow_add-s c = omega (arith, few_unshared (goal.at.overflow_add-s c).After-u
 pub overflow_add-s-2 : goal.overflow_add-s-2
 overflow_add-s-2 c =
     let k = at_counted (goal.at.overflow_add-s-2 c).After-unshared in
-    omega (arith, (f (goal.at.Else-pairs-ne0 (at_pairs k)).In_default-part_cause).few_rows, (g (goal.at.Else-pairs-ne0 (at_pairs k)).In_default-part_cause).few_rows)
+    omega (
+      arith,
+      (f (goal.at.Else-pairs-ne0 (at_pairs k)).In_default-part_cause).few_rows,
+      (g (goal.at.Else-pairs-ne0 (at_pairs k)).In_default-part_cause).few_rows,
+    )
 
 pub returns-then-not-sizes_fit : goal.returns-then-not-sizes_fit
 returns-then-not-sizes_fit c =
     let u = at_sized (goal.at.returns-then-not-sizes_fit c).After-as_problem-p in
     let s = from_counted u in
     join_refused (P s) (Q s) (ps s) (B s)
-    (size_fails (P s) (Q s) (ps s) (B s) (one u) (two u) (even (at_even u)) (found (goal.at.After-unshared u).In_default-pair_up) (failed (tested (goal.at.returns-then-not-sizes_fit c).After-sizes_fit) c.if-not-sizes_fit.true))
+    (size_fails (P s) (Q s) (ps s) (B s) (one u) (two u) (even (at_even u)) (found (goal.at.After-unshared u).In_default-pair_up)
+    (failed (tested (goal.at.returns-then-not-sizes_fit c).After-sizes_fit) c.if-not-sizes_fit.true))
 
 pub lists_fit-requires : goal.lists_fit-requires
 lists_fit-requires c =
@@ -382,7 +402,8 @@ returns-then-not-lists_fit c =
     let u = at_sized (goal.at.Else-not-sizes_fit z).After-as_problem-p in
     let s = from_counted u in
     join_refused (P s) (Q s) (ps s) (B s)
-    (lent_fails (P s) (Q s) (ps s) (B s) (one u) (two u) (even (at_even u)) (found (goal.at.After-unshared u).In_default-pair_up) (passed (tested (goal.at.Else-not-sizes_fit z).After-sizes_fit) z.if-not-sizes_fit.false)
+    (lent_fails (P s) (Q s) (ps s) (B s) (one u) (two u) (even (at_even u)) (found (goal.at.After-unshared u).In_default-pair_up)
+    (passed (tested (goal.at.Else-not-sizes_fit z).After-sizes_fit) z.if-not-sizes_fit.false)
     (failed (lent_tested (goal.at.returns-then-not-lists_fit c).After-lists_fit) c.if-not-lists_fit.true))
 
 pub slice_bounds-places-end : goal.slice_bounds-places-end
@@ -395,7 +416,8 @@ pub slice_bounds-partners-end-3 : goal.slice_bounds-partners-end-3
 slice_bounds-partners-end-3 c = room (at_counted (sized_at (goal.at.slice_bounds-partners-end-3 c).Else-not-lists_fit)) _
 
 pub slice_bounds-fill_places-end-2 : goal.slice_bounds-fill_places-end-2
-slice_bounds-fill_places-end-2 c = let p = at_counted (sized_at (goal.at.slice_bounds-fill_places-end-2 c).Else-not-lists_fit) in sym (ap length (again p _) ∙ long p)
+slice_bounds-fill_places-end-2 c =
+    let p = at_counted (sized_at (goal.at.slice_bounds-fill_places-end-2 c).Else-not-lists_fit) in sym (ap length (again p _) ∙ long p)
 
 pub fill_places-requires : goal.fill_places-requires
 fill_places-requires c =
@@ -419,17 +441,28 @@ slice_bounds-t-end c = sym (long_lent (goal.at.slice_bounds-t-end c).After-fill_
 pub join_rows-requires : goal.join_rows-requires
 join_rows-requires c =
     record {
-      coefficients_len = ((x (goal.at.join_rows-requires c).After-fill_places).coefficients_long, (y (goal.at.join_rows-requires c).After-fill_places).coefficients_long, long_lent (goal.at.join_rows-requires c).After-fill_places _);
+      coefficients_len = (
+        (x (goal.at.join_rows-requires c).After-fill_places).coefficients_long,
+        (y (goal.at.join_rows-requires c).After-fill_places).coefficients_long,
+        long_lent (goal.at.join_rows-requires c).After-fill_places _,
+      );
       out_len = (
-        (l (goal.at.join_rows-requires c).After-fill_places).coefficients ∙ ap (λ (m : ℕ). ((by (goal.at.join_rows-requires c).After-fill_places).args.first.rows + (by (goal.at.join_rows-requires c).After-fill_places).args.second.rows) * m) (sym (is_N (goal.at.join_rows-requires c).After-fill_places)),
+        (l (goal.at.join_rows-requires c).After-fill_places).coefficients
+            ∙ ap (λ (m : ℕ).
+            ((by (goal.at.join_rows-requires c).After-fill_places).args.first.rows +
+            (by (goal.at.join_rows-requires c).After-fill_places).args.second.rows) * m)
+            (sym (is_N (goal.at.join_rows-requires c).After-fill_places)),
         omega arith,
-        below (goal.at.join_rows-requires c).After-fill_places (N (goal.at.join_rows-requires c).After-fill_places) _ (is_N (goal.at.join_rows-requires c).After-fill_places),
+        below (goal.at.join_rows-requires c).After-fill_places (N (goal.at.join_rows-requires c).After-fill_places) _
+            (is_N (goal.at.join_rows-requires c).After-fill_places),
       );
     }
 
 pub join_rights-requires : goal.join_rights-requires
 join_rights-requires c =
-    (l (goal.at.join_rights-requires c).After-fill_places).rights ∙ sym (ap₂ ◌+◌ (x (goal.at.join_rights-requires c).After-fill_places).rights_long (y (goal.at.join_rights-requires c).After-fill_places).rights_long)
+    (l (goal.at.join_rights-requires c).After-fill_places).rights
+    ∙ sym (ap₂ ◌+◌ (x (goal.at.join_rights-requires c).After-fill_places).rights_long
+    (y (goal.at.join_rights-requires c).After-fill_places).rights_long)
 
 pub join_list-requires : goal.join_list-requires
 join_list-requires c =
@@ -495,5 +528,6 @@ returns c =
     let p = places_of q in
     (λ i. left (Made (record { columns = N p; rows = (by p).args.first.rows + (by p).args.second.rows }))
     (lists ((rows_of q).join_rows.ensures i) (q.join_rights.ensures i) ((lower_of u).join_list.ensures i) (u.join_list-2.ensures i)
-    ((low_of (goal.at.returns c).After-join_list-4).join_list-3.ensures i) (c.join_list-4.ensures i) (c.join_ideals.ensures.given_after i) (c.join_ideals.ensures.ideals_after i)))
+    ((low_of (goal.at.returns c).After-join_list-4).join_list-3.ensures i) (c.join_list-4.ensures i) (c.join_ideals.ensures.given_after i)
+    (c.join_ideals.ensures.ideals_after i)))
     ∙ joins p _ _ (lent_R p _) (lent_S p _)

@@ -16,7 +16,8 @@ module _ (a : Start) where
 
 pub returns-then-report-ne-REPORT : goal.returns-then-report-ne-REPORT
 returns-then-report-ne-REPORT c =
-    is_untold assign (P (goal.at.returns-then-report-ne-REPORT c).Start) (B (goal.at.returns-then-report-ne-REPORT c).Start) c.args.report.now _ c.if-report-ne-REPORT.true c.number.ensures
+    is_untold assign (P (goal.at.returns-then-report-ne-REPORT c).Start) (B (goal.at.returns-then-report-ne-REPORT c).Start) c.args.report.now _
+    c.if-report-ne-REPORT.true c.number.ensures
 
 pub shape_of-tableau : goal.shape_of-tableau
 shape_of-tableau c = c.assign-reply.auto.tableau
@@ -30,5 +31,6 @@ shape_of-strides c = c.assign-reply.auto.strides
 pub returns : goal.returns
 returns c =
     let e = c.assign-reply in
-    is_told assign (P (goal.at.returns c).Start) (B (goal.at.returns c).Start) c.args.report.now e.result.answer e.result.rounds _ _ _ _ _ c.if-report-ne-REPORT.false
+    is_told assign (P (goal.at.returns c).Start) (B (goal.at.returns c).Start) c.args.report.now e.result.answer e.result.rounds _ _ _ _ _
+    c.if-report-ne-REPORT.false
     e.ensures c.tell.ensures c.number-2.ensures

@@ -1,6 +1,5 @@
 -- `lattice::all_zero` meets its contract: the loop passes the zeros and leaves at the first other number. Assumes nothing.
 use mathlib.Core.Path.{◌≡◌, refl, sym, ◌∙◌}
-use Prim.Native.Nat.{◌-◌}
 use native.Mathlib.Omega.{arith}
 use lib.IntN.{nat_abs}
 use Rattle.whole.specs.Lists.{entry}

@@ -1,7 +1,6 @@
 -- `lattice::lead_from` meets its contract: from its place on the loop passes the zeros, and what is left has its lead one place nearer each time.
 -- Assumes nothing.
 use mathlib.Core.Path.{◌≡◌, refl, sym, ◌∙◌}
-use Prim.Native.Nat.{◌-◌}
 use native.Mathlib.Omega.{arith}
 use lib.IntN.{nat_abs}
 use Rattle.whole.specs.Lists.{entry}

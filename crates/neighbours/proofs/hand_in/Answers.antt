@@ -37,7 +37,8 @@ module _ (c : In-loop-j) where
 
 -- what is handed in for it, and what is written
 handed : (c : After-neighbour_wish-wish) →
-    c.neighbour_wish-wish.result ≡ neighbour_wish (stated (from (goal.at.After-neighbour_wish-wish c).In-loop-j)) (now (goal.at.After-neighbour_wish-wish c).In-loop-j).loop-j.j
+    c.neighbour_wish-wish.result
+    ≡ neighbour_wish (stated (from (goal.at.After-neighbour_wish-wish c).In-loop-j)) (now (goal.at.After-neighbour_wish-wish c).In-loop-j).loop-j.j
 handed c = c.neighbour_wish-wish.ensures
 
 marked : (c : After-wish_mark) →
@@ -46,7 +47,8 @@ marked : (c : After-wish_mark) →
 marked c =
     let s = from (goal.at.After-wish_mark c).In-loop-j in
     back _ c.wish_mark.type_inv ∙ c.wish_mark.ensures ∙ ap wish_mark (handed (goal.at.After-wish_mark c).After-neighbour_wish-wish)
-    ∙ sym (numbers_at (λ j. wish_mark (neighbour_wish (stated s) j)) (room s) 0 (now (goal.at.After-wish_mark c).In-loop-j).loop-j.j (now (goal.at.After-wish_mark c).In-loop-j).loop-j.j (inside (goal.at.After-wish_mark c).In-loop-j) (omega arith))
+    ∙ sym (numbers_at (λ j. wish_mark (neighbour_wish (stated s) j)) (room s) 0 (now (goal.at.After-wish_mark c).In-loop-j).loop-j.j
+    (now (goal.at.After-wish_mark c).In-loop-j).loop-j.j (inside (goal.at.After-wish_mark c).In-loop-j) (omega arith))
 
 numbers_from : (c : After-wish_number) →
     let s = from (goal.at.After-wish_number c).In-loop-j in
@@ -54,7 +56,8 @@ numbers_from : (c : After-wish_number) →
 numbers_from c =
     let s = from (goal.at.After-wish_number c).In-loop-j in
     back _ c.wish_number.type_inv ∙ c.wish_number.ensures ∙ ap wish_number (handed (goal.at.After-wish_number c).After-neighbour_wish-wish)
-    ∙ sym (numbers_at (λ j. wish_number (neighbour_wish (stated s) j)) (room s) 0 (now (goal.at.After-wish_number c).In-loop-j).loop-j.j (now (goal.at.After-wish_number c).In-loop-j).loop-j.j (inside (goal.at.After-wish_number c).In-loop-j) (omega arith))
+    ∙ sym (numbers_at (λ j. wish_number (neighbour_wish (stated s) j)) (room s) 0 (now (goal.at.After-wish_number c).In-loop-j).loop-j.j
+    (now (goal.at.After-wish_number c).In-loop-j).loop-j.j (inside (goal.at.After-wish_number c).In-loop-j) (omega arith))
 
 pub loop-j-init : goal.loop-j-init
 loop-j-init c =
@@ -71,7 +74,12 @@ bounds-given-j c = c.loop-j-test.true
 
 pub bounds-ideals-j : goal.bounds-ideals-j
 bounds-ideals-j c =
-    omega (arith, inside (goal.at.bounds-ideals-j c).In-loop-j, (now (goal.at.bounds-ideals-j c).In-loop-j).loop-j.invariant.1.same, (from (goal.at.bounds-ideals-j c).In-loop-j).requires.2)
+    omega (
+      arith,
+      inside (goal.at.bounds-ideals-j c).In-loop-j,
+      (now (goal.at.bounds-ideals-j c).In-loop-j).loop-j.invariant.1.same,
+      (from (goal.at.bounds-ideals-j c).In-loop-j).requires.2,
+    )
 
 pub loop-j-smaller : goal.loop-j-smaller
 loop-j-smaller c = omega (arith, inside (goal.at.loop-j-smaller c).In-loop-j)
@@ -81,8 +89,10 @@ loop-j-preserved c =
     let s = from (goal.at.loop-j-preserved c).In-loop-j in
     let f = numbers_length (λ j. wish_mark (neighbour_wish (stated s) j)) (room s) 0 in
     let g = numbers_length (λ j. wish_number (neighbour_wish (stated s) j)) (room s) 0 in (
-      goes_on (now (goal.at.loop-j-preserved c).In-loop-j).loop-j.invariant.0 (omega (arith, inside (goal.at.loop-j-preserved c).In-loop-j, f)) (marked (goal.at.loop-j-preserved c).After-wish_mark),
-      goes_on (now (goal.at.loop-j-preserved c).In-loop-j).loop-j.invariant.1 (omega (arith, inside (goal.at.loop-j-preserved c).In-loop-j, g)) (numbers_from c),
+      goes_on (now (goal.at.loop-j-preserved c).In-loop-j).loop-j.invariant.0 (omega (arith, inside (goal.at.loop-j-preserved c).In-loop-j, f))
+          (marked (goal.at.loop-j-preserved c).After-wish_mark),
+      goes_on (now (goal.at.loop-j-preserved c).In-loop-j).loop-j.invariant.1 (omega (arith, inside (goal.at.loop-j-preserved c).In-loop-j, g))
+          (numbers_from c),
     )
 
 pub shape_of-given : goal.shape_of-given

@@ -7,7 +7,8 @@ use Rattle.neighbours.proofs.hand_in.Given as goal
 
 abbrev pub invariant-loop-j : goal.invariant-loop-j
 invariant-loop-j l = let S = stated_by l.shape.columns l.shape.rows l.shape.intervals l.coefficients l.lower l.upper l.low l.high in
-    WrittenTo l.initial.given (given_of S (length l.initial.given)) l.given l.j × WrittenTo l.initial.ideals (ideals_of S (length l.initial.given)) l.ideals l.j
+    WrittenTo l.initial.given (given_of S (length l.initial.given)) l.given l.j
+    × WrittenTo l.initial.ideals (ideals_of S (length l.initial.given)) l.ideals l.j
 
 abbrev pub decreases-loop-j : goal.decreases-loop-j
 decreases-loop-j l = length l.initial.given - l.j

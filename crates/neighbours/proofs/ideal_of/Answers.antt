@@ -19,4 +19,5 @@ wanted c =
 pub returns : goal.returns
 returns c =
     back _ c.into_bounds.type_inv ∙ c.into_bounds.ensures
-    ∙ (λ i. into (to_z-of_z c.ranges.lower i) (to_z-of_z c.ranges.upper i) ((back _ c.goal_ideal-wanted.type_inv ∙ wanted (goal.at.returns c).After-goal_ideal-wanted) i))
+    ∙ (λ i. into (to_z-of_z c.ranges.lower i) (to_z-of_z c.ranges.upper i)
+    ((back _ c.goal_ideal-wanted.type_inv ∙ wanted (goal.at.returns c).After-goal_ideal-wanted) i))

@@ -48,12 +48,17 @@ module _ (c : In-loop-h) where
 goal_tested : (c : After-is_zero) →
     has_goal (stated (from (goal.at.After-is_zero c).In-loop-h)) (column (goal.at.After-is_zero c).In-loop-h) ≡ not c.is_zero.result
 goal_tested c =
-    sym (ap not (c.is_zero.ensures ∙ ap is_zero (back (entry (column (goal.at.After-is_zero c).In-loop-h) (from (goal.at.After-is_zero c).In-loop-h).args.low.now) c.goal-1.given)))
+    sym (ap not
+    (c.is_zero.ensures
+    ∙ ap is_zero (back (entry (column (goal.at.After-is_zero c).In-loop-h) (from (goal.at.After-is_zero c).In-loop-h).args.low.now) c.goal-1.given)))
 
 row_tested : (c : After-share_row) →
-    is_neighbour (stated (from (goal.at.After-share_row c).In-loop-h)) (from (goal.at.After-share_row c).In-loop-h).args.j (column (goal.at.After-share_row c).In-loop-h) ≡ c.share_row.result
+    is_neighbour (stated (from (goal.at.After-share_row c).In-loop-h)) (from (goal.at.After-share_row c).In-loop-h).args.j
+    (column (goal.at.After-share_row c).In-loop-h) ≡ c.share_row.result
 row_tested c =
-    (λ i. (goal_tested (goal.at.After-share_row c).After-is_zero ∙ ap not c.if-not-is_zero.true) i && sym {b = shares (stated (from (goal.at.After-share_row c).In-loop-h)) (from (goal.at.After-share_row c).In-loop-h).args.j (column (goal.at.After-share_row c).In-loop-h)} c.share_row.ensures i)
+    (λ i. (goal_tested (goal.at.After-share_row c).After-is_zero ∙ ap not c.if-not-is_zero.true) i && sym
+    {b = shares (stated (from (goal.at.After-share_row c).In-loop-h)) (from (goal.at.After-share_row c).In-loop-h).args.j
+    (column (goal.at.After-share_row c).In-loop-h)} c.share_row.ensures i)
 
 -- the turn of a neighbour
 abbrev entered : Then-share_row → In-loop-h
@@ -139,7 +144,8 @@ pub ideal_of-sum-requires : goal.ideal_of-sum-requires
 ideal_of-sum-requires c =
     let q = (from (goal.at.ideal_of-sum-requires c).In-loop-h).requires.1 in (
       rw (back _ c.goal-1.given) (q.low (column (goal.at.ideal_of-sum-requires c).In-loop-h) (interval (goal.at.ideal_of-sum-requires c).In-loop-h)),
-      rw (back _ c.ideal_of-arg-then-share_row-2-1.given) (q.high (column (goal.at.ideal_of-sum-requires c).In-loop-h) (interval (goal.at.ideal_of-sum-requires c).In-loop-h)),
+      rw (back _ c.ideal_of-arg-then-share_row-2-1.given)
+          (q.high (column (goal.at.ideal_of-sum-requires c).In-loop-h) (interval (goal.at.ideal_of-sum-requires c).In-loop-h)),
     )
 
 pub overflow_add-sum : goal.overflow_add-sum
@@ -163,7 +169,8 @@ loop-h-smaller-else-share_row c = omega arith
 pub loop-h-preserved-else-share_row : goal.loop-h-preserved-else-share_row
 loop-h-preserved-else-share_row c =
     let s = from (goal.at.loop-h-preserved-else-share_row c).In-loop-h in
-    summed_skip (is_neighbour (stated s) s.args.j) (ideal_of (stated s)) s.args.shape.intervals c.loop-h.h _ _ (left (goal.at.loop-h-preserved-else-share_row c).In-loop-h)
+    summed_skip (is_neighbour (stated s) s.args.j) (ideal_of (stated s)) s.args.shape.intervals c.loop-h.h _ _
+    (left (goal.at.loop-h-preserved-else-share_row c).In-loop-h)
     (row_tested (goal.at.loop-h-preserved-else-share_row c).After-share_row ∙ c.if-share_row.false) c.loop-h.invariant
 
 pub loop-h-smaller : goal.loop-h-smaller
@@ -172,8 +179,10 @@ loop-h-smaller c = omega arith
 pub loop-h-preserved : goal.loop-h-preserved
 loop-h-preserved c =
     let s = from (goal.at.loop-h-preserved c).In-loop-h in
-    summed_skip (is_neighbour (stated s) s.args.j) (ideal_of (stated s)) s.args.shape.intervals c.loop-h.h _ _ (left (goal.at.loop-h-preserved c).In-loop-h)
-    (ap (λ (b : Bool). b && shares (stated s) s.args.j (column (goal.at.loop-h-preserved c).In-loop-h)) (goal_tested (goal.at.loop-h-preserved c).After-is_zero ∙ ap not c.if-not-is_zero.false)) c.loop-h.invariant
+    summed_skip (is_neighbour (stated s) s.args.j) (ideal_of (stated s)) s.args.shape.intervals c.loop-h.h _ _
+    (left (goal.at.loop-h-preserved c).In-loop-h)
+    (ap (λ (b : Bool). b && shares (stated s) s.args.j (column (goal.at.loop-h-preserved c).In-loop-h))
+    (goal_tested (goal.at.loop-h-preserved c).After-is_zero ∙ ap not c.if-not-is_zero.false)) c.loop-h.invariant
 
 pub mean_by-requires : goal.mean_by-requires
 mean_by-requires c = let q = c.requires.0 in omega (arith, c.loop-h.invariant.few, q.few, q.intervals)
@@ -181,5 +190,6 @@ mean_by-requires c = let q = c.requires.0 in omega (arith, c.loop-h.invariant.fe
 pub returns : goal.returns
 returns c =
     c.mean_by.ensures
-    ∙ summed_all (is_neighbour (stated (goal.at.returns c).Start) c.args.j) (ideal_of (stated (goal.at.returns c).Start)) c.args.shape.intervals c.loop-h.h (to_z w64 c.loop-h.sum-bits)
+    ∙ summed_all (is_neighbour (stated (goal.at.returns c).Start) c.args.j) (ideal_of (stated (goal.at.returns c).Start)) c.args.shape.intervals
+    c.loop-h.h (to_z w64 c.loop-h.sum-bits)
     c.loop-h.count (omega (arith, c.loop-h-test.false)) c.loop-h.invariant

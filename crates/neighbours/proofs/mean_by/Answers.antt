@@ -29,5 +29,6 @@ floor_quotient-requires c =
 
 pub returns : goal.returns
 returns c =
-    ap Set (back _ c.floor_quotient.type_inv ∙ c.floor_quotient.ensures ∙ (λ i. floor_quotient (to_z-of_z c.ranges.sum i) (to_z-of_z (small (goal.at.returns c).Start) i)))
+    ap Set (back _ c.floor_quotient.type_inv ∙ c.floor_quotient.ensures
+    ∙ (λ i. floor_quotient (to_z-of_z c.ranges.sum i) (to_z-of_z (small (goal.at.returns c).Start) i)))
     ∙ sym (mean_set c.args.sum c.args.count c.if-count-eq0.false)

@@ -36,4 +36,5 @@ pub returns : goal.returns
 returns c =
     let s = from (goal.at.returns c).After-is_zero in
     let e : c.mean_beside.result ≡ mean (neighbour_ideals (stated s) s.args.j) = c.mean_beside.ensures in
-    e ∙ sym (wish_plain (stated s) s.args.j (omega (arith, c.if-shape-j.false)) (goal_tested (goal.at.returns c).After-is_zero ∙ c.if-not-is_zero.false))
+    e ∙ sym (wish_plain (stated s) s.args.j (omega (arith, c.if-shape-j.false))
+    (goal_tested (goal.at.returns c).After-is_zero ∙ c.if-not-is_zero.false))

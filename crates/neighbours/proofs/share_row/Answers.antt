@@ -75,17 +75,27 @@ bounds-coefficients-at-in-loop-i c = row_inside (goal.at.bounds-coefficients-at-
 
 pub returns-then-both_nonzero : goal.returns-then-both_nonzero
 returns-then-both_nonzero c =
-    sym (ap not (fails (loop (goal.at.returns-then-both_nonzero c).After-both_nonzero).loop-i.invariant (entered (goal.at.returns-then-both_nonzero c).After-both_nonzero).loop-i-test.true (sym (tested (goal.at.returns-then-both_nonzero c).After-both_nonzero) ∙ ap not c.if-both_nonzero.true)))
+    sym (ap not
+    (fails (loop (goal.at.returns-then-both_nonzero c).After-both_nonzero).loop-i.invariant
+    (entered (goal.at.returns-then-both_nonzero c).After-both_nonzero).loop-i-test.true
+    (sym (tested (goal.at.returns-then-both_nonzero c).After-both_nonzero) ∙ ap not c.if-both_nonzero.true)))
 
 pub overflow_add-i : goal.overflow_add-i
-overflow_add-i c = omega (arith, (entered (goal.at.overflow_add-i c).After-both_nonzero).loop-i-test.true, (loop (goal.at.overflow_add-i c).After-both_nonzero).requires.1)
+overflow_add-i c =
+    omega (
+      arith,
+      (entered (goal.at.overflow_add-i c).After-both_nonzero).loop-i-test.true,
+      (loop (goal.at.overflow_add-i c).After-both_nonzero).requires.1,
+    )
 
 pub loop-i-smaller : goal.loop-i-smaller
 loop-i-smaller c = omega arith
 
 pub loop-i-preserved : goal.loop-i-preserved
 loop-i-preserved c =
-    goes_on (loop (goal.at.loop-i-preserved c).After-both_nonzero).loop-i.invariant (entered (goal.at.loop-i-preserved c).After-both_nonzero).loop-i-test.true (sym (tested (goal.at.loop-i-preserved c).After-both_nonzero) ∙ ap not c.if-both_nonzero.false)
+    goes_on (loop (goal.at.loop-i-preserved c).After-both_nonzero).loop-i.invariant
+    (entered (goal.at.loop-i-preserved c).After-both_nonzero).loop-i-test.true
+    (sym (tested (goal.at.loop-i-preserved c).After-both_nonzero) ∙ ap not c.if-both_nonzero.false)
 
 pub returns : goal.returns
 returns c = sym (ap not (ends c.loop-i.invariant c.loop-i-test.false))

@@ -1,7 +1,7 @@
 -- `report::put_lines` meets its contract. The invariant: what is written, with the lines to come, is all. Assumes nothing.
 use mathlib.Core.Path.{◌≡◌, refl, sym, ap, ◌∙◌}
 use mathlib.Core.List.{List, [], ◌++◌, append-nil, append_assoc}
-use Prim.Native.Nat.{ℕ, ◌+◌, ◌-◌, ◌≤◌, ◌<◌}
+use Prim.Native.Nat.{ℕ, ◌+◌, ◌≤◌, ◌<◌}
 use native.Mathlib.Omega.{arith}
 use borrow.Author.Rules.{rules}
 use lib.IntN.{ℤ, pos}
@@ -77,7 +77,8 @@ loop-i-preserved c =
     let v : ℤ = get_or x.values.now l.i (pos 0) in
     let b : to_z w64 (of_z w64 v) ≡ v = search rules in
     let h : l.i < length x.values.now = omega arith in
-    more x.out.now x.at x.values.now x.strides.now c.requires.values_len c.requires.strides_in_bounds l.out l.p l.i c.put_line-p.new.out c.put_line-p.result
+    more x.out.now x.at x.values.now x.strides.now c.requires.values_len c.requires.strides_in_bounds l.out l.p l.i c.put_line-p.new.out
+    c.put_line-p.result
     l.invariant h (rw b at c.put_line-p.ensures) c.put_line-p.auto.out
 
 pub shape_of-out : goal.shape_of-out

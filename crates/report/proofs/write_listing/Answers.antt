@@ -82,7 +82,10 @@ returns-then-lines_of-n c =
 pub returns-then-out-first : goal.returns-then-out-first
 returns-then-out-first c =
     let l = whole_long (goal.at.returns-then-out-first c).Else-lines_of-n in
-    sym (write_short (start (goal.at.returns-then-out-first c).Else-lines_of-n).args.out.now (answer (goal.at.returns-then-out-first c).Else-lines_of-n) (values (goal.at.returns-then-out-first c).Else-lines_of-n) (strides (goal.at.returns-then-out-first c).Else-lines_of-n) (of_strides (goal.at.returns-then-out-first c).Else-lines_of-n ∙ of_values (goal.at.returns-then-out-first c).Else-lines_of-n)
+    sym (write_short (start (goal.at.returns-then-out-first c).Else-lines_of-n).args.out.now
+    (answer (goal.at.returns-then-out-first c).Else-lines_of-n) (values (goal.at.returns-then-out-first c).Else-lines_of-n)
+    (strides (goal.at.returns-then-out-first c).Else-lines_of-n)
+    (of_strides (goal.at.returns-then-out-first c).Else-lines_of-n ∙ of_values (goal.at.returns-then-out-first c).Else-lines_of-n)
     (omega (arith, c.if-out-first.true, c.headline_length-first.ensures)))
 
 pub slice_bounds-lines_fit-end : goal.slice_bounds-lines_fit-end
@@ -99,7 +102,10 @@ pub returns-then-not-lines_fit : goal.returns-then-not-lines_fit
 returns-then-not-lines_fit c =
     let l = whole_long (goal.at.returns-then-not-lines_fit c).Else-lines_of-n in
     let f = leb-false (length (lines (goal.at.returns-then-not-lines_fit c).Else-lines_of-n)) _ (sym c.lines_fit.ensures ∙ c.if-not-lines_fit.true) in
-    sym (write_short (start (goal.at.returns-then-not-lines_fit c).Else-lines_of-n).args.out.now (answer (goal.at.returns-then-not-lines_fit c).Else-lines_of-n) (values (goal.at.returns-then-not-lines_fit c).Else-lines_of-n) (strides (goal.at.returns-then-not-lines_fit c).Else-lines_of-n) (of_strides (goal.at.returns-then-not-lines_fit c).Else-lines_of-n ∙ of_values (goal.at.returns-then-not-lines_fit c).Else-lines_of-n)
+    sym (write_short (start (goal.at.returns-then-not-lines_fit c).Else-lines_of-n).args.out.now
+    (answer (goal.at.returns-then-not-lines_fit c).Else-lines_of-n) (values (goal.at.returns-then-not-lines_fit c).Else-lines_of-n)
+    (strides (goal.at.returns-then-not-lines_fit c).Else-lines_of-n)
+    (of_strides (goal.at.returns-then-not-lines_fit c).Else-lines_of-n ∙ of_values (goal.at.returns-then-not-lines_fit c).Else-lines_of-n)
     (omega (arith, c.if-out-first.false, c.headline_length-first.ensures)))
 
 pub slice_bounds-put_lines-end : goal.slice_bounds-put_lines-end
@@ -112,7 +118,12 @@ slice_bounds-put_lines-end-2 c =
 
 pub put_lines-requires : goal.put_lines-requires
 put_lines-requires c =
-    let e = else1 (goal.at.put_lines-requires c).Else-not-lines_fit in record { values_len = values_long e ∙ sym (strides_long e); strides_in_bounds = room_next (headline (answer e)) (lines e) c.put_headline-e.ensures (room (goal.at.put_lines-requires c).Else-not-lines_fit) }
+    let e = else1 (goal.at.put_lines-requires c).Else-not-lines_fit in
+    record {
+      values_len = values_long e
+          ∙ sym (strides_long e);
+      strides_in_bounds = room_next (headline (answer e)) (lines e) c.put_headline-e.ensures (room (goal.at.put_lines-requires c).Else-not-lines_fit);
+    }
 
 pub returns : goal.returns
 returns c =

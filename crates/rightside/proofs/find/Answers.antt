@@ -38,7 +38,13 @@ pub right_side-requires : goal.right_side-requires
 right_side-requires c =
     let h = c.requires in
     let e = c.turn_over.ensures in
-    rw (list_wide h e) record { t_len = (h.form.long, h.form.leads); rising = h.form.rises; within = (h.form.small, list_small h e); m_in_bounds = omega arith }
+    rw (list_wide h e) record {
+      t_len =
+          (h.form.long, h.form.leads);
+      rising = h.form.rises;
+      within = (h.form.small, list_small h e);
+      m_in_bounds = omega arith;
+    }
 
 pub slice_bounds-copy-count : goal.slice_bounds-copy-count
 slice_bounds-copy-count c =

@@ -53,9 +53,12 @@ module _ (c : Else-sweep) where
 -- the first m numbers are 0
 zero :
     (c : Else-not-all_zero) →
-    all_zero (take (s_of (goal.at.Else-not-all_zero c).Else-sweep).args.m (sweep (leading (s_of (goal.at.Else-not-all_zero c).Else-sweep).args.m (T_of (s_of (goal.at.Else-not-all_zero c).Else-sweep))) (s_of (goal.at.Else-not-all_zero c).Else-sweep).args.v.now).row) ≡ true
+    all_zero (take (s_of (goal.at.Else-not-all_zero c).Else-sweep).args.m
+    (sweep (leading (s_of (goal.at.Else-not-all_zero c).Else-sweep).args.m (T_of (s_of (goal.at.Else-not-all_zero c).Else-sweep)))
+    (s_of (goal.at.Else-not-all_zero c).Else-sweep).args.v.now).row) ≡ true
 zero c =
-    ap (λ (l : List ℤ). all_zero (take (s_of (goal.at.Else-not-all_zero c).Else-sweep).args.m l)) (sym (left_is (goal.at.Else-not-all_zero c).Else-sweep)) ∙ sym c.all_zero.ensures ∙ c.if-not-all_zero.false
+    ap (λ (l : List ℤ). all_zero (take (s_of (goal.at.Else-not-all_zero c).Else-sweep).args.m l))
+    (sym (left_is (goal.at.Else-not-all_zero c).Else-sweep)) ∙ sym c.all_zero.ensures ∙ c.if-not-all_zero.false
 
 -- what the remaining rows answer and leave
 late :
@@ -67,7 +70,8 @@ late c =
     let s = s_of (goal.at.After-sweep-2 c).Else-sweep in
     let h = counted (goal.at.After-sweep-2 c).Else-sweep in
     let l : List ℤ = c.sweep.new.v in
-    subst (λ (l : List ℤ). Swept (sweep (remaining s.args.m (T_of s)) l) l c.sweep-2.result c.sweep-2.new.v) (left_is (goal.at.After-sweep-2 c).Else-sweep)
+    subst (λ (l : List ℤ). Swept (sweep (remaining s.args.m (T_of s)) l) l c.sweep-2.result c.sweep-2.new.v)
+    (left_is (goal.at.After-sweep-2 c).Else-sweep)
     (subst (λ (X : List (List ℤ)). Swept (sweep X l) l c.sweep-2.result c.sweep-2.new.v) (second _ (form_of s) h.leading_rows-h.ensures)
     (rw (c.sweep.auto.v, tail_is (h.leading_rows-h.result * length s.args.v.now) s.args.t.now) at c.sweep-2.ensures))
 
@@ -80,7 +84,8 @@ overflow_mul-at c = omega (arith, inside _ (form_of (goal.at.overflow_mul-at c).
 pub slice_bounds-sweep-end : goal.slice_bounds-sweep-end
 slice_bounds-sweep-end c =
     let a = c.args in
-    sym (length-take-le (c.leading_rows-h.result * length a.v.now) a.t.now (inside _ (form_of (goal.at.slice_bounds-sweep-end c).Start) c.leading_rows-h.ensures))
+    sym (length-take-le (c.leading_rows-h.result * length a.v.now) a.t.now
+    (inside _ (form_of (goal.at.slice_bounds-sweep-end c).Start) c.leading_rows-h.ensures))
 
 pub sweep-requires : goal.sweep-requires
 sweep-requires c =
@@ -89,7 +94,8 @@ sweep-requires c =
 pub returns-then-sweep : goal.returns-then-sweep
 returns-then-sweep c =
     let o = early (goal.at.returns-then-sweep c).After-sweep in
-    righted_over c.args.m (T_of (goal.at.returns-then-sweep c).Start) c.args.v.now (sym o.answer ∙ c.if-sweep.true) (over_left (rw c.if-sweep.true at o))
+    righted_over c.args.m (T_of (goal.at.returns-then-sweep c).Start) c.args.v.now (sym o.answer ∙ c.if-sweep.true)
+    (over_left (rw c.if-sweep.true at o))
 
 pub slice_bounds-all_zero-end-2 : goal.slice_bounds-all_zero-end-2
 slice_bounds-all_zero-end-2 c =
@@ -100,23 +106,28 @@ returns-then-not-all_zero c =
     let s = s_of (goal.at.returns-then-not-all_zero c).Else-sweep in
     let z = sym c.all_zero.ensures ∙ c.if-not-all_zero.true in
     righted_none s.args.m (T_of s) s.args.v.now (unmarked (goal.at.returns-then-not-all_zero c).Else-sweep)
-    (ap (λ (l : List ℤ). all_zero (take s.args.m l)) (sym (left_is (goal.at.returns-then-not-all_zero c).Else-sweep)) ∙ z) (left_is (goal.at.returns-then-not-all_zero c).Else-sweep)
+    (ap (λ (l : List ℤ). all_zero (take s.args.m l)) (sym (left_is (goal.at.returns-then-not-all_zero c).Else-sweep)) ∙ z)
+    (left_is (goal.at.returns-then-not-all_zero c).Else-sweep)
 
 pub offset_bounds-t-at : goal.offset_bounds-t-at
 offset_bounds-t-at c =
-    let n = counted (goal.at.offset_bounds-t-at c).Else-sweep in omega (arith, inside _ (form_of (goal.at.After-leading_rows-h n).Start) n.leading_rows-h.ensures)
+    let n = counted (goal.at.offset_bounds-t-at c).Else-sweep in
+    omega (arith, inside _ (form_of (goal.at.After-leading_rows-h n).Start) n.leading_rows-h.ensures)
 
 pub slice_bounds-sweep-count : goal.slice_bounds-sweep-count
 slice_bounds-sweep-count c =
-    let n = counted (goal.at.slice_bounds-sweep-count c).Else-sweep in omega (arith, inside _ (form_of (goal.at.After-leading_rows-h n).Start) n.leading_rows-h.ensures)
+    let n = counted (goal.at.slice_bounds-sweep-count c).Else-sweep in
+    omega (arith, inside _ (form_of (goal.at.After-leading_rows-h n).Start) n.leading_rows-h.ensures)
 
 pub slice_bounds-sweep-start : goal.slice_bounds-sweep-start
 slice_bounds-sweep-start c =
-    let n = counted (goal.at.slice_bounds-sweep-start c).Else-sweep in omega (arith, inside _ (form_of (goal.at.After-leading_rows-h n).Start) n.leading_rows-h.ensures)
+    let n = counted (goal.at.slice_bounds-sweep-start c).Else-sweep in
+    omega (arith, inside _ (form_of (goal.at.After-leading_rows-h n).Start) n.leading_rows-h.ensures)
 
 pub overflow_sub-rows : goal.overflow_sub-rows
 overflow_sub-rows c =
-    let n = counted (goal.at.overflow_sub-rows c).Else-sweep in omega (arith, few _ (form_of (goal.at.After-leading_rows-h n).Start) n.leading_rows-h.ensures)
+    let n = counted (goal.at.overflow_sub-rows c).Else-sweep in
+    omega (arith, few _ (form_of (goal.at.After-leading_rows-h n).Start) n.leading_rows-h.ensures)
 
 pub sweep-requires-2 : goal.sweep-requires-2
 sweep-requires-2 c =
@@ -124,7 +135,8 @@ sweep-requires-2 c =
     let s = s_of (goal.at.sweep-requires-2 c).Else-sweep in
     rw (c.sweep.auto.v, tail_is (h.leading_rows-h.result * length s.args.v.now) s.args.t.now) (
       second_sweepable _ (form_of s) h.leading_rows-h.ensures,
-      subst Within (sym (left_is (goal.at.sweep-requires-2 c).Else-sweep)) (sweep_within (leading s.args.m (T_of s)) s.args.v.now s.requires.within.1 (unmarked (goal.at.sweep-requires-2 c).Else-sweep)),
+      subst Within (sym (left_is (goal.at.sweep-requires-2 c).Else-sweep))
+          (sweep_within (leading s.args.m (T_of s)) s.args.v.now s.requires.within.1 (unmarked (goal.at.sweep-requires-2 c).Else-sweep)),
     )
 
 pub returns-then-sweep-2 : goal.returns-then-sweep-2
@@ -140,4 +152,5 @@ returns c =
     let s = s_of (goal.at.returns c).Else-sweep in
     let o = late (goal.at.returns c).After-sweep-2 in
     let z = zero (goal.at.returns c).Else-not-all_zero in
-    righted_found s.args.m (T_of s) s.args.v.now (unmarked (goal.at.returns c).Else-sweep) z (sym o.answer ∙ c.if-sweep-2.false) (kept_left (rw c.if-sweep-2.false at o))
+    righted_found s.args.m (T_of s) s.args.v.now (unmarked (goal.at.returns c).Else-sweep) z (sym o.answer ∙ c.if-sweep-2.false)
+    (kept_left (rw c.if-sweep-2.false at o))

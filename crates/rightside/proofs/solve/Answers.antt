@@ -54,7 +54,8 @@ started :
     let s = s_of (goal.at.After-find c).Else-formed in
     c.find.new.start ≡ start_after (X s) s.args.start.now
 started c =
-    c.find.ensures.start_after ∙ ap (λ (x : Solved). start_after x (s_of (goal.at.After-find c).Else-formed).args.start.now) (sym (same (goal.at.After-find c).Else-formed))
+    c.find.ensures.start_after
+    ∙ ap (λ (x : Solved). start_after x (s_of (goal.at.After-find c).Else-formed).args.start.now) (sym (same (goal.at.After-find c).Else-formed))
 
 pub returns-then-formed : goal.returns-then-formed
 returns-then-formed c =
@@ -62,7 +63,9 @@ returns-then-formed c =
     let f : (form_of a.p a.coefficients.now).over ≡ true =
     tally_over a.p a.coefficients.now c.form-formed.ensures.value c.if-formed.true in
     let o : (X (goal.at.returns-then-formed c).Start).over ≡ true = solved_over a.p a.coefficients.now a.rights.now f in record {
-      value = c.without_rounds.ensures ∙ solving_is (X (goal.at.returns-then-formed c).Start) (R (goal.at.returns-then-formed c).Start) (sym (answer_over (X (goal.at.returns-then-formed c).Start) o));
+      value = c.without_rounds.ensures
+          ∙ solving_is (X (goal.at.returns-then-formed c).Start) (R (goal.at.returns-then-formed c).Start)
+          (sym (answer_over (X (goal.at.returns-then-formed c).Start) o));
       t_after = c.form-formed.ensures.t_after
           ∙ form_over a.p a.coefficients.now a.t.now f
           ∙ sym (table_over a.p a.coefficients.now a.rights.now a.t.now o);
@@ -75,7 +78,8 @@ slice_bounds-find-end c =
 
 pub find-requires : goal.find-requires
 find-requires c =
-    findable max_width c.requires (omega (arith, c.requires.form.columns, c.requires.form.rows)) c.form-formed.auto.t (stands (goal.at.find-requires c).Else-formed)
+    findable max_width c.requires (omega (arith, c.requires.form.columns, c.requires.form.rows)) c.form-formed.auto.t
+    (stands (goal.at.find-requires c).Else-formed)
 
 pub returns-in-Over : goal.returns-in-Over
 returns-in-Over c =
@@ -92,7 +96,13 @@ pub returns-in-None : goal.returns-in-None
 returns-in-None c =
     let s = s_of (goal.at.returns-in-None c).Else-formed in
     let e : None ≡ solution_of (X s) = sym c.in-None.is ∙ told (goal.at.returns-in-None c).After-find in
-    let a = s.args in record { value = c.without_rounds-in-None.ensures ∙ solving_is (X s) (R s) e; t_after = form_is (goal.at.returns-in-None c).Else-formed ∙ sym (table_kept a.p a.coefficients.now a.rights.now a.t.now (solution_none (X s) e)); start_after = started (goal.at.returns-in-None c).After-find }
+    let a = s.args in
+    record {
+      value = c.without_rounds-in-None.ensures ∙ solving_is (X s) (R s) e;
+      t_after = form_is (goal.at.returns-in-None c).Else-formed
+          ∙ sym (table_kept a.p a.coefficients.now a.rights.now a.t.now (solution_none (X s) e));
+      start_after = started (goal.at.returns-in-None c).After-find;
+    }
 
 pub returns-in-Found : goal.returns-in-Found
 returns-in-Found c =
@@ -101,6 +111,7 @@ returns-in-Found c =
     let a = s.args in record {
       value = ap (solving Found) (tally_rounds a.p a.coefficients.now c.form-formed.ensures.value (unmarked (goal.at.returns-in-Found c).Else-formed))
           ∙ solving_is (X s) (R s) e;
-      t_after = form_is (goal.at.returns-in-Found c).Else-formed ∙ sym (table_kept a.p a.coefficients.now a.rights.now a.t.now (solution_found (X s) e));
+      t_after = form_is (goal.at.returns-in-Found c).Else-formed
+          ∙ sym (table_kept a.p a.coefficients.now a.rights.now a.t.now (solution_found (X s) e));
       start_after = started (goal.at.returns-in-Found c).After-find;
     }

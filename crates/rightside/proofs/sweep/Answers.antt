@@ -79,7 +79,8 @@ shape_of-v-then-reduce c =
 pub returns-then-reduce : goal.returns-then-reduce
 returns-then-reduce c =
     let l = c.loop-left in
-    sweep_stops l.invariant c.loop-left-test.true (told (goal.at.returns-then-reduce c).After-lead_from-l) refl (rw c.if-reduce.true at (taken (goal.at.returns-then-reduce c).After-reduce))
+    sweep_stops l.invariant c.loop-left-test.true (told (goal.at.returns-then-reduce c).After-lead_from-l) refl
+    (rw c.if-reduce.true at (taken (goal.at.returns-then-reduce c).After-reduce))
 
 pub overflow_sub-left : goal.overflow_sub-left
 overflow_sub-left c = omega arith
@@ -96,7 +97,8 @@ loop-left-smaller c = omega arith
 pub loop-left-preserved : goal.loop-left-preserved
 loop-left-preserved c =
     let l = c.loop-left in
-    sweep_on l.invariant c.loop-left-test.true (told (goal.at.loop-left-preserved c).After-lead_from-l) (rw c.if-reduce.false at (taken (goal.at.loop-left-preserved c).After-reduce))
+    sweep_on l.invariant c.loop-left-test.true (told (goal.at.loop-left-preserved c).After-lead_from-l)
+    (rw c.if-reduce.false at (taken (goal.at.loop-left-preserved c).After-reduce))
 
 pub shape_of-v : goal.shape_of-v
 shape_of-v c = c.loop-left.invariant.wide

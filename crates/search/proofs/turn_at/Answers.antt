@@ -36,7 +36,12 @@ start k = (goal.at.After-rank_next-ranked k).Start
 
 pub slice_bounds-order-end : goal.slice_bounds-order-end
 slice_bounds-order-end c =
-    omega (arith, c.rank_next-ranked.ensures.few, (start (goal.at.slice_bounds-order-end c).After-rank_next-ranked).requires.few, (start (goal.at.slice_bounds-order-end c).After-rank_next-ranked).requires.values_long)
+    omega (
+      arith,
+      c.rank_next-ranked.ensures.few,
+      (start (goal.at.slice_bounds-order-end c).After-rank_next-ranked).requires.few,
+      (start (goal.at.slice_bounds-order-end c).After-rank_next-ranked).requires.values_long,
+    )
 
 pub slice_bounds-first_step-end : goal.slice_bounds-first_step-end
 slice_bounds-first_step-end c =
@@ -56,8 +61,11 @@ pub slice_bounds-first_step-end-4 : goal.slice_bounds-first_step-end-4
 slice_bounds-first_step-end-4 c = refl
 
 pub first_step-step-requires : goal.first_step-step-requires
-first_step-step-requires c =
-    (ranked_setup (start (goal.at.first_step-step-requires c).After-rank_next-ranked).requires c.rank_next-ranked.ensures, c.find_sets.ensures, unnoted _)
+first_step-step-requires c = (
+  ranked_setup (start (goal.at.first_step-step-requires c).After-rank_next-ranked).requires c.rank_next-ranked.ensures,
+  c.find_sets.ensures,
+  unnoted _,
+)
 
 pub returns : goal.returns
 returns c =

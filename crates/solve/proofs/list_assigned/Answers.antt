@@ -84,7 +84,10 @@ returns c =
     let a = start (goal.at.returns c).After-assign-reply in
     let o = a.args.out.now in
     let r = c.assign-reply.result.answer in
-    let v = part_back a.args.p.columns (values (goal.at.returns c).After-assign-reply) (drop a.args.p.columns (blank deck_columns)) (values_long (goal.at.returns c).After-assign-reply) in
-    let d = part_back a.args.p.columns (strides (goal.at.returns c).After-assign-reply) (drop a.args.p.columns (clear_strides deck_columns)) (strides_long (goal.at.returns c).After-assign-reply) in
+    let v = part_back a.args.p.columns (values (goal.at.returns c).After-assign-reply) (drop a.args.p.columns (blank deck_columns))
+    (values_long (goal.at.returns c).After-assign-reply) in
+    let d = part_back a.args.p.columns (strides (goal.at.returns c).After-assign-reply) (drop a.args.p.columns (clear_strides deck_columns))
+    (strides_long (goal.at.returns c).After-assign-reply) in
     c.write_listing.ensures ∙ (λ i. write_listing o r (v i) (d i))
-    ∙ listed_into o (P a) r c.assign-reply.result.rounds _ _ _ a.requires.0 a.requires.1 c.assign-reply.ensures (values_long (goal.at.returns c).After-assign-reply ∙ sym (strides_long (goal.at.returns c).After-assign-reply))
+    ∙ listed_into o (P a) r c.assign-reply.result.rounds _ _ _ a.requires.0 a.requires.1 c.assign-reply.ensures
+    (values_long (goal.at.returns c).After-assign-reply ∙ sym (strides_long (goal.at.returns c).After-assign-reply))

@@ -96,7 +96,12 @@ filled c = (goal.at.After-high-in-Read-1 c).In-Read
 -- and its problem
 problem_is :
     (c : After-program_problem-p)
-    → c.program_problem-p.result ≡ record { columns = n (goal.at.After-program_problem-p c).In-Read; rows = m (goal.at.After-program_problem-p c).In-Read; limit = program_limit }
+    → c.program_problem-p.result ≡ record {
+      columns =
+          n (goal.at.After-program_problem-p c).In-Read;
+      rows = m (goal.at.After-program_problem-p c).In-Read;
+      limit = program_limit;
+    }
 problem_is c = c.program_problem-p.ensures
 
 pub overflow_mul-size : goal.overflow_mul-size
@@ -144,13 +149,15 @@ pub slice_bounds-given-end : goal.slice_bounds-given-end
 slice_bounds-given-end c = given_fit (filled c)
 
 pub slice_bounds-list_assigned-end-in-Read-6 : goal.slice_bounds-list_assigned-end-in-Read-6
-slice_bounds-list_assigned-end-in-Read-6 c = sym (length-take-le _ _ (given_fit (filled (goal.at.slice_bounds-list_assigned-end-in-Read-6 c).After-high-in-Read-1)))
+slice_bounds-list_assigned-end-in-Read-6 c =
+    sym (length-take-le _ _ (given_fit (filled (goal.at.slice_bounds-list_assigned-end-in-Read-6 c).After-high-in-Read-1)))
 
 pub slice_bounds-ideals-end : goal.slice_bounds-ideals-end
 slice_bounds-ideals-end c = ideals_fit (filled (goal.at.slice_bounds-ideals-end c).After-high-in-Read-1)
 
 pub slice_bounds-list_assigned-end-in-Read-7 : goal.slice_bounds-list_assigned-end-in-Read-7
-slice_bounds-list_assigned-end-in-Read-7 c = sym (length-take-le _ _ (ideals_fit (filled (goal.at.slice_bounds-list_assigned-end-in-Read-7 c).After-high-in-Read-1)))
+slice_bounds-list_assigned-end-in-Read-7 c =
+    sym (length-take-le _ _ (ideals_fit (filled (goal.at.slice_bounds-list_assigned-end-in-Read-7 c).After-high-in-Read-1)))
 
 pub list_assigned-requires : goal.list_assigned-requires
 list_assigned-requires c =
@@ -162,7 +169,8 @@ pub returns-in-Refused : goal.returns-in-Refused
 returns-in-Refused c =
     let a = (start (goal.at.returns-in-Refused c).After-read_deck-reading).args in
     c.list_refused.ensures ∙
-    refused_into a.out.now a.text.now largest (left (goal.at.returns-in-Refused c).After-read_deck-reading) _ largest_fit (found (goal.at.returns-in-Refused c).After-read_deck-reading c.in-Refused.is)
+    refused_into a.out.now a.text.now largest (left (goal.at.returns-in-Refused c).After-read_deck-reading) _ largest_fit
+    (found (goal.at.returns-in-Refused c).After-read_deck-reading c.in-Refused.is)
 
 pub returns-in-Read : goal.returns-in-Read
 returns-in-Read c =

@@ -48,10 +48,13 @@ pass_all-tally-requires c =
 
 pub returns-then-tally : goal.returns-then-tally
 returns-then-tally c =
-    outcome_by (wanted (goal.at.returns-then-tally c).Start) (count (goal.at.returns-then-tally c).Start) c.args.t.now (ran (goal.at.returns-then-tally c).After-pass_all-tally).0.answer (ran (goal.at.returns-then-tally c).After-pass_all-tally).1
+    outcome_by (wanted (goal.at.returns-then-tally c).Start) (count (goal.at.returns-then-tally c).Start) c.args.t.now
+    (ran (goal.at.returns-then-tally c).After-pass_all-tally).0.answer (ran (goal.at.returns-then-tally c).After-pass_all-tally).1
     (c.wipe.ensures ∙ ap zeros c.pass_all-tally.auto.t ∙ wiped (wanted (goal.at.returns-then-tally c).Start) c.args.t.now c.if-tally.true)
 
 pub returns-else-tally : goal.returns-else-tally
 returns-else-tally c =
-    outcome_by (wanted (goal.at.returns-else-tally c).Start) (count (goal.at.returns-else-tally c).Start) c.args.t.now (ran (goal.at.returns-else-tally c).After-pass_all-tally).0.answer (ran (goal.at.returns-else-tally c).After-pass_all-tally).1
-    ((ran (goal.at.returns-else-tally c).After-pass_all-tally).0.left c.if-tally.false ∙ kept (wanted (goal.at.returns-else-tally c).Start) c.args.t.now c.if-tally.false)
+    outcome_by (wanted (goal.at.returns-else-tally c).Start) (count (goal.at.returns-else-tally c).Start) c.args.t.now
+    (ran (goal.at.returns-else-tally c).After-pass_all-tally).0.answer (ran (goal.at.returns-else-tally c).After-pass_all-tally).1
+    ((ran (goal.at.returns-else-tally c).After-pass_all-tally).0.left c.if-tally.false
+    ∙ kept (wanted (goal.at.returns-else-tally c).Start) c.args.t.now c.if-tally.false)

@@ -8,7 +8,10 @@ use Rattle.tableau.proofs.form.Goals as goal
 
 pub eliminate-requires : goal.eliminate-requires
 eliminate-requires c =
-    record { t_len = (c.fill.auto.t ∙ c.requires.table, omega (arith, c.requires.columns, c.requires.rows)); within = subst Within (sym c.fill.ensures) (table_within c.requires) }
+    record {
+      t_len = (c.fill.auto.t ∙ c.requires.table, omega (arith, c.requires.columns, c.requires.rows));
+      within = subst Within (sym c.fill.ensures) (table_within c.requires);
+    }
 
 pub returns : goal.returns
 returns c =

@@ -42,13 +42,18 @@ overflow_sub-natural c = let x = (start c).args in omega (arith, many c, no_less
 pub returns-then-rows-natural : goal.returns-then-rows-natural
 returns-then-rows-natural c =
     let x = (start (goal.at.returns-then-rows-natural c).After-natural).args in
-    count_full x.s.now x.rows x.at _ (v (goal.at.returns-then-rows-natural c).After-natural) (read (goal.at.returns-then-rows-natural c).After-natural) (omega (arith, many (goal.at.returns-then-rows-natural c).After-natural, c.if-rows-natural.true))
+    count_full x.s.now x.rows x.at _ (v (goal.at.returns-then-rows-natural c).After-natural)
+    (read (goal.at.returns-then-rows-natural c).After-natural)
+    (omega (arith, many (goal.at.returns-then-rows-natural c).After-natural, c.if-rows-natural.true))
 
 pub returns-else-rows-natural : goal.returns-else-rows-natural
 returns-else-rows-natural c =
     let x = (start (goal.at.returns-else-rows-natural c).After-natural).args in
     let few = (start (goal.at.returns-else-rows-natural c).After-natural).requires in
-    count_room x.s.now x.rows x.at _ (v (goal.at.returns-else-rows-natural c).After-natural) (read (goal.at.returns-else-rows-natural c).After-natural) (omega (arith, many (goal.at.returns-else-rows-natural c).After-natural, c.if-rows-natural.false, few)) ∙ (rw (whole (goal.at.returns-else-rows-natural c).After-natural))
+    count_room x.s.now x.rows x.at _ (v (goal.at.returns-else-rows-natural c).After-natural)
+    (read (goal.at.returns-else-rows-natural c).After-natural)
+    (omega (arith, many (goal.at.returns-else-rows-natural c).After-natural, c.if-rows-natural.false, few))
+    ∙ (rw (whole (goal.at.returns-else-rows-natural c).After-natural))
 
 pub returns-in-Refused : goal.returns-in-Refused
 returns-in-Refused c =

@@ -71,7 +71,13 @@ loop-c-init c =
 pub next_path-g-requires : goal.next_path-g-requires
 next_path-g-requires c =
     let v = c.loop-c.invariant in
-    record { intervals_le_deck_columns = (omega (arith, v.intervals, c.requires.intervals_le_deck_columns.0), omega (arith, c.requires.intervals_le_deck_columns.2, c.loop-c-test.true)); ones = (c.requires.ones.0, v.size) }
+    record {
+      intervals_le_deck_columns = (
+        omega (arith, v.intervals, c.requires.intervals_le_deck_columns.0),
+        omega (arith, c.requires.intervals_le_deck_columns.2, c.loop-c-test.true),
+      );
+      ones = (c.requires.ones.0, v.size);
+    }
 
 -- the path that was read and stored
 went : (d : In-Read)
@@ -95,7 +101,8 @@ loop-c-smaller c =
 
 pub loop-c-preserved : goal.loop-c-preserved
 loop-c-preserved c =
-    more c.requires.intervals_le_deck_columns.2 c.requires.ones.0.wide c.requires.ones.1 c.loop-c.invariant c.loop-c-test.true (went c) c.next_path-g.auto.table
+    more c.requires.intervals_le_deck_columns.2 c.requires.ones.0.wide c.requires.ones.1 c.loop-c.invariant c.loop-c-test.true (went c)
+    c.next_path-g.auto.table
 
 pub returns-in-Refused : goal.returns-in-Refused
 returns-in-Refused c =

@@ -106,7 +106,8 @@ pub returns-in-Went : goal.returns-in-Went
 returns-in-Went c =
     let n = after_natural (goal.at.returns-in-Went c).In-Went in
     let x = (start n).args in
-    rejoined x.s.now x.c _ x.table.now c.later_paths.new.table (counted n) (found (goal.at.returns-in-Went c).In-Went).read (found (goal.at.returns-in-Went c).In-Went).named (found (goal.at.returns-in-Went c).In-Went).ones
+    rejoined x.s.now x.c _ x.table.now c.later_paths.new.table (counted n) (found (goal.at.returns-in-Went c).In-Went).read
+    (found (goal.at.returns-in-Went c).In-Went).named (found (goal.at.returns-in-Went c).In-Went).ones
     c.later_paths.result c.later_paths.ensures
 
 pub returns-in-Refused-a : goal.returns-in-Refused-a

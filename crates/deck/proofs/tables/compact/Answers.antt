@@ -107,7 +107,8 @@ pub loop-i-preserved : goal.loop-i-preserved
 loop-i-preserved c =
     let x = c.args in
     let l = c.loop-i in
-    more x.table.now x.n x.m x.out.now c.requires.n_le_deck_columns.0 c.requires.n_le_deck_columns.1 c.requires.table_len.0 c.requires.table_len.1 l.i l.to
+    more x.table.now x.n x.m x.out.now c.requires.n_le_deck_columns.0 c.requires.n_le_deck_columns.1 c.requires.table_len.0 c.requires.table_len.1 l.i
+    l.to
     l.out c.copy.new.out l.invariant (omega arith) c.copy.ensures c.copy.auto.out
 
 pub shape_of-out : goal.shape_of-out

@@ -49,7 +49,8 @@ more t f o e i out v h =
     }
 
 pub loop-i-init : goal.loop-i-init
-loop-i-init c = record { small = omega arith; size = c.requires.columns_len.1; done = []; many = refl; wrote = written_none c.args.out.now 0; rest = refl }
+loop-i-init c =
+    record { small = omega arith; size = c.requires.columns_len.1; done = []; many = refl; wrote = written_none c.args.out.now 0; rest = refl }
 
 pub overflow_mul-out : goal.overflow_mul-out
 overflow_mul-out c = omega (arith, c.loop-i.invariant.small)

@@ -76,7 +76,12 @@ pub basis_place-place-requires : goal.basis_place-place-requires
 basis_place-place-requires c = let q = c.requires.placed in ((q.ready 0).few, q.few_rows, q.parted)
 
 pub offset_bounds-tableau-at : goal.offset_bounds-tableau-at
-offset_bounds-tableau-at c = omega (arith, inside (goal.at.offset_bounds-tableau-at c).After-basis_place-place, small (goal.at.offset_bounds-tableau-at c).After-basis_place-place)
+offset_bounds-tableau-at c =
+    omega (
+      arith,
+      inside (goal.at.offset_bounds-tableau-at c).After-basis_place-place,
+      small (goal.at.offset_bounds-tableau-at c).After-basis_place-place,
+    )
 
 pub slice_bounds-seat-count : goal.slice_bounds-seat-count
 slice_bounds-seat-count c = inside (goal.at.slice_bounds-seat-count c).After-basis_place-place
@@ -98,7 +103,9 @@ seat-requires c =
 pub returns-then-not-seat : goal.returns-then-not-seat
 returns-then-not-seat c =
     let s = a (goal.at.returns-then-not-seat c).After-seat in
-    sym (finished_far s.args.p.limit (C (goal.at.returns-then-not-seat c).After-seat) (N (goal.at.returns-then-not-seat c).After-seat) s.args.values.now s.args.strides.now (Seating.seat (C (goal.at.returns-then-not-seat c).After-seat) (N (goal.at.returns-then-not-seat c).After-seat) s.args.start.now)
+    sym (finished_far s.args.p.limit (C (goal.at.returns-then-not-seat c).After-seat) (N (goal.at.returns-then-not-seat c).After-seat)
+    s.args.values.now s.args.strides.now
+    (Seating.seat (C (goal.at.returns-then-not-seat c).After-seat) (N (goal.at.returns-then-not-seat c).After-seat) s.args.start.now)
     s.args.start.now (sits (goal.at.returns-then-not-seat c).After-seat (c.if-not-seat.true)))
 
 pub copy-requires : goal.copy-requires
@@ -106,7 +113,11 @@ copy-requires c = (a (goal.at.copy-requires c).After-seat).requires.values ∙ s
 
 pub offset_bounds-tableau-at-2 : goal.offset_bounds-tableau-at-2
 offset_bounds-tableau-at-2 c =
-    omega (arith, inside (goal.at.offset_bounds-tableau-at-2 c).After-basis_place-place, small (goal.at.offset_bounds-tableau-at-2 c).After-basis_place-place)
+    omega (
+      arith,
+      inside (goal.at.offset_bounds-tableau-at-2 c).After-basis_place-place,
+      small (goal.at.offset_bounds-tableau-at-2 c).After-basis_place-place,
+    )
 
 pub slice_bounds-settle_on-count : goal.slice_bounds-settle_on-count
 slice_bounds-settle_on-count c =
@@ -121,7 +132,9 @@ settle_on-requires c =
     let s = start (goal.at.settle_on-requires c).After-basis_place-place in (
       ready_with (place_ready s.args.p s.args.tableau.now c.basis_place-place.result c.basis_place-place.ensures s.args.start.now
           s.args.columns.now s.requires.placed)
-          c.copy.new.to (ap length c.copy.ensures ∙ long (goal.at.settle_on-requires c).After-seat ∙ wide (goal.at.settle_on-requires c).After-basis_place-place) (λ j. rw c.copy.ensures (near (goal.at.settle_on-requires c).After-seat j)),
+          c.copy.new.to
+          (ap length c.copy.ensures ∙ long (goal.at.settle_on-requires c).After-seat ∙ wide (goal.at.settle_on-requires c).After-basis_place-place)
+          (λ j. rw c.copy.ensures (near (goal.at.settle_on-requires c).After-seat j)),
       s.requires.strides.long ∙ wide (goal.at.settle_on-requires c).After-basis_place-place,
     )
 
@@ -132,6 +145,8 @@ returns c =
     c.settle_on.ensures
     ∙ place_over s.args.p s.args.tableau.now c.basis_place-place.result c.basis_place-place.ensures s.requires.placed.parted
     (λ C N. settled_by s.args.p.limit C N c.copy.new.to) s.args.columns.now
-    ∙ ap (settled_by s.args.p.limit (C (goal.at.returns c).After-seat) (N (goal.at.returns c).After-seat)) (c.copy.ensures ∙ after (goal.at.returns c).After-seat)
+    ∙ ap (settled_by s.args.p.limit (C (goal.at.returns c).After-seat) (N (goal.at.returns c).After-seat))
+    (c.copy.ensures ∙ after (goal.at.returns c).After-seat)
     ∙ sym (finished_seated s.args.p.limit (C (goal.at.returns c).After-seat) (N (goal.at.returns c).After-seat) s.args.values.now s.args.strides.now
-    (Seating.seat (C (goal.at.returns c).After-seat) (N (goal.at.returns c).After-seat) s.args.start.now) s.args.start.now (sits (goal.at.returns c).After-seat i.false))
+    (Seating.seat (C (goal.at.returns c).After-seat) (N (goal.at.returns c).After-seat) s.args.start.now) s.args.start.now
+    (sits (goal.at.returns c).After-seat i.false))

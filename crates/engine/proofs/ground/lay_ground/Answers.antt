@@ -98,7 +98,8 @@ returns-then-formed c =
     let o : (formed (P s)).over ≡ true = tally_over s.args.p s.args.coefficients.now c.form-formed.ensures.value c.if-formed.true in (
       ap (λ (r : Ground). grounded_by r c.form-formed.new.t) c.failed-then-formed.ensures
           ∙ ap (grounded (Failed Elimination) 0) (left (goal.at.returns-then-formed c).After-form-formed o)
-          ∙ sym (ground_over (P s) s.args.list.now s.args.lent s.args.tableau.now (passed (checked (goal.at.returns-then-formed c).After-form-formed)) e o),
+          ∙ sym (ground_over (P s) s.args.list.now s.args.lent s.args.tableau.now (passed (checked (goal.at.returns-then-formed c).After-form-formed))
+          e o),
       unpacked c.failed-then-formed.ensures (P s) _,
     )
 
@@ -126,7 +127,8 @@ returns c =
     let s = behind (goal.at.returns c).After-form-formed in
     let e = standing (tested (goal.at.returns c).After-form-formed) (c.if-not-stands.false) in
     let o : (formed (P s)).over ≡ false = tally_over s.args.p s.args.coefficients.now c.form-formed.ensures.value c.if-formed.false in (
-      ap₂ (grounded Passed) (tally_rounds s.args.p s.args.coefficients.now c.form-formed.ensures.value o) (left (goal.at.returns c).After-form-formed o)
+      ap₂ (grounded Passed) (tally_rounds s.args.p s.args.coefficients.now c.form-formed.ensures.value o)
+          (left (goal.at.returns c).After-form-formed o)
           ∙ sym (ground_clear (P s) s.args.list.now s.args.lent s.args.tableau.now (passed (checked (goal.at.returns c).After-form-formed)) e o),
       record { is = λ e. packed_back (packed_in (P s) s.args.lent (f (checked (goal.at.returns c).After-form-formed)) _ c.pack.ensures) _ },
     )

@@ -92,7 +92,8 @@ pub returns-in-Failed : goal.returns-in-Failed
 returns-in-Failed c =
     let s = under (goal.at.returns-in-Failed c).After-lay_ground-ground in
     ap (by_ground (λ why t. unshown why t (B s)) _)
-    (ap (λ (r : Check). grounded r c.lay_ground-ground.result.rounds (tableau (goal.at.returns-in-Failed c).After-lay_ground-ground)) (sym c.in-Failed.is) ∙ is_ground (goal.at.returns-in-Failed c).After-lay_ground-ground)
+    (ap (λ (r : Check). grounded r c.lay_ground-ground.result.rounds (tableau (goal.at.returns-in-Failed c).After-lay_ground-ground))
+    (sym c.in-Failed.is) ∙ is_ground (goal.at.returns-in-Failed c).After-lay_ground-ground)
     ∙ sym (preview_ground (P s) s.args.standing.now (B s))
 
 pub overflow_mul-used : goal.overflow_mul-used
@@ -102,11 +103,18 @@ pub slice_bounds-columns-end : goal.slice_bounds-columns-end
 slice_bounds-columns-end c = room (goal.at.slice_bounds-columns-end c).In_default
 
 pub slice_bounds-show_over-end : goal.slice_bounds-show_over-end
-slice_bounds-show_over-end c = table_fills (P (at (goal.at.slice_bounds-show_over-end c).In_default)) _ (packed (goal.at.slice_bounds-show_over-end c).In_default)
+slice_bounds-show_over-end c =
+    table_fills (P (at (goal.at.slice_bounds-show_over-end c).In_default)) _ (packed (goal.at.slice_bounds-show_over-end c).In_default)
 
 pub show_over-seen-requires : goal.show_over-seen-requires
-show_over-seen-requires c =
-    (clear_placed _ _ _ _ (found (goal.at.show_over-seen-requires c).In_default) (both (goal.at.show_over-seen-requires c).In_default).0 (packed (goal.at.show_over-seen-requires c).In_default), record { after = (both (goal.at.show_over-seen-requires c).In_default).1; strides = (fit (goal.at.show_over-seen-requires c).In_default).strides_long })
+show_over-seen-requires c = (
+  clear_placed _ _ _ _ (found (goal.at.show_over-seen-requires c).In_default) (both (goal.at.show_over-seen-requires c).In_default).0
+      (packed (goal.at.show_over-seen-requires c).In_default),
+  record {
+    after = (both (goal.at.show_over-seen-requires c).In_default).1;
+    strides = (fit (goal.at.show_over-seen-requires c).In_default).strides_long;
+  },
+)
 
 pub returns : goal.returns
 returns c =
@@ -114,5 +122,6 @@ returns c =
     ap₂ (λ (k : ℕ) (x : Displayed). shown_with k (tableau (over (goal.at.returns c).In_default)) x) (counted (goal.at.returns c).In_default)
     (c.show_over-seen.ensures
     ∙ ap (λ (C : Columns). displayed_over (with_limit 1 (P s)).problem C (tableau (over (goal.at.returns c).In_default)) s.args.standing.now)
-    (ap (columns_in s.args.p.columns) (packed (goal.at.returns c).In_default) ∙ table_columns (with_limit 1 (P s)) (L s) (fit (goal.at.returns c).In_default)))
+    (ap (columns_in s.args.p.columns) (packed (goal.at.returns c).In_default)
+    ∙ table_columns (with_limit 1 (P s)) (L s) (fit (goal.at.returns c).In_default)))
     ∙ sym (preview_shown (P s) s.args.standing.now (B s) (found (goal.at.returns c).In_default))

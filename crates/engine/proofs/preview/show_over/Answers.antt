@@ -25,7 +25,12 @@ pub basis_place-place-requires : goal.basis_place-place-requires
 basis_place-place-requires c = let q = c.requires.0 in ((q.ready 0).few, q.few_rows, q.parted)
 
 pub offset_bounds-tableau-at : goal.offset_bounds-tableau-at
-offset_bounds-tableau-at c = omega (arith, inside (goal.at.offset_bounds-tableau-at c).After-basis_place-place, small (goal.at.offset_bounds-tableau-at c).After-basis_place-place)
+offset_bounds-tableau-at c =
+    omega (
+      arith,
+      inside (goal.at.offset_bounds-tableau-at c).After-basis_place-place,
+      small (goal.at.offset_bounds-tableau-at c).After-basis_place-place,
+    )
 
 pub slice_bounds-show_on-count : goal.slice_bounds-show_on-count
 slice_bounds-show_on-count c = inside (goal.at.slice_bounds-show_on-count c).After-basis_place-place

@@ -66,4 +66,5 @@ loop-i-preserved c = goes_on c.loop-i.invariant (omega arith) (passed c.keeps_ro
 
 pub returns : goal.returns
 returns c =
-    sym (ap₂ ◌&&◌ (sym (all_within c.args.values.now) ∙ within (goal.at.returns c).Else-not-all_span) (sym (shown c.requires) ∙ ends c.loop-i.invariant (omega arith)))
+    sym (ap₂ ◌&&◌ (sym (all_within c.args.values.now) ∙ within (goal.at.returns c).Else-not-all_span)
+    (sym (shown c.requires) ∙ ends c.loop-i.invariant (omega arith)))

@@ -1,6 +1,6 @@
 -- `joined::columns::absorb_ideals` meets its contract: the ideals and marks taken so far and those left make the lists. Assumes nothing.
 use mathlib.Core.Path.{◌∙◌}
-use Prim.Native.Nat.{◌-◌, ◌<◌}
+use Prim.Native.Nat.{◌<◌}
 use native.Mathlib.Omega.{arith}
 use lib.ListN.{length, get_or}
 use Rattle.whole.proofs.Signed.{back}

@@ -1,6 +1,5 @@
 -- `joined::columns::fill_places` meets its contract: the places set so far and those of the columns left are all places. Assumes nothing.
 use mathlib.Core.Path.{sym, ◌∙◌}
-use Prim.Native.Nat.{◌-◌}
 use native.Mathlib.Omega.{arith}
 use Rattle.joined.proofs.Laying.{laid_start, laid_on, laid_end}
 use Rattle.joined.proofs.columns.fill_places.Goals as goal

@@ -40,7 +40,8 @@ returns c =
     let g : List ℤ = drop (length a.given1.now) a.given.now in
     let l : List ℤ = drop (length a.ideals1.now) a.ideals.now in
     record {
-      given_after = c.absorb_ideals.ensures.given_after ∙ ap (λ (x : List ℤ). absorb_into Given (x ++ g) a.partners.now a.places.now a.given2.now) c.copy.ensures;
+      given_after = c.absorb_ideals.ensures.given_after
+          ∙ ap (λ (x : List ℤ). absorb_into Given (x ++ g) a.partners.now a.places.now a.given2.now) c.copy.ensures;
       ideals_after = c.absorb_ideals.ensures.ideals_after
           ∙ ap₂ (λ (x y : List ℤ). absorb_ideals (x ++ g) (y ++ l) a.partners.now a.places.now a.given2.now a.ideals2.now)
           c.copy.ensures c.copy-2.ensures;

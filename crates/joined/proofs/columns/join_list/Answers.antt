@@ -17,7 +17,11 @@ copy-requires c = length-take-le (length c.args.first.now) c.args.out.now c.requ
 
 pub absorb_list-requires : goal.absorb_list-requires
 absorb_list-requires c =
-    let a = c.args in record { partners_len = c.requires.partners_len; all_below = below_front a.first.now c.copy.new.to a.out.now a.places.now c.copy.ensures c.requires.first_in_bounds c.requires.all_below }
+    let a = c.args in
+    record {
+      partners_len = c.requires.partners_len;
+      all_below = below_front a.first.now c.copy.new.to a.out.now a.places.now c.copy.ensures c.requires.first_in_bounds c.requires.all_below;
+    }
 
 pub returns : goal.returns
 returns c =

@@ -1,6 +1,5 @@
 -- `joined::columns::unshared` meets its contract: those counted so far and those left are all unshared columns. Assumes nothing.
 use mathlib.Core.Path.{◌∙◌}
-use Prim.Native.Nat.{◌-◌}
 use native.Mathlib.Omega.{arith}
 use Rattle.joined.proofs.Laying.{next_first, next_shared, counted_start, counted_on, counted_end}
 use Rattle.joined.proofs.columns.unshared.Goals.{then-partners-j-eq0, else-partners-j-eq0}

@@ -12,8 +12,11 @@ slice_bounds-pad_rows-end-2 c =
     sym (length-take-le (c.args.first.rows * c.args.n) c.args.out.now (omega (arith, c.requires.out_len.0)))
 
 pub pad_rows-requires : goal.pad_rows-requires
-pad_rows-requires c =
-    (c.requires.coefficients_len.0, length-take-le (c.args.first.rows * c.args.n) c.args.out.now (omega (arith, c.requires.out_len.0)), c.requires.out_len.1)
+pad_rows-requires c = (
+  c.requires.coefficients_len.0,
+  length-take-le (c.args.first.rows * c.args.n) c.args.out.now (omega (arith, c.requires.out_len.0)),
+  c.requires.out_len.1,
+)
 
 pub returns : goal.returns
 returns c =

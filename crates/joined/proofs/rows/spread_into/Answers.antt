@@ -1,5 +1,4 @@
 -- `joined::rows::spread_into` meets its contract: the coefficients put in so far and those left make the row. Assumes nothing.
-use Prim.Native.Nat.{◌-◌}
 use native.Mathlib.Omega.{arith}
 use lib.IntN.{pos}
 use lib.ListN.{get_or}

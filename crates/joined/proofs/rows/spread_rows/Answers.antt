@@ -1,6 +1,6 @@
 -- `joined::rows::spread_rows` meets its contract. The invariant: the rows passed are laid. Assumes nothing.
 use mathlib.Core.Path.{sym, ◌∙◌, ap, subst}
-use Prim.Native.Nat.{ℕ, ◌-◌}
+use Prim.Native.Nat.{ℕ}
 use native.Mathlib.Omega.{arith}
 use Rattle.joined.specs.Joined.{spread}
 use Rattle.joined.specs.Filling.{AllBelow}
@@ -49,7 +49,12 @@ slice_bounds-spread_row-end-in-loop-i c = omega (arith, from_inside c.loop-i.inv
 pub spread_row-requires : goal.spread_row-requires
 spread_row-requires c =
     let inv = c.loop-i.invariant in
-    let some = c.loop-i-test.true in record { row_len = from_wide inv some ∙ sym c.requires.coefficients_len.2; all_below = subst (λ (k : ℕ). AllBelow k c.args.places.now) (sym (to_wide inv some)) c.requires.all_below }
+    let some = c.loop-i-test.true in
+    record {
+      row_len = from_wide inv some
+          ∙ sym c.requires.coefficients_len.2;
+      all_below = subst (λ (k : ℕ). AllBelow k c.args.places.now) (sym (to_wide inv some)) c.requires.all_below;
+    }
 
 pub overflow_add-i : goal.overflow_add-i
 overflow_add-i c = omega arith

@@ -42,11 +42,14 @@ module _ (c : After-join-joining) where
 
 pub returns-then-sizes-ne-JOINED : goal.returns-then-sizes-ne-JOINED
 returns-then-sizes-ne-JOINED c =
-    is_join_untold (P (goal.at.returns-then-sizes-ne-JOINED c).Start) (Q (goal.at.returns-then-sizes-ne-JOINED c).Start) (ps (goal.at.returns-then-sizes-ne-JOINED c).Start) (B (goal.at.returns-then-sizes-ne-JOINED c).Start) c.args.sizes.now _ c.if-sizes-ne-JOINED.true c.number.ensures
+    is_join_untold (P (goal.at.returns-then-sizes-ne-JOINED c).Start) (Q (goal.at.returns-then-sizes-ne-JOINED c).Start)
+    (ps (goal.at.returns-then-sizes-ne-JOINED c).Start) (B (goal.at.returns-then-sizes-ne-JOINED c).Start) c.args.sizes.now _
+    c.if-sizes-ne-JOINED.true c.number.ensures
 
 pub returns : goal.returns
 returns c =
     let s = from (goal.at.returns c).After-join-joining in
-    is_join_told (P s) (Q s) (ps s) (B s) s.args.sizes.now c.join-joining.result _ _ _ (at (goal.at.returns c).After-join-joining).if-sizes-ne-JOINED.false
+    is_join_told (P s) (Q s) (ps s) (B s) s.args.sizes.now c.join-joining.result _ _ _
+    (at (goal.at.returns c).After-join-joining).if-sizes-ne-JOINED.false
     (c.join-joining.ensures ∙ (λ i. join (first_of s (c.part_sizes-first.ensures i)) (second_of s (c.part_sizes-second.ensures i)) (ps s) (B s)))
     c.tell_joined.ensures c.joining_number.ensures

@@ -27,7 +27,8 @@ previewed w = (goal.at.After-tell_step-arg-1 w).After-preview-sight
 
 pub returns-then-report-ne-STEP : goal.returns-then-report-ne-STEP
 returns-then-report-ne-STEP c =
-    is_unshown (P (goal.at.returns-then-report-ne-STEP c).Start) c.args.standing.now (B (goal.at.returns-then-report-ne-STEP c).Start) c.args.report.now _ c.if-report-ne-STEP.true c.number.ensures
+    is_unshown (P (goal.at.returns-then-report-ne-STEP c).Start) c.args.standing.now (B (goal.at.returns-then-report-ne-STEP c).Start)
+    c.args.report.now _ c.if-report-ne-STEP.true c.number.ensures
 
 pub tell_step-requires : goal.tell_step-requires
 tell_step-requires c =

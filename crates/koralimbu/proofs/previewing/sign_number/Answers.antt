@@ -22,8 +22,10 @@ returns-then-less c =
 
 pub returns-then-magnitude-eq0 : goal.returns-then-magnitude-eq0
 returns-then-magnitude-eq0 c =
-    sign_none (start (goal.at.returns-then-magnitude-eq0 c).After-magnitude).args.x (sym (size (goal.at.returns-then-magnitude-eq0 c).After-magnitude) ∙ c.if-magnitude-eq0.true)
+    sign_none (start (goal.at.returns-then-magnitude-eq0 c).After-magnitude).args.x
+    (sym (size (goal.at.returns-then-magnitude-eq0 c).After-magnitude) ∙ c.if-magnitude-eq0.true)
 
 pub returns : goal.returns
 returns c =
-    sign_plus (start (goal.at.returns c).After-magnitude).args.x (sym (below (goal.at.returns c).After-less) ∙ c.if-less.false) (λ e. c.if-magnitude-eq0.false (size (goal.at.returns c).After-magnitude ∙ e))
+    sign_plus (start (goal.at.returns c).After-magnitude).args.x (sym (below (goal.at.returns c).After-less) ∙ c.if-less.false)
+    (λ e. c.if-magnitude-eq0.false (size (goal.at.returns c).After-magnitude ∙ e))

@@ -66,7 +66,8 @@ pub overflow_sub-b : goal.overflow_sub-b
 overflow_sub-b c = (inside c).2
 
 pub leaves-requires : goal.leaves-requires
-leaves-requires c = record { upper_len = c.requires.upper_len; i_in_bounds = (omega (arith, (inside c).0, (inside c).1), omega (arith, (inside c).2, (inside c).3)) }
+leaves-requires c =
+    record { upper_len = c.requires.upper_len; i_in_bounds = (omega (arith, (inside c).0, (inside c).1), omega (arith, (inside c).2, (inside c).3)) }
 
 pub shape_of-partners-then-not-leaves : goal.shape_of-partners-then-not-leaves
 shape_of-partners-then-not-leaves c = c.loop-k.invariant.0

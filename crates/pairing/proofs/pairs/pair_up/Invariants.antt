@@ -8,7 +8,8 @@ use Rattle.pairing.proofs.pairs.pair_up.Given as goal
 
 abbrev pub invariant-loop-k : goal.invariant-loop-k
 invariant-loop-k l = (length l.partners ≡ length l.initial.partners) × (l.half ≡ length l.pairs / 2) ×
-    (l.k ≤ l.half) × (pair_up (bounds l.lower l.upper) (bounds l.lower2 l.upper2) (drop (l.k * 2) l.pairs) l.partners ≡ pair_up (bounds l.lower l.upper)
+    (l.k ≤ l.half)
+    × (pair_up (bounds l.lower l.upper) (bounds l.lower2 l.upper2) (drop (l.k * 2) l.pairs) l.partners ≡ pair_up (bounds l.lower l.upper)
     (bounds l.lower2 l.upper2) l.pairs l.initial.partners)
 
 abbrev pub decreases-loop-k : goal.decreases-loop-k

@@ -1,6 +1,5 @@
 -- `pairing::pairs::uses` meets its contract: the loop passes the partners that are other columns. Assumes nothing.
 use mathlib.Core.Path.{sym, ◌∙◌}
-use Prim.Native.Nat.{◌-◌}
 use native.Mathlib.Omega.{arith}
 use borrow.Author.Rules.{rules}
 use Rattle.pairing.proofs.Walking.{uses_on, uses_at, uses_end}

@@ -1,9 +1,7 @@
 -- `problem::checks::all_span` meets its contract: the loop leaves at the first number that lies outside. Assumes nothing.
 use mathlib.Core.Path.{◌≡◌, sym}
-use Prim.Native.Nat.{◌-◌}
 use native.Mathlib.Omega.{arith}
 use Rattle.whole.proofs.Signed.{back}
-use Rattle.whole.specs.Tests.{spans}
 use Rattle.whole.proofs.Counted.{starts, goes_on, ends, fails}
 use Rattle.whole.proofs.Tests.{passed, failed}
 use Rattle.problem.proofs.checks.all_span.Invariants.{test}

@@ -1,6 +1,5 @@
 -- `problem::checks::bounds_fit` meets its contract: the loop leaves at the first column whose bounds do not fit. Assumes nothing.
 use mathlib.Core.Path.{◌≡◌, sym}
-use Prim.Native.Nat.{◌-◌}
 use native.Mathlib.Omega.{arith}
 use Rattle.whole.proofs.Counted.{starts, goes_on, ends, fails}
 use Rattle.problem.specs.Checks.{bound_fits}

@@ -11,7 +11,8 @@ use Rattle.problem.specs.declared.Check.{Check}
 use Rattle.problem.specs.declared.Check.TheVariants.{Passed}
 use Rattle.whole.proofs.Tests.{passed, failed}
 use Rattle.problem.proofs.CheckLaws.{column_lengths}
-use Rattle.problem.proofs.checks.first_cause.Goals.{Else-not-bounds_fit, Else-not-column_lengths_fit, Else-not-goals_fit, Else-not-ideal_lengths_fit, Else-not-lent_fit, Else-not-row_lengths_fit, Else-not-rows_fit, Else-not-sizes_fit, Start}
+use Rattle.problem.proofs.checks.first_cause.Goals.{Else-not-bounds_fit, Else-not-column_lengths_fit, Else-not-goals_fit, Else-not-ideal_lengths_fit}
+use Rattle.problem.proofs.checks.first_cause.Goals.{Else-not-lent_fit, Else-not-row_lengths_fit, Else-not-rows_fit, Else-not-sizes_fit, Start}
 use Rattle.problem.proofs.checks.first_cause.Goals as goal
 
 -- what is left to check after each check that passed

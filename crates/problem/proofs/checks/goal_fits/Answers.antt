@@ -9,7 +9,8 @@ use mir.Facts.{to_z-of_z}
 use Rattle.whole.specs.Tests.{is_zero}
 use Rattle.problem.specs.Checks.{goal_inside, both_or_none, goal_fits}
 use Rattle.whole.proofs.Tests.{passed, failed, not_less}
-use Rattle.problem.proofs.checks.goal_fits.Goals.{After-both_or_none, After-goal_inside, After-goal_inside-2, After-less, After-magnitude, Else-less, Else-not-both_or_none, Else-not-goal_inside, Else-not-goal_inside-2, Start}
+use Rattle.problem.proofs.checks.goal_fits.Goals.{After-both_or_none, After-goal_inside, After-goal_inside-2, After-less, After-magnitude, Else-less}
+use Rattle.problem.proofs.checks.goal_fits.Goals.{Else-not-both_or_none, Else-not-goal_inside, Else-not-goal_inside-2, Start}
 use Rattle.problem.proofs.checks.goal_fits.Goals as goal
 
 -- what is left to ask after each test that held

@@ -1,6 +1,5 @@
 -- `problem::checks::goals_fit` meets its contract: the loop leaves at the first column whose goals do not fit. Assumes nothing.
 use mathlib.Core.Path.{◌≡◌, sym, ◌∙◌}
-use Prim.Native.Nat.{◌-◌}
 use native.Mathlib.Omega.{arith}
 use lib.IntN.{ℤ}
 use Rattle.whole.specs.Lists.{entry}

@@ -84,7 +84,12 @@ pub bounds-order-k : goal.bounds-order-k
 bounds-order-k c = c.loop-k-test.true
 
 pub offset_bounds-holders-i : goal.offset_bounds-holders-i
-offset_bounds-holders-i c = omega (arith, inside (goal.at.offset_bounds-holders-i c).In-loop-k, (start (goal.at.offset_bounds-holders-i c).At-loop-k).requires.0.searchable.ready.few)
+offset_bounds-holders-i c =
+    omega (
+      arith,
+      inside (goal.at.offset_bounds-holders-i c).In-loop-k,
+      (start (goal.at.offset_bounds-holders-i c).At-loop-k).requires.0.searchable.ready.few,
+    )
 
 pub bounds-holders-i : goal.bounds-holders-i
 bounds-holders-i c =
@@ -96,14 +101,17 @@ meet-fresh-requires c = tt
 
 pub cell_at-requires : goal.cell_at-requires
 cell_at-requires c =
-    let r = (start (goal.at.cell_at-requires c).At-loop-k).requires.0.searchable.ready in
-    (omega (arith, inside (goal.at.cell_at-requires c).In-loop-k, r.table_long), omega (arith, inside (goal.at.cell_at-requires c).In-loop-k, r.values_long))
+    let r = (start (goal.at.cell_at-requires c).At-loop-k).requires.0.searchable.ready in (
+      omega (arith, inside (goal.at.cell_at-requires c).In-loop-k, r.table_long),
+      omega (arith, inside (goal.at.cell_at-requires c).In-loop-k, r.values_long),
+    )
 
 pub measure-requires : goal.measure-requires
 measure-requires c =
     let s = start (goal.at.measure-requires c).At-loop-k in
     rw c.cell_at.ensures
-    (search_sized s.args.search s.args.columns.now s.args.values.now s.args.basis.now s.requires.0.searchable (i (goal.at.measure-requires c).In-loop-k) (inside (goal.at.measure-requires c).In-loop-k))
+    (search_sized s.args.search s.args.columns.now s.args.values.now s.args.basis.now s.requires.0.searchable
+    (i (goal.at.measure-requires c).In-loop-k) (inside (goal.at.measure-requires c).In-loop-k))
 
 pub search_place-z-requires : goal.search_place-z-requires
 search_place-z-requires c =
@@ -139,7 +147,9 @@ loop-k-preserved c =
       e.1,
       omega (arith, c.loop-k-test.true),
       searched_same a.search a.columns.now a.values.now a.basis.now a.order.now (c.loop-k.unseen - c.meet-fresh.result)
-          c.without-unseen.result (λ s. c.without-unseen.ensures s ∙ sym (minus_has c.loop-k.unseen c.meet-fresh.result (among (goal.at.loop-k-preserved c).After-meet-fresh) s)) _ _ e.0,
+          c.without-unseen.result
+          (λ s. c.without-unseen.ensures s
+          ∙ sym (minus_has c.loop-k.unseen c.meet-fresh.result (among (goal.at.loop-k-preserved c).After-meet-fresh) s)) _ _ e.0,
     )
 
 pub step_in-requires-2 : goal.step_in-requires-2

@@ -55,7 +55,8 @@ find_blocking-requires c =
       record {
         searchable = p.0;
         of_basis = p.2;
-        room = subst Crossable (sym (asked (goal.at.find_blocking-requires c).After-measure)) (measure_room a.search.part _ (sized (goal.at.find_blocking-requires c).Start));
+        room = subst Crossable (sym (asked (goal.at.find_blocking-requires c).After-measure))
+            (measure_room a.search.part _ (sized (goal.at.find_blocking-requires c).Start));
       },
       p.4,
       both_covered a.search.view a.basis.now a.supports.now p.1 a.o p.2 c.union-changed.result c.union-changed.ensures,

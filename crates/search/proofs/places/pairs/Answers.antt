@@ -136,7 +136,8 @@ loop-set-preserved c =
     let one = c.pairs_of-best.ensures in
     let two = c.pairs_of-best-in-loop-set.ensures in
     rw c.rest-set.ensures
-    (pairing_on p.1 p.4 p.3 c.loop-set.invariant c.loop-set-test.true c.first-s.ensures (apart (goal.at.loop-set-preserved c).After-without-left) c.without-left.type_inv p.5
+    (pairing_on p.1 p.4 p.3 c.loop-set.invariant c.loop-set-test.true c.first-s.ensures (apart (goal.at.loop-set-preserved c).After-without-left)
+    c.without-left.type_inv p.5
     one.0 two.0 one.1 two.1)
 
 pub returns : goal.returns

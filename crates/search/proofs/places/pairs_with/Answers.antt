@@ -37,7 +37,8 @@ try_pair-best-requires c =
       p.0,
       p.1,
       p.2,
-      paired_with a.lead.s a.lead.x c.first-t.result 0 c.both-plus.result c.both-plus.ensures p.3 p.5 (met (goal.at.try_pair-best-requires c).After-first-t),
+      paired_with a.lead.s a.lead.x c.first-t.result 0 c.both-plus.result c.both-plus.ensures p.3 p.5
+          (met (goal.at.try_pair-best-requires c).After-first-t),
       p.4,
       l.invariant.0.incumbent,
     )
@@ -53,7 +54,8 @@ try_pair-best-requires-in-loop-set c =
       p.0,
       p.1,
       p.2,
-      paired_with a.lead.s a.lead.x c.first-t.result 1 c.both-minus.result c.both-minus.ensures p.3 p.5 (met (goal.at.try_pair-best-requires-in-loop-set c).After-first-t),
+      paired_with a.lead.s a.lead.x c.first-t.result 1 c.both-minus.result c.both-minus.ensures p.3 p.5
+          (met (goal.at.try_pair-best-requires-in-loop-set c).After-first-t),
       p.4,
       c.try_pair-best.ensures.0.incumbent,
     )

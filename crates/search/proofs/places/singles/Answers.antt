@@ -68,7 +68,8 @@ alone-requires c = tt
 pub number_at-requires : goal.number_at-requires
 number_at-requires c =
     let p = (start (goal.at.number_at-requires c).At-loop-set).requires in
-    rw c.alone.ensures (omega (arith, p.1.inside, p.0.order.few), few (goal.at.number_at-requires c).After-first-s, few (goal.at.number_at-requires c).After-first-s)
+    rw c.alone.ensures
+    (omega (arith, p.1.inside, p.0.order.few), few (goal.at.number_at-requires c).After-first-s, few (goal.at.number_at-requires c).After-first-s)
 
 pub shape_of-notes-then-n-f : goal.shape_of-notes-then-n-f
 shape_of-notes-then-n-f c =

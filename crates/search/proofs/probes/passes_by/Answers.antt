@@ -100,6 +100,12 @@ returns c =
     let a = s.args in
     c.passes.ensures
     ∙ (λ i. passes a.p.search.part
-    (record { lower = lower (goal.at.returns c).After-cell_at-c i; upper = upper (goal.at.returns c).After-cell_at-c i; low = low (goal.at.returns c).After-cell_at-c i; high = high (goal.at.returns c).After-cell_at-c i; value = after (goal.at.returns c).After-sum i })
+    (record {
+      lower = lower (goal.at.returns c).After-cell_at-c i;
+      upper = upper (goal.at.returns c).After-cell_at-c i;
+      low = low (goal.at.returns c).After-cell_at-c i;
+      high = high (goal.at.returns c).After-cell_at-c i;
+      value = after (goal.at.returns c).After-sum i;
+    })
     (told (goal.at.returns c).After-change-e i) a.p.q)
     ∙ sym (moved_passes a.p a.columns.now a.values.now a.basis.now s.requires.0 a.j s.requires.1)

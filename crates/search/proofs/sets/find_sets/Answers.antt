@@ -49,7 +49,8 @@ hold-requires c =
     let a = (start (goal.at.hold-requires c).In-loop-s).args in
     let l = c.loop-s in
     rw (power (goal.at.hold-requires c).In-loop-s, c.support_at-support.ensures)
-    (fill_holdable a.view a.basis.now l.s l.supports l.holders l.invariant.1 (few (goal.at.hold-requires c).In-loop-s) (short (goal.at.hold-requires c).In-loop-s))
+    (fill_holdable a.view a.basis.now l.s l.supports l.holders l.invariant.1 (few (goal.at.hold-requires c).In-loop-s)
+    (short (goal.at.hold-requires c).In-loop-s))
 
 pub overflow_add-s : goal.overflow_add-s
 overflow_add-s c = omega (arith, few (goal.at.overflow_add-s c).In-loop-s)

@@ -102,10 +102,12 @@ slice_bounds-first_step-end c =
     ∙ omega (arith, k.ensures.few, k.auto.order, i.0.few, i.0.values_long, i.5))
 
 pub slice_bounds-first_step-end-in-loop-o : goal.slice_bounds-first_step-end-in-loop-o
-slice_bounds-first_step-end-in-loop-o c = sym (turn (goal.at.slice_bounds-first_step-end-in-loop-o c).After-rank_next-ranked).loop-o.invariant.4.supports_long
+slice_bounds-first_step-end-in-loop-o c =
+    sym (turn (goal.at.slice_bounds-first_step-end-in-loop-o c).After-rank_next-ranked).loop-o.invariant.4.supports_long
 
 pub slice_bounds-first_step-end-in-loop-o-2 : goal.slice_bounds-first_step-end-in-loop-o-2
-slice_bounds-first_step-end-in-loop-o-2 c = sym (turn (goal.at.slice_bounds-first_step-end-in-loop-o-2 c).After-rank_next-ranked).loop-o.invariant.4.holders_long
+slice_bounds-first_step-end-in-loop-o-2 c =
+    sym (turn (goal.at.slice_bounds-first_step-end-in-loop-o-2 c).After-rank_next-ranked).loop-o.invariant.4.holders_long
 
 pub slice_bounds-first_step-end-in-loop-o-3 : goal.slice_bounds-first_step-end-in-loop-o-3
 slice_bounds-first_step-end-in-loop-o-3 c =
@@ -138,7 +140,8 @@ returns-then-left-eq0 c =
     let l = (turn (ranked (goal.at.returns-then-left-eq0 c).After-first_step-step)).loop-o in
     let s = start (turn (ranked (goal.at.returns-then-left-eq0 c).After-first_step-step)) in
     sym (sym l.invariant.3
-    ∙ settle_spent (C s) (N s) l.counts l.values l.left _ _ c.if-left-eq0.true (found (goal.at.returns-then-left-eq0 c).After-first_step-step ∙ c.in-Take.is))
+    ∙ settle_spent (C s) (N s) l.counts l.values l.left _ _ c.if-left-eq0.true
+    (found (goal.at.returns-then-left-eq0 c).After-first_step-step ∙ c.in-Take.is))
 
 pub take_move-requires : goal.take_move-requires
 take_move-requires c =
@@ -170,7 +173,8 @@ loop-o-preserved c =
     let s = start (turn (ranked (goal.at.loop-o-preserved c).After-first_step-step)) in
     let e = found (goal.at.loop-o-preserved c).After-first_step-step ∙ c.in-Take.is in
     let r = taken_ready s.args.view l.values s.args.columns.now s.args.basis.now _ _ l.invariant.0 e in
-    let counts = c.counted-counts.ensures ∙ ap (λ (p : Part). Settle.counted p l.counts) (reached (ranked (goal.at.loop-o-preserved c).After-first_step-step)) in (
+    let counts = c.counted-counts.ensures
+    ∙ ap (λ (p : Part). Settle.counted p l.counts) (reached (ranked (goal.at.loop-o-preserved c).After-first_step-step)) in (
       subst (λ (v : List ℤ). Ready s.args.view v s.args.columns.now s.args.basis.now) (sym m.ensures) r.1,
       m.auto.values ∙ l.invariant.1,
       rw c.counted-counts.ensures (counted_sum k.result.part l.counts l.left s.args.limit l.invariant.2 i.false),

@@ -14,10 +14,12 @@ use Rattle.search.specs.Turning.{Arranged}
 use Rattle.search.proofs.settle.settle.Given as goal
 
 abbrev pub invariant-loop-o : goal.invariant-loop-o
-invariant-loop-o l = Ready l.view l.values l.columns l.basis × (length l.values ≡ length l.initial.values) × (l.counts.bounds + l.counts.goals + l.left ≤ l.limit)
+invariant-loop-o l =
+    Ready l.view l.values l.columns l.basis × (length l.values ≡ length l.initial.values) × (l.counts.bounds + l.counts.goals + l.left ≤ l.limit)
     × (Settle.settle_from l.left (columns_in l.view.columns l.columns) (vectors l.view l.basis) l.counts l.values
     ≡ Settle.settle l.limit (columns_in l.view.columns l.columns) (vectors l.view l.basis) l.initial.values)
-    × Indexed l.view l.basis l.supports l.holders × (length l.order ≡ max_columns) × (length l.sizes ≡ size_width * max_columns) × Noted l.view.columns l.notes
+    × Indexed l.view l.basis l.supports l.holders × (length l.order ≡ max_columns) × (length l.sizes ≡ size_width * max_columns)
+    × Noted l.view.columns l.notes
     × Arranged l.columns l.values l.order l.ranked
 
 abbrev pub decreases-loop-o : goal.decreases-loop-o

@@ -112,7 +112,8 @@ returns c =
         few = omega (arith, l.invariant.0, l.invariant.1);
         columns = record {
           by = none_larger;
-          is = sym (rising_end (R (goal.at.returns c).Start) (n (goal.at.returns c).Start) (take l.len l.order) l.j (omega (arith, c.loop-j-test.false))) ∙ l.invariant.3;
+          is = sym (rising_end (R (goal.at.returns c).Start) (n (goal.at.returns c).Start) (take l.len l.order) l.j
+              (omega (arith, c.loop-j-test.false))) ∙ l.invariant.3;
         };
       },
     )

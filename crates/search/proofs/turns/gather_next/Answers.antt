@@ -37,7 +37,8 @@ module _ (c : After-gather-outside) where
 
   outside : Permuted (ranked_at Bounds (columns_in (length v) T) v) (length v) L
   outside =
-      subst (λ (p : Part). Permuted (ranked_at p (columns_in (length v) T) v) (length v) L) c.gather-outside.ensures.0 c.gather-outside.ensures.1.columns
+      subst (λ (p : Part). Permuted (ranked_at p (columns_in (length v) T) v) (length v) L) c.gather-outside.ensures.0
+      c.gather-outside.ensures.1.columns
 
   -- where there are none, the goals part is reached
   reached : c.gather-outside.result.len ≤ 0 → part_of (columns_in (length v) T) v ≡ Goals
@@ -49,7 +50,13 @@ gather-outside-requires c =
 
 pub returns-then-outside-gt0 : goal.returns-then-outside-gt0
 returns-then-outside-gt0 c = (
-  c.gather-outside.ensures.0 ∙ sym (part_bounds (columns_in (length (v (goal.at.returns-then-outside-gt0 c).After-gather-outside)) (T (goal.at.returns-then-outside-gt0 c).After-gather-outside)) (v (goal.at.returns-then-outside-gt0 c).After-gather-outside) (L (goal.at.returns-then-outside-gt0 c).After-gather-outside) (outside (goal.at.returns-then-outside-gt0 c).After-gather-outside) (omega (arith, many (goal.at.returns-then-outside-gt0 c).After-gather-outside, c.if-outside-gt0.true))),
+  c.gather-outside.ensures.0
+      ∙ sym (part_bounds
+      (columns_in (length (v (goal.at.returns-then-outside-gt0 c).After-gather-outside))
+      (T (goal.at.returns-then-outside-gt0 c).After-gather-outside))
+      (v (goal.at.returns-then-outside-gt0 c).After-gather-outside) (L (goal.at.returns-then-outside-gt0 c).After-gather-outside)
+      (outside (goal.at.returns-then-outside-gt0 c).After-gather-outside)
+      (omega (arith, many (goal.at.returns-then-outside-gt0 c).After-gather-outside, c.if-outside-gt0.true))),
   c.gather-outside.ensures.1,
 )
 
@@ -61,8 +68,10 @@ gather-requires c =
     )
 
 pub returns-else-outside-gt0 : goal.returns-else-outside-gt0
-returns-else-outside-gt0 c =
-    (c.gather.ensures.0 ∙ sym (reached (goal.at.returns-else-outside-gt0 c).After-gather-outside (omega (arith, c.if-outside-gt0.false))), c.gather.ensures.1)
+returns-else-outside-gt0 c = (
+  c.gather.ensures.0 ∙ sym (reached (goal.at.returns-else-outside-gt0 c).After-gather-outside (omega (arith, c.if-outside-gt0.false))),
+  c.gather.ensures.1,
+)
 
 pub returns-in-Goals : goal.returns-in-Goals
 returns-in-Goals c =

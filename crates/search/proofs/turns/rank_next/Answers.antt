@@ -28,7 +28,12 @@ gather_next-next-requires c = let p = c.requires in (p.0, p.2, p.3)
 
 pub slice_bounds-sort-end : goal.slice_bounds-sort-end
 slice_bounds-sort-end c =
-    omega (arith, c.gather_next-next.ensures.1.few, c.gather_next-next.auto.order, (s (goal.at.slice_bounds-sort-end c).After-gather_next-next).requires.2)
+    omega (
+      arith,
+      c.gather_next-next.ensures.1.few,
+      c.gather_next-next.auto.order,
+      (s (goal.at.slice_bounds-sort-end c).After-gather_next-next).requires.2,
+    )
 
 pub slice_bounds-sort-end-2 : goal.slice_bounds-sort-end-2
 slice_bounds-sort-end-2 c = sym (gathered (goal.at.slice_bounds-sort-end-2 c).After-gather_next-next)
@@ -36,8 +41,11 @@ slice_bounds-sort-end-2 c = sym (gathered (goal.at.slice_bounds-sort-end-2 c).Af
 pub sort-requires : goal.sort-requires
 sort-requires c =
     let a = (s (goal.at.sort-requires c).After-gather_next-next).args in
-    let n = c.gather_next-next in
-    (reached_rankable a.columns.now a.values.now (s (goal.at.sort-requires c).After-gather_next-next).requires.0 n.result.part n.ensures.0, (s (goal.at.sort-requires c).After-gather_next-next).requires.1, n.ensures.1.columns)
+    let n = c.gather_next-next in (
+      reached_rankable a.columns.now a.values.now (s (goal.at.sort-requires c).After-gather_next-next).requires.0 n.result.part n.ensures.0,
+      (s (goal.at.sort-requires c).After-gather_next-next).requires.1,
+      n.ensures.1.columns,
+    )
 
 pub returns : goal.returns
 returns c =

@@ -13,7 +13,8 @@ use Rattle.sections.specs.Rules.{ok, within}
 use Rattle.sections.specs.Sections.{spanning, upper_from, top_goal, top_high, high_from}
 use Rattle.sections.specs.SectionsRead.{got_of}
 use Rattle.sections.proofs.Parts.{interval_read, interval_lower, interval_upper, interval_low, interval_high}
-use Rattle.sections.proofs.intervals.read_interval.Goals.{After-spanning-a, After-within-b, After-within-c, After-within-d, In-Value, In-Value-b, In-Value-c, In-Value-d, Start}
+use Rattle.sections.proofs.intervals.read_interval.Goals.{After-spanning-a, After-within-b, After-within-c, After-within-d, In-Value, In-Value-b}
+use Rattle.sections.proofs.intervals.read_interval.Goals.{In-Value-c, In-Value-d, Start}
 use Rattle.sections.proofs.intervals.read_interval.Goals as goal
 
 -- a number that was read fits
@@ -54,7 +55,8 @@ module _ (d : After-within-b) where
 
   upper_is : upper_from text lower place ≡ got_of d.within-b.result
   upper_is =
-      let m : to_z w64 (of_z w64 d.positive-most.result) ≡ pos max_bound = to_z-of_z {w = w64} (sfits_of d.positive-most.type_inv) ∙ d.positive-most.ensures in
+      let m : to_z w64 (of_z w64 d.positive-most.result) ≡ pos max_bound = to_z-of_z {w = w64} (sfits_of d.positive-most.type_inv)
+      ∙ d.positive-most.ensures in
       rw (back_a (goal.at.After-within-b d).In-Value, m) at d.within-b.ensures
 
 -- up to the low goal
@@ -103,33 +105,43 @@ module _ (d : After-within-d) where
   high_is : high_from (text before_goals) low place3 ≡ got_of d.within-d.result
   high_is =
       let b = back_c (goal.at.After-within-d d).In-Value-c in
-      let t : to_z w64 (of_z w64 d.top_high.result) ≡ top_high low = to_z-of_z {w = w64} (sfits_of d.top_high.type_inv) ∙ (d.top_high.ensures ∙ ap top_high b) in
+      let t : to_z w64 (of_z w64 d.top_high.result) ≡ top_high low = to_z-of_z {w = w64} (sfits_of d.top_high.type_inv)
+      ∙ (d.top_high.ensures ∙ ap top_high b) in
       ap₂ (λ lo hi. within (text before_goals) lo hi Goal place3) (sym b) (sym t) ∙ d.within-d.ensures
 
 pub returns-in-Value-d : goal.returns-in-Value-d
 returns-in-Value-d c =
     let v = after_within2 (goal.at.returns-in-Value-d c).After-within-d in
     let w = after_within v in
-    rw (back_a (goal.at.After-within-b w).In-Value, back_b (goal.at.After-within-c v).In-Value-b, back_c (goal.at.returns-in-Value-d c).In-Value-c, back_d c)
-    (interval_read (text w) (start w).args.at _ _ _ _ (lower w) (upper v) (low (goal.at.returns-in-Value-d c).After-within-d) c.in-Value-d.high (lower_read w) (upper_read v) (low_read (goal.at.returns-in-Value-d c).After-within-d)
+    rw (
+      back_a (goal.at.After-within-b w).In-Value,
+      back_b (goal.at.After-within-c v).In-Value-b,
+      back_c (goal.at.returns-in-Value-d c).In-Value-c,
+      back_d c,
+    )
+    (interval_read (text w) (start w).args.at _ _ _ _ (lower w) (upper v) (low (goal.at.returns-in-Value-d c).After-within-d) c.in-Value-d.high
+    (lower_read w) (upper_read v) (low_read (goal.at.returns-in-Value-d c).After-within-d)
     (high_is (goal.at.returns-in-Value-d c).After-within-d ∙ ap got_of c.in-Value-d.is))
 
 pub returns-in-Refused-d : goal.returns-in-Refused-d
 returns-in-Refused-d c =
     let v = after_within2 (goal.at.returns-in-Refused-d c).After-within-d in
     let w = after_within v in
-    interval_high (text w) (start w).args.at _ _ _ 0 (lower w) (upper v) (low (goal.at.returns-in-Refused-d c).After-within-d) (pos 0) _ (lower_read w) (upper_read v) (low_read (goal.at.returns-in-Refused-d c).After-within-d)
+    interval_high (text w) (start w).args.at _ _ _ 0 (lower w) (upper v) (low (goal.at.returns-in-Refused-d c).After-within-d) (pos 0) _
+    (lower_read w) (upper_read v) (low_read (goal.at.returns-in-Refused-d c).After-within-d)
     (high_is (goal.at.returns-in-Refused-d c).After-within-d ∙ ap got_of c.in-Refused-d.is)
 
 pub returns-in-Refused-c : goal.returns-in-Refused-c
 returns-in-Refused-c c =
     let w = after_within (goal.at.returns-in-Refused-c c).After-within-c in
-    interval_low (text w) (start w).args.at _ _ 0 0 (lower w) (upper (goal.at.returns-in-Refused-c c).After-within-c) (pos 0) (pos 0) _ (lower_read w) (upper_read (goal.at.returns-in-Refused-c c).After-within-c)
+    interval_low (text w) (start w).args.at _ _ 0 0 (lower w) (upper (goal.at.returns-in-Refused-c c).After-within-c) (pos 0) (pos 0) _ (lower_read w)
+    (upper_read (goal.at.returns-in-Refused-c c).After-within-c)
     (low_is (goal.at.returns-in-Refused-c c).After-within-c ∙ ap got_of c.in-Refused-c.is)
 
 pub returns-in-Refused-b : goal.returns-in-Refused-b
 returns-in-Refused-b c =
-    interval_upper (text (goal.at.returns-in-Refused-b c).After-within-b) (start (goal.at.returns-in-Refused-b c).After-within-b).args.at _ 0 0 0 (lower (goal.at.returns-in-Refused-b c).After-within-b) (pos 0) (pos 0) (pos 0) _ (lower_read (goal.at.returns-in-Refused-b c).After-within-b)
+    interval_upper (text (goal.at.returns-in-Refused-b c).After-within-b) (start (goal.at.returns-in-Refused-b c).After-within-b).args.at _ 0 0 0
+    (lower (goal.at.returns-in-Refused-b c).After-within-b) (pos 0) (pos 0) (pos 0) _ (lower_read (goal.at.returns-in-Refused-b c).After-within-b)
     (upper_is (goal.at.returns-in-Refused-b c).After-within-b ∙ ap got_of c.in-Refused-b.is)
 
 pub returns-in-Refused : goal.returns-in-Refused

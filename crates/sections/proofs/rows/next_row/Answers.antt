@@ -39,11 +39,21 @@ module _ (d : In-Read) where
 
 pub read_line-g-requires : goal.read_line-g-requires
 unfolding blank
-read_line-g-requires c = record { intervals_le_deck_columns = (c.requires.intervals_le_deck_columns.0, c.requires.intervals_le_deck_columns.1); line_value = refl }
+read_line-g-requires c =
+    record { intervals_le_deck_columns = (c.requires.intervals_le_deck_columns.0, c.requires.intervals_le_deck_columns.1); line_value = refl }
 
 pub store_row-requires : goal.store_row-requires
 store_row-requires c =
-    record { kind_bound = (room (goal.at.store_row-requires c).In-Read, (start (goal.at.store_row-requires c).In-Read).requires.intervals_le_deck_columns.2); line_len = ((after_read_line (goal.at.store_row-requires c).In-Read).read_line-g.auto.line, (start (goal.at.store_row-requires c).In-Read).requires.lengths) }
+    record {
+      kind_bound = (
+        room (goal.at.store_row-requires c).In-Read,
+        (start (goal.at.store_row-requires c).In-Read).requires.intervals_le_deck_columns.2,
+      );
+      line_len = (
+        (after_read_line (goal.at.store_row-requires c).In-Read).read_line-g.auto.line,
+        (start (goal.at.store_row-requires c).In-Read).requires.lengths,
+      );
+    }
 
 pub overflow_add-result : goal.overflow_add-result
 overflow_add-result c =

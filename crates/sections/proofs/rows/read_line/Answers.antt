@@ -78,7 +78,8 @@ returns-in-Went c =
     record {
       terms = st.terms;
       read =
-          line_read (text d) (count d) x.c.columns x.c.at _ _ _ _ (number (goal.at.returns-in-Went c).After-natural) st.terms (row_is d) (count_is d ∙ ap got_of b.is)
+          line_read (text d) (count d) x.c.columns x.c.at _ _ _ _ (number (goal.at.returns-in-Went c).After-natural) st.terms (row_is d)
+          (count_is d ∙ ap got_of b.is)
           st.read;
       line = st.line ∙ ap (placed st.terms) (start d).requires.line_value;
     }
@@ -90,12 +91,15 @@ returns-in-Refused-u c =
     let x = (start d).args in
     let st : terms (text d) (nat_abs (number (goal.at.returns-in-Refused-u c).After-natural)) 0 (count d) [] b.q ≡ no c.in-Refused-u.why =
     rw (c.in-Refused-u.is, number_is (goal.at.returns-in-Refused-u c).After-natural) at c.read_terms-u.ensures in
-    line_terms (text d) (count d) x.c.columns x.c.at _ _ 0 _ (number (goal.at.returns-in-Refused-u c).After-natural) [] _ (row_is d) (count_is d ∙ ap got_of b.is) st
+    line_terms (text d) (count d) x.c.columns x.c.at _ _ 0 _ (number (goal.at.returns-in-Refused-u c).After-natural) [] _ (row_is d)
+    (count_is d ∙ ap got_of b.is) st
 
 pub returns-in-Refused-b : goal.returns-in-Refused-b
 returns-in-Refused-b c =
     let x = (start (goal.at.returns-in-Refused-b c).After-within-b).args in
-    line_count (text (goal.at.returns-in-Refused-b c).After-within-b) (count (goal.at.returns-in-Refused-b c).After-within-b) x.c.columns x.c.at _ 0 0 _ (pos 0) [] _ (row_is (goal.at.returns-in-Refused-b c).After-within-b) (count_is (goal.at.returns-in-Refused-b c).After-within-b ∙ ap got_of c.in-Refused-b.is)
+    line_count (text (goal.at.returns-in-Refused-b c).After-within-b) (count (goal.at.returns-in-Refused-b c).After-within-b) x.c.columns x.c.at _ 0 0
+    _ (pos 0) [] _ (row_is (goal.at.returns-in-Refused-b c).After-within-b)
+    (count_is (goal.at.returns-in-Refused-b c).After-within-b ∙ ap got_of c.in-Refused-b.is)
 
 pub returns-in-Refused : goal.returns-in-Refused
 returns-in-Refused c =

@@ -50,23 +50,32 @@ module _ (d : After-within-b) where
   number_is =
       let l : to_z w64 (of_z w64 d.least_number-low.result) ≡ least_number (kind_of kind) =
       to_z-of_z {w = w64} (sfits_of d.least_number-low.type_inv) ∙ (d.least_number-low.ensures ∙ ap least_number after_kind_of.kind_of.ensures) in
-      let h : to_z w64 (of_z w64 d.positive-high.result) ≡ pos max_right = to_z-of_z {w = w64} (sfits_of d.positive-high.type_inv) ∙ d.positive-high.ensures in
+      let h : to_z w64 (of_z w64 d.positive-high.result) ≡ pos max_right = to_z-of_z {w = w64} (sfits_of d.positive-high.type_inv)
+      ∙ d.positive-high.ensures in
       rw (l, h) at d.within-b.ensures
 
 pub row_of-requires : goal.row_of-requires
 row_of-requires c =
-    rw (back_b c) (number_small (text (goal.at.row_of-requires c).After-within-b) (kind_of (kind (goal.at.row_of-requires c).After-within-b)) _ (place (goal.at.row_of-requires c).After-within-b) _ (number_is (goal.at.row_of-requires c).After-within-b ∙ ap got_of c.in-Value.is))
+    rw (back_b c)
+    (number_small (text (goal.at.row_of-requires c).After-within-b) (kind_of (kind (goal.at.row_of-requires c).After-within-b)) _
+    (place (goal.at.row_of-requires c).After-within-b) _ (number_is (goal.at.row_of-requires c).After-within-b ∙ ap got_of c.in-Value.is))
 
 pub returns-in-Value : goal.returns-in-Value
 returns-in-Value c =
     let x = (start (goal.at.returns-in-Value c).After-within-b).args in
-    let r : c.row_of.result ≡ row_of (kind (goal.at.returns-in-Value c).After-within-b) c.in-Value.v = rw (back_b (goal.at.returns-in-Value c).In-Value) at c.row_of.ensures in
-    rw r (row_read (text (goal.at.returns-in-Value c).After-within-b) x.columns x.at _ _ (kind (goal.at.returns-in-Value c).After-within-b) c.in-Value.v (kind_is (goal.at.returns-in-Value c).After-within-b) (number_is (goal.at.returns-in-Value c).After-within-b ∙ ap got_of c.in-Value.is))
+    let r : c.row_of.result
+    ≡ row_of (kind (goal.at.returns-in-Value c).After-within-b) c.in-Value.v = rw (back_b (goal.at.returns-in-Value c).In-Value) at c.row_of.ensures
+    in
+    rw r (row_read (text (goal.at.returns-in-Value c).After-within-b) x.columns x.at _ _ (kind (goal.at.returns-in-Value c).After-within-b)
+    c.in-Value.v (kind_is (goal.at.returns-in-Value c).After-within-b)
+    (number_is (goal.at.returns-in-Value c).After-within-b ∙ ap got_of c.in-Value.is))
 
 pub returns-in-Refused-b : goal.returns-in-Refused-b
 returns-in-Refused-b c =
     let x = (start (goal.at.returns-in-Refused-b c).After-within-b).args in
-    row_number (text (goal.at.returns-in-Refused-b c).After-within-b) x.columns x.at _ 0 (kind (goal.at.returns-in-Refused-b c).After-within-b) (pos 0) _ (kind_is (goal.at.returns-in-Refused-b c).After-within-b) (number_is (goal.at.returns-in-Refused-b c).After-within-b ∙ ap got_of c.in-Refused-b.is)
+    row_number (text (goal.at.returns-in-Refused-b c).After-within-b) x.columns x.at _ 0 (kind (goal.at.returns-in-Refused-b c).After-within-b)
+    (pos 0) _ (kind_is (goal.at.returns-in-Refused-b c).After-within-b)
+    (number_is (goal.at.returns-in-Refused-b c).After-within-b ∙ ap got_of c.in-Refused-b.is)
 
 pub returns-in-Refused : goal.returns-in-Refused
 returns-in-Refused c =

@@ -82,7 +82,8 @@ module _ (s : List ℕ) (m : ℕ) (a : Cursor) (k₀ b₀ t₀ : List ℤ) (size
 
 -- what is left, where all rows are read
 stored : (n : ℕ) (k₀ : List ℤ) (c : Cursor) (b₀ t₀ k b t : List ℤ) (ls : List Line) {o : Outcome (List Line)} → o ≡ ok ls c.at
-    → (length k₀ ≡ column_cells) × (b₀ ≡ blank deck_rows) × (t₀ ≡ blank coefficient_count) → c.intervals ≡ n → c.columns ≡ n + length (slack_columns ls)
+    → (length k₀ ≡ column_cells) × (b₀ ≡ blank deck_rows) × (t₀ ≡ blank coefficient_count) → c.intervals ≡ n
+    → c.columns ≡ n + length (slack_columns ls)
     → length ls ≡ c.rows → c.rows ≤ deck_rows → k ≡ overwritten k₀ (n * column_width) (cells (slack_columns ls))
     → b ≡ overwritten b₀ 0 (map right_of ls)
     → t ≡ overwritten t₀ 0 (coefficient_rows deck_columns n ls) → rows_done (Read c) k b t ≡ rows_left n k₀ o
@@ -106,12 +107,20 @@ loop-c-init c =
     let p : within s (pos 0) (pos deck_rows) Size x.start.at ≡ got_of c.within-a.result = rw h at c.within-a.ensures in
     let n : c.natural-m.result ≡ nat_abs k = rw b at c.natural-m.ensures in
     let m = count_in s 0 deck_rows Size k x.start.at _ (p ∙ ap got_of c.in-Value.is) in
-    start s c.natural-m.result _ _ _ _ (sized c.requires.columns_len) (omega arith) c.requires.intervals_le_deck_columns.0 c.requires.intervals_le_deck_columns.1 c.requires.intervals_le_deck_columns.2
+    start s c.natural-m.result _ _ _ _ (sized c.requires.columns_len) (omega arith) c.requires.intervals_le_deck_columns.0
+    c.requires.intervals_le_deck_columns.1 c.requires.intervals_le_deck_columns.2
 
 pub next_row-g-requires : goal.next_row-g-requires
 next_row-g-requires c =
     let v = c.loop-c.invariant in
-    record { intervals_le_deck_columns = (omega (arith, v.intervals, c.requires.intervals_le_deck_columns.0), v.room, omega (arith, v.most, c.loop-c-test.true)); lengths = v.lengths }
+    record {
+      intervals_le_deck_columns = (
+        omega (arith, v.intervals, c.requires.intervals_le_deck_columns.0),
+        v.room,
+        omega (arith, v.most, c.loop-c-test.true),
+      );
+      lengths = v.lengths;
+    }
 
 pub loop-c-smaller : goal.loop-c-smaller
 loop-c-smaller c =

@@ -1,6 +1,6 @@
 -- `sections::rules::no_less` meets its contract: the next number, by the definition's test. Assumes nothing.
 use mathlib.Core.Path.{◌≡◌, sym, ◌∙◌, ap}
-use mathlib.Core.Bool.{true, false, cond}
+use mathlib.Core.Bool.{cond}
 use borrow.Author.Rules.{rules}
 use lib.IntN.{ℤ}
 use lib.Signed.{le_z}
@@ -40,10 +40,14 @@ module _ (d : After-at_most) where
   read = ap (judged start) (after_next_number.next_number-g.ensures ∙ ap got_of after_g.in-Value.is)
 
 pub returns-then-at_most : goal.returns-then-at_most
-returns-then-at_most c = let p = sym (told (goal.at.returns-then-at_most c).After-at_most) ∙ c.if-at_most.true in read (goal.at.returns-then-at_most c).After-at_most ∙ (rw (whole (goal.at.returns-then-at_most c).After-at_most, p))
+returns-then-at_most c =
+    let p = sym (told (goal.at.returns-then-at_most c).After-at_most) ∙ c.if-at_most.true in
+    read (goal.at.returns-then-at_most c).After-at_most ∙ (rw (whole (goal.at.returns-then-at_most c).After-at_most, p))
 
 pub returns-else-at_most : goal.returns-else-at_most
-returns-else-at_most c = let p = sym (told (goal.at.returns-else-at_most c).After-at_most) ∙ c.if-at_most.false in read (goal.at.returns-else-at_most c).After-at_most ∙ (rw p)
+returns-else-at_most c =
+    let p = sym (told (goal.at.returns-else-at_most c).After-at_most) ∙ c.if-at_most.false in
+    read (goal.at.returns-else-at_most c).After-at_most ∙ (rw p)
 
 pub returns-in-Refused : goal.returns-in-Refused
 returns-in-Refused c =

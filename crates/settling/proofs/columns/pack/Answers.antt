@@ -88,7 +88,8 @@ loop-j-preserved c =
           ∙ (λ i. put (width * l.j) (column_of (back (entry l.j s.args.lower.now) c.put_column-arg-in-loop-j-1.given i)
           (back (entry l.j s.args.upper.now) c.put_column-arg-in-loop-j-2-1.given i)
           (back (entry l.j s.args.low.now) c.put_column-arg-in-loop-j-3-1.given i)
-          (back (entry l.j s.args.high.now) c.put_column-arg-in-loop-j-4-1.given i) (handed (goal.at.loop-j-preserved c).After-put_column-arg-1 i)) (l.invariant.0 i))
+          (back (entry l.j s.args.high.now) c.put_column-arg-in-loop-j-4-1.given i) (handed (goal.at.loop-j-preserved c).After-put_column-arg-1 i))
+          (l.invariant.0 i))
           ∙ packed_put (f s) l.j s.args.columns.now (omega (arith, s.requires.room, g)),
       omega (arith, g),
     )

@@ -33,11 +33,17 @@ gap-requires c =
 
 pub returns-then-less : goal.returns-then-less
 returns-then-less c =
-    cc (c.gap.ensures, lower (goal.at.returns-then-less c).Start, value (goal.at.returns-then-less c).Start, distance_under c.args.c (under (goal.at.returns-then-less c).After-less ∙ c.if-less.true))
+    cc (
+      c.gap.ensures,
+      lower (goal.at.returns-then-less c).Start,
+      value (goal.at.returns-then-less c).Start,
+      distance_under c.args.c (under (goal.at.returns-then-less c).After-less ∙ c.if-less.true),
+    )
 
 pub gap-requires-then-less-2 : goal.gap-requires-then-less-2
 gap-requires-then-less-2 c =
-    rw (upper (goal.at.gap-requires-then-less-2 c).Start, value (goal.at.gap-requires-then-less-2 c).Start) (c.requires.value, omega (arith, c.requires.upper))
+    rw (upper (goal.at.gap-requires-then-less-2 c).Start, value (goal.at.gap-requires-then-less-2 c).Start)
+    (c.requires.value, omega (arith, c.requires.upper))
 
 pub returns-then-less-2 : goal.returns-then-less-2
 returns-then-less-2 c =
@@ -51,4 +57,5 @@ returns-then-less-2 c =
 
 pub returns : goal.returns
 returns c =
-    sym (distance_inside c.args.c (under (goal.at.returns c).After-less ∙ c.if-less.false) (over (goal.at.returns c).After-less-2 ∙ c.if-less-2.false))
+    sym (distance_inside c.args.c (under (goal.at.returns c).After-less ∙ c.if-less.false)
+    (over (goal.at.returns c).After-less-2 ∙ c.if-less-2.false))

@@ -35,12 +35,14 @@ returns-then-not-is_allowed c =
 
 pub returns-then-is_zero : goal.returns-then-is_zero
 returns-then-is_zero c =
-    sym (passes_still c.args.part c.args.c _ c.args.q (allowed (goal.at.returns-then-is_zero c).Else-not-is_allowed) (changed (goal.at.returns-then-is_zero c).After-is_zero ∙ c.if-is_zero.true))
+    sym (passes_still c.args.part c.args.c _ c.args.q (allowed (goal.at.returns-then-is_zero c).Else-not-is_allowed)
+    (changed (goal.at.returns-then-is_zero c).After-is_zero ∙ c.if-is_zero.true))
 
 pub returns-then-not-is_compared : goal.returns-then-not-is_compared
 returns-then-not-is_compared c =
     sym (passes_free c.args.part c.args.c _ c.args.q (allowed (goal.at.returns-then-not-is_compared c).Else-not-is_allowed)
-    (changed (goal.at.returns-then-not-is_compared c).After-is_zero ∙ c.if-is_zero.false) (failed (compared (goal.at.returns-then-not-is_compared c).After-is_compared) c.if-not-is_compared.true))
+    (changed (goal.at.returns-then-not-is_compared c).After-is_zero ∙ c.if-is_zero.false)
+    (failed (compared (goal.at.returns-then-not-is_compared c).After-is_compared) c.if-not-is_compared.true))
 
 pub measure-requires : goal.measure-requires
 measure-requires c = sized (goal.at.measure-requires c).Else-not-is_allowed

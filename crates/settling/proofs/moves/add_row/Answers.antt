@@ -49,8 +49,10 @@ stored :
 stored c =
     let l = c.loop-j in
     back c.plus_product-y.result c.plus_product-y.type_inv ∙ c.plus_product-y.ensures
-    ∙ (λ i. value (goal.at.After-plus_product-y c).After-plus_product-arg-1 i +ℤ A (goal.at.After-plus_product-y c).Start *ℤ share (goal.at.After-plus_product-y c).After-plus_product-arg-in-loop-j-1 i)
-    ∙ sym (entry_plus l.j (A (goal.at.After-plus_product-y c).Start) c.args.row.now c.args.values.now (omega (arith, c.requires.0, c.loop-j-test.true)))
+    ∙ (λ i. value (goal.at.After-plus_product-y c).After-plus_product-arg-1 i +ℤ A (goal.at.After-plus_product-y c).Start *ℤ share
+    (goal.at.After-plus_product-y c).After-plus_product-arg-in-loop-j-1 i)
+    ∙ sym (entry_plus l.j (A (goal.at.After-plus_product-y c).Start) c.args.row.now c.args.values.now
+    (omega (arith, c.requires.0, c.loop-j-test.true)))
 
 pub loop-j-init : goal.loop-j-init
 loop-j-init c = starts (sym (length_plus (A c) c.args.row.now c.args.values.now))

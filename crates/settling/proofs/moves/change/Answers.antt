@@ -64,7 +64,12 @@ bounds-basis-t c = at_t (goal.at.bounds-basis-t c).Start
 
 pub combine-requires : goal.combine-requires
 combine-requires c =
-    rw (read_a (goal.at.combine-requires c).Start, read_b (goal.at.combine-requires c).Start, read_s (goal.at.combine-requires c).Start, read_t (goal.at.combine-requires c).Start) (
+    rw (
+      read_a (goal.at.combine-requires c).Start,
+      read_b (goal.at.combine-requires c).Start,
+      read_s (goal.at.combine-requires c).Start,
+      read_t (goal.at.combine-requires c).Start,
+    ) (
       c.requires.1.a,
       c.requires.1.b,
       c.requires.0.small (c.args.o.s * c.args.view.stride + c.args.j),

@@ -106,7 +106,9 @@ second_end c =
 -- what the first addition leaves
 first : (c : After-add_row) → c.add_row.new.values ≡ once (goal.at.After-add_row c).Start
 first c =
-    c.add_row.ensures ∙ (λ i. plus (a (goal.at.After-add_row c).Start i) (is (goal.at.After-add_row c).Start c.args.o.s c.requires.viewed.1.s i) (v (goal.at.After-add_row c).Start))
+    c.add_row.ensures
+    ∙ (λ i. plus (a (goal.at.After-add_row c).Start i) (is (goal.at.After-add_row c).Start c.args.o.s c.requires.viewed.1.s i)
+    (v (goal.at.After-add_row c).Start))
 
 pub returns-then-n-eq0 : goal.returns-then-n-eq0
 returns-then-n-eq0 c =
@@ -136,7 +138,9 @@ add_row-requires c =
 
 pub returns-then-is_zero : goal.returns-then-is_zero
 returns-then-is_zero c =
-    first (goal.at.returns-then-is_zero c).After-add_row ∙ sym (alone (goal.at.returns-then-is_zero c).Start (ap is_zero (sym (b (goal.at.returns-then-is_zero c).Start)) ∙ sym c.is_zero.ensures ∙ c.if-is_zero.true))
+    first (goal.at.returns-then-is_zero c).After-add_row
+    ∙ sym (alone (goal.at.returns-then-is_zero c).Start
+    (ap is_zero (sym (b (goal.at.returns-then-is_zero c).Start)) ∙ sym c.is_zero.ensures ∙ c.if-is_zero.true))
 
 pub overflow_mul-from : goal.overflow_mul-from
 overflow_mul-from c =
@@ -166,5 +170,6 @@ add_row-requires-2 c =
 pub returns : goal.returns
 returns c =
     c.add_row-2.ensures
-    ∙ (λ i. plus (b (goal.at.returns c).Start i) (is (goal.at.returns c).Start c.args.o.t c.requires.viewed.1.t i) (first (goal.at.returns c).After-add_row i))
+    ∙ (λ i. plus (b (goal.at.returns c).Start i) (is (goal.at.returns c).Start c.args.o.t c.requires.viewed.1.t i)
+    (first (goal.at.returns c).After-add_row i))
     ∙ sym (both (goal.at.returns c).Start)

@@ -15,7 +15,8 @@ use Rattle.lattice.proofs.RowLaws.{length_plus, entry_plus}
 use Rattle.whole.proofs.Writing.{unread}
 use Rattle.settling.specs.Seats.{within}
 use Rattle.settling.proofs.Adding.{adds_from, adds_on, adds_beyond, adds_all}
-use Rattle.settling.proofs.seating.add_row.Goals.{After-magnitude, After-plus_product-arg-1, After-plus_product-arg-in-loop-j-1, After-plus_product-y, In-loop-j, Start}
+use Rattle.settling.proofs.seating.add_row.Goals.{After-magnitude, After-plus_product-arg-1, After-plus_product-arg-in-loop-j-1, After-plus_product-y}
+use Rattle.settling.proofs.seating.add_row.Goals.{In-loop-j, Start}
 use Rattle.settling.proofs.seating.add_row.Goals as goal
 
 -- the factor as the loop carries it
@@ -51,7 +52,8 @@ stored :
 stored c =
     let l = c.loop-j in
     back c.plus_product-y.result c.plus_product-y.type_inv ∙ c.plus_product-y.ensures
-    ∙ (λ i. value (goal.at.After-plus_product-y c).After-plus_product-arg-1 i +ℤ Q (goal.at.After-plus_product-y c).Start *ℤ share (goal.at.After-plus_product-y c).After-plus_product-arg-in-loop-j-1 i)
+    ∙ (λ i. value (goal.at.After-plus_product-y c).After-plus_product-arg-1 i +ℤ Q (goal.at.After-plus_product-y c).Start *ℤ share
+    (goal.at.After-plus_product-y c).After-plus_product-arg-in-loop-j-1 i)
     ∙ sym (entry_plus l.j (Q (goal.at.After-plus_product-y c).Start) c.args.row.now c.args.values.now
     (omega (arith, c.requires.0.long, c.loop-j-test.true)))
 
@@ -110,7 +112,12 @@ loop-j-preserved c =
     let l = c.loop-j in
     adds_on (Q (goal.at.loop-j-preserved c).Start) c.args.row.now c.args.values.now c.requires.0 l.values l.j l.invariant _ c.lead_from-j.result
     c.loop-j-test.true (stored (goal.at.loop-j-preserved c).After-plus_product-y)
-    (omega (arith, size (goal.at.loop-j-preserved c).After-magnitude, ap nat_abs (stored (goal.at.loop-j-preserved c).After-plus_product-y), c.if-magnitude-gt-MAX_NUMBER.false))
+    (omega (
+      arith,
+      size (goal.at.loop-j-preserved c).After-magnitude,
+      ap nat_abs (stored (goal.at.loop-j-preserved c).After-plus_product-y),
+      c.if-magnitude-gt-MAX_NUMBER.false,
+    ))
     c.lead_from-j.ensures
 
 pub shape_of-values : goal.shape_of-values

@@ -47,7 +47,8 @@ module _ (c : After-cell_at-cell) where
 nearest : (c : After-ideal) → to_z w64 (of_z w64 c.ideal.result) ≡ ideal_at (C (goal.at.After-ideal c).Start) c.args.values.now c.args.c
 nearest c =
     back c.ideal.result c.ideal.type_inv ∙ c.ideal.ensures
-    ∙ (λ i. Ideals.ideal (lower (goal.at.After-ideal c).After-cell_at-cell i) (upper (goal.at.After-ideal c).After-cell_at-cell i) (c.wish_at.ensures i) (value (goal.at.After-ideal c).After-cell_at-cell i))
+    ∙ (λ i. Ideals.ideal (lower (goal.at.After-ideal c).After-cell_at-cell i) (upper (goal.at.After-ideal c).After-cell_at-cell i)
+    (c.wish_at.ensures i) (value (goal.at.After-ideal c).After-cell_at-cell i))
 
 pub overflow_sub-result : goal.overflow_sub-result
 overflow_sub-result c =

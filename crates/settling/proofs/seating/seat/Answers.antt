@@ -36,7 +36,9 @@ module _ (c : After-copy) where
 held :
     (c : After-held-2-1) → (t : List ℤ)
     → take (n (goal.at.After-held-2-1 c).Start) (c.copy.new.to ++ drop (n (goal.at.After-held-2-1 c).Start) t) ≡ c.args.values.now
-held c t = part_back (n (goal.at.After-held-2-1 c).Start) c.copy.new.to t (copy_long (goal.at.After-held-2-1 c).After-copy) ∙ copied (goal.at.After-held-2-1 c).After-copy
+held c t =
+    part_back (n (goal.at.After-held-2-1 c).Start) c.copy.new.to t (copy_long (goal.at.After-held-2-1 c).After-copy)
+    ∙ copied (goal.at.After-held-2-1 c).After-copy
 
 module _ (c : After-seat_all) where
   abbrev start : Start
@@ -62,14 +64,16 @@ pub copy-requires : goal.copy-requires
 copy-requires c = sym (part_length (n (goal.at.copy-requires c).Start) _ (omega (arith, c.requires.ready.few))) ∙ sym c.requires.ready.values_long
 
 pub slice_bounds-held-end-2 : goal.slice_bounds-held-end-2
-slice_bounds-held-end-2 c = part_fits (n (goal.at.slice_bounds-held-end-2 c).Start) c.copy.new.to _ (copy_long (goal.at.slice_bounds-held-end-2 c).After-copy)
+slice_bounds-held-end-2 c =
+    part_fits (n (goal.at.slice_bounds-held-end-2 c).Start) c.copy.new.to _ (copy_long (goal.at.slice_bounds-held-end-2 c).After-copy)
 
 pub slice_bounds-seat_all-end : goal.slice_bounds-seat_all-end
 slice_bounds-seat_all-end c = sym (ap length (held (goal.at.slice_bounds-seat_all-end c).After-held-2-1 _) ∙ c.requires.ready.values_long)
 
 pub seat_all-requires : goal.seat_all-requires
 seat_all-requires c =
-    subst (λ (v : List ℤ). Seatable c.args.view v c.args.columns.now c.args.basis.now) (sym (held (goal.at.seat_all-requires c).After-held-2-1 _)) c.requires
+    subst (λ (v : List ℤ). Seatable c.args.view v c.args.columns.now c.args.basis.now) (sym (held (goal.at.seat_all-requires c).After-held-2-1 _))
+    c.requires
 
 pub returns-then-not-seat_all : goal.returns-then-not-seat_all
 returns-then-not-seat_all c =
@@ -82,16 +86,20 @@ slice_bounds-held-end-3 c =
 
 pub slice_bounds-copy-end-2 : goal.slice_bounds-copy-end-2
 slice_bounds-copy-end-2 c =
-    sym (ap length (part_back (n (goal.at.slice_bounds-copy-end-2 c).Start) c.seat_all.new.values _ (seated_long (goal.at.slice_bounds-copy-end-2 c).After-seat_all))
+    sym (ap length
+    (part_back (n (goal.at.slice_bounds-copy-end-2 c).Start) c.seat_all.new.values _ (seated_long (goal.at.slice_bounds-copy-end-2 c).After-seat_all))
     ∙ seated_long (goal.at.slice_bounds-copy-end-2 c).After-seat_all)
 
 pub copy-requires-2 : goal.copy-requires-2
 copy-requires-2 c =
-    c.requires.ready.values_long ∙ sym (ap length (part_back (n (goal.at.copy-requires-2 c).Start) c.seat_all.new.values _ (seated_long (goal.at.copy-requires-2 c).After-seat_all))
+    c.requires.ready.values_long
+    ∙ sym (ap length
+    (part_back (n (goal.at.copy-requires-2 c).Start) c.seat_all.new.values _ (seated_long (goal.at.copy-requires-2 c).After-seat_all))
     ∙ seated_long (goal.at.copy-requires-2 c).After-seat_all)
 
 pub returns : goal.returns
 returns c =
     let e = answered (goal.at.returns c).After-seat_all true (c.if-not-seat_all.false) in
-    ap (seat_done true) (c.copy-2.ensures ∙ part_back (n (goal.at.returns c).Start) c.seat_all.new.values _ (seated_long (goal.at.returns c).After-seat_all))
+    ap (seat_done true)
+    (c.copy-2.ensures ∙ part_back (n (goal.at.returns c).Start) c.seat_all.new.values _ (seated_long (goal.at.returns c).After-seat_all))
     ∙ sym (ap (λ (z : Seated). leaves z c.args.values.now) e)

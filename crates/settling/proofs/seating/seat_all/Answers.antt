@@ -62,7 +62,8 @@ found c =
     let s = start (goal.at.After-lead_from-c c).In-loop-s in
     let l = c.loop-s in
     c.lead_from-c.ensures ∙ ap (λ (r : List ℤ). l.from + lead (drop l.from r)) (is (goal.at.After-lead_from-c c).In-loop-s)
-    ∙ lead_behind l.from (row (goal.at.After-lead_from-c c).In-loop-s) (rises_row (B s) s.args.basis.now l.from l.s c.loop-s-test.true l.invariant.rises)
+    ∙ lead_behind l.from (row (goal.at.After-lead_from-c c).In-loop-s)
+    (rises_row (B s) s.args.basis.now l.from l.s c.loop-s-test.true l.invariant.rises)
 
 -- what its addition tells
 module _ (c : After-seat_one) where
@@ -100,7 +101,12 @@ pub slice_bounds-lead_from-end : goal.slice_bounds-lead_from-end
 slice_bounds-lead_from-end c = ends c
 
 pub offset_bounds-basis-at-in-loop-s : goal.offset_bounds-basis-at-in-loop-s
-offset_bounds-basis-at-in-loop-s c = omega (arith, ends (goal.at.offset_bounds-basis-at-in-loop-s c).In-loop-s, (start (goal.at.offset_bounds-basis-at-in-loop-s c).In-loop-s).well_formed)
+offset_bounds-basis-at-in-loop-s c =
+    omega (
+      arith,
+      ends (goal.at.offset_bounds-basis-at-in-loop-s c).In-loop-s,
+      (start (goal.at.offset_bounds-basis-at-in-loop-s c).In-loop-s).well_formed,
+    )
 
 pub slice_bounds-seat_one-count : goal.slice_bounds-seat_one-count
 slice_bounds-seat_one-count c = omega arith
@@ -121,19 +127,30 @@ seat_one-requires c =
     )
 
 pub shape_of-values-then-not-seat_one : goal.shape_of-values-then-not-seat_one
-shape_of-values-then-not-seat_one c = c.seat_one.auto.values ∙ (turn (goal.at.shape_of-values-then-not-seat_one c).After-seat_one).loop-s.invariant.long
+shape_of-values-then-not-seat_one c =
+    c.seat_one.auto.values ∙ (turn (goal.at.shape_of-values-then-not-seat_one c).After-seat_one).loop-s.invariant.long
 
 pub returns-then-not-seat_one : goal.returns-then-not-seat_one
 returns-then-not-seat_one c =
     let s = start (turn (goal.at.returns-then-not-seat_one c).After-seat_one) in
     let l = (turn (goal.at.returns-then-not-seat_one c).After-seat_one).loop-s in
-    let e : any_beyond (after (goal.at.returns-then-not-seat_one c).After-seat_one) ≡ true = within_false (after (goal.at.returns-then-not-seat_one c).After-seat_one) (told (goal.at.returns-then-not-seat_one c).After-seat_one false (c.if-not-seat_one.true)) in
-    sym (sym l.invariant.rest ∙ seat_far (C s) (B s) s.args.basis.now l.values l.s (turn (goal.at.returns-then-not-seat_one c).After-seat_one).loop-s-test.true e)
+    let e : any_beyond (after (goal.at.returns-then-not-seat_one c).After-seat_one)
+    ≡ true = within_false (after (goal.at.returns-then-not-seat_one c).After-seat_one)
+    (told (goal.at.returns-then-not-seat_one c).After-seat_one false (c.if-not-seat_one.true)) in
+    sym (sym l.invariant.rest
+    ∙ seat_far (C s) (B s) s.args.basis.now l.values l.s (turn (goal.at.returns-then-not-seat_one c).After-seat_one).loop-s-test.true e)
 
 pub overflow_add-from : goal.overflow_add-from
 overflow_add-from c =
     let q = (turn (goal.at.overflow_add-from c).After-seat_one).loop-s.invariant.seatable.ready in
-    omega (arith, found (goal.at.overflow_add-from c).After-lead_from-c, (led (turn (goal.at.overflow_add-from c).After-seat_one)).inside, (addable (turn (goal.at.overflow_add-from c).After-seat_one)).long, q.values_long, q.few)
+    omega (
+      arith,
+      found (goal.at.overflow_add-from c).After-lead_from-c,
+      (led (turn (goal.at.overflow_add-from c).After-seat_one)).inside,
+      (addable (turn (goal.at.overflow_add-from c).After-seat_one)).long,
+      q.values_long,
+      q.few,
+    )
 
 pub overflow_add-s : goal.overflow_add-s
 overflow_add-s c = omega arith
@@ -146,8 +163,10 @@ loop-s-preserved c =
     let s = start (turn (goal.at.loop-s-preserved c).After-seat_one) in
     let l = (turn (goal.at.loop-s-preserved c).After-seat_one).loop-s in
     let h = (turn (goal.at.loop-s-preserved c).After-seat_one).loop-s-test.true in
-    let e : (any_beyond (after (goal.at.loop-s-preserved c).After-seat_one) ≡ false) × (c.seat_one.new.values ≡ after (goal.at.loop-s-preserved c).After-seat_one) =
-    within_true (after (goal.at.loop-s-preserved c).After-seat_one) c.seat_one.new.values (told (goal.at.loop-s-preserved c).After-seat_one true (c.if-not-seat_one.false)) in
+    let e : (any_beyond (after (goal.at.loop-s-preserved c).After-seat_one) ≡ false)
+    × (c.seat_one.new.values ≡ after (goal.at.loop-s-preserved c).After-seat_one) =
+    within_true (after (goal.at.loop-s-preserved c).After-seat_one) c.seat_one.new.values
+    (told (goal.at.loop-s-preserved c).After-seat_one true (c.if-not-seat_one.false)) in
     record {
       seatable = still_seatable (B s) _ _ _ l.invariant.seatable c.seat_one.new.values c.seat_one.auto.values (ap any_beyond e.1 ∙ e.0);
       long = c.seat_one.auto.values ∙ l.invariant.long;
@@ -165,4 +184,5 @@ shape_of-values c = c.loop-s.invariant.long
 pub returns : goal.returns
 returns c =
     let l = c.loop-s in
-    sym (sym l.invariant.rest ∙ seat_end (C (goal.at.returns c).Start) (B (goal.at.returns c).Start) c.args.basis.now l.values l.s c.loop-s-test.false)
+    sym (sym l.invariant.rest
+    ∙ seat_end (C (goal.at.returns c).Start) (B (goal.at.returns c).Start) c.args.basis.now l.values l.s c.loop-s-test.false)

@@ -49,10 +49,12 @@ read_pivot c =
 
 factor :
     (c : After-nearest_quotient-q) →
-    to_z w64 (of_z w64 c.nearest_quotient-q.result) ≡ nearest_quotient (gap (goal.at.After-nearest_quotient-q c).Start) (pivot (goal.at.After-nearest_quotient-q c).Start)
+    to_z w64 (of_z w64 c.nearest_quotient-q.result)
+    ≡ nearest_quotient (gap (goal.at.After-nearest_quotient-q c).Start) (pivot (goal.at.After-nearest_quotient-q c).Start)
 factor c =
     back c.nearest_quotient-q.result c.nearest_quotient-q.type_inv ∙ c.nearest_quotient-q.ensures
-    ∙ (λ i. nearest_quotient (read_gap (goal.at.After-nearest_quotient-q c).After-gap_at-d i) (read_pivot (goal.at.After-nearest_quotient-q c).After-nearest_quotient-arg-1 i))
+    ∙ (λ i. nearest_quotient (read_gap (goal.at.After-nearest_quotient-q c).After-gap_at-d i)
+    (read_pivot (goal.at.After-nearest_quotient-q c).After-nearest_quotient-arg-1 i))
 
 pub gap_at-d-requires : goal.gap_at-d-requires
 gap_at-d-requires c = (c.requires.0, omega (arith, c.requires.3, c.requires.2.inside, c.requires.1.long))
@@ -65,11 +67,23 @@ bounds-row-c c = omega (arith, c.requires.3, c.requires.2.inside)
 
 pub nearest_quotient-q-requires : goal.nearest_quotient-q-requires
 nearest_quotient-q-requires c =
-    rw (read_gap (goal.at.nearest_quotient-q-requires c).After-gap_at-d, read_pivot c) (omega (arith, small (goal.at.nearest_quotient-q-requires c).Start), omega (arith, c.requires.1.row_small (k (goal.at.nearest_quotient-q-requires c).Start)), c.requires.2.above)
+    rw (read_gap (goal.at.nearest_quotient-q-requires c).After-gap_at-d, read_pivot c) (
+      omega (arith, small (goal.at.nearest_quotient-q-requires c).Start),
+      omega (arith, c.requires.1.row_small (k (goal.at.nearest_quotient-q-requires c).Start)),
+      c.requires.2.above,
+    )
 
 pub add_row-requires : goal.add_row-requires
-add_row-requires c =
-    (c.requires.1, rw (factor (goal.at.add_row-requires c).After-nearest_quotient-q) (omega (arith, nearest_small (gap (goal.at.add_row-requires c).Start) (above_positive (pivot (goal.at.add_row-requires c).Start) c.requires.2.above), small (goal.at.add_row-requires c).Start)), c.requires.3)
+add_row-requires c = (
+  c.requires.1,
+  rw (factor (goal.at.add_row-requires c).After-nearest_quotient-q)
+      (omega (
+        arith,
+        nearest_small (gap (goal.at.add_row-requires c).Start) (above_positive (pivot (goal.at.add_row-requires c).Start) c.requires.2.above),
+        small (goal.at.add_row-requires c).Start,
+      )),
+  c.requires.3,
+)
 
 pub returns : goal.returns
 unfolding seat_one

@@ -42,7 +42,8 @@ counts :
     let a = c.args in
     c.gather-gathered.result.rounds ≡ refused_none c.gather-gathered.result.over (passed_rounds a.rows (length a.pivot.now) a.c a.k a.t.now)
 counts c =
-    (told c).1 ∙ ap (refused_none c.gather-gathered.result.over) (sym (passed_rounds_lem c.requires.standing c.requires.c_in_bounds c.requires.picked))
+    (told c).1
+    ∙ ap (refused_none c.gather-gathered.result.over) (sym (passed_rounds_lem c.requires.standing c.requires.c_in_bounds c.requires.picked))
 
 -- once that has met no number beyond M
 module _ (c : Else-gathered) where
@@ -94,7 +95,9 @@ pub returns-then-gathered : goal.returns-then-gathered
 returns-then-gathered c =
     record {
       stops_run = record {
-        answer = c.if-gathered.true ∙ sym (passed_over c.requires.standing c.requires.c_in_bounds c.requires.picked (sym (told (goal.at.returns-then-gathered c).After-gather-gathered).0.answer ∙ c.if-gathered.true));
+        answer = c.if-gathered.true
+            ∙ sym (passed_over c.requires.standing c.requires.c_in_bounds c.requires.picked
+            (sym (told (goal.at.returns-then-gathered c).After-gather-gathered).0.answer ∙ c.if-gathered.true));
         left = λ e. absurd (true≢false (sym c.if-gathered.true ∙ e));
       };
       rounds_value = counts (goal.at.returns-then-gathered c).After-gather-gathered;
@@ -104,16 +107,22 @@ pub slice_bounds-each-end : goal.slice_bounds-each-end
 slice_bounds-each-end c = rw (back_is c) (omega (arith, length-append (take (at c) (t_of c)) (u c), length-take-le (at c) (t_of c) (room c)))
 
 pub slice_bounds-each-end-2 : goal.slice_bounds-each-end-2
-slice_bounds-each-end-2 c = sym (ap length (top_is (goal.at.slice_bounds-each-end-2 c).Else-gathered) ∙ length-take-le (at (goal.at.slice_bounds-each-end-2 c).Else-gathered) (t_of (goal.at.slice_bounds-each-end-2 c).Else-gathered) (room (goal.at.slice_bounds-each-end-2 c).Else-gathered))
+slice_bounds-each-end-2 c =
+    sym (ap length (top_is (goal.at.slice_bounds-each-end-2 c).Else-gathered)
+    ∙ length-take-le (at (goal.at.slice_bounds-each-end-2 c).Else-gathered) (t_of (goal.at.slice_bounds-each-end-2 c).Else-gathered)
+    (room (goal.at.slice_bounds-each-end-2 c).Else-gathered))
 
 pub each-requires : goal.each-requires
 each-requires c =
     let a = (s (goal.at.each-requires c).Else-gathered).args in
     let p = (s (goal.at.each-requires c).Else-gathered).requires in record {
-      t_len = ap length (top_is (goal.at.each-requires c).Else-gathered) ∙ length-take-le (at (goal.at.each-requires c).Else-gathered) (t_of (goal.at.each-requires c).Else-gathered) (room (goal.at.each-requires c).Else-gathered) ∙ ap (λ (i : ℕ). a.k * i) (sym c.gather-gathered.auto.pivot);
+      t_len = ap length (top_is (goal.at.each-requires c).Else-gathered)
+          ∙ length-take-le (at (goal.at.each-requires c).Else-gathered) (t_of (goal.at.each-requires c).Else-gathered)
+          (room (goal.at.each-requires c).Else-gathered) ∙ ap (λ (i : ℕ). a.k * i) (sym c.gather-gathered.auto.pivot);
       pivot = subst (λ (r : List ℤ). Pivot (length r) a.c r) (sym ((told (goal.at.each-requires c).After-gather-gathered).0.row c.if-gathered.false))
           (pivot_of (rows_of p.standing p.c_in_bounds p.picked) (unmarked (goal.at.each-requires c).Else-gathered));
-      within = subst Within (sym (top_is (goal.at.each-requires c).Else-gathered)) (within_take (at (goal.at.each-requires c).Else-gathered) (t_of (goal.at.each-requires c).Else-gathered) p.standing.small);
+      within = subst Within (sym (top_is (goal.at.each-requires c).Else-gathered))
+          (within_take (at (goal.at.each-requires c).Else-gathered) (t_of (goal.at.each-requires c).Else-gathered) p.standing.small);
     }
 
 -- what taking the pivot from the rows above answers and leaves
@@ -122,7 +131,10 @@ stops :
     let e = c.each in
     let a = (s (goal.at.After-t-2-1 c).Else-gathered).args in
     StopsRun (rejoined (passed_of a.rows (length a.pivot.now) a.c a.k (t_of (goal.at.After-t-2-1 c).Else-gathered))) e.result
-    (e.new.t ++ drop (at (goal.at.After-t-2-1 c).Else-gathered) (put_mid (at (goal.at.After-t-2-1 c).Else-gathered) (length (t_of (goal.at.After-t-2-1 c).Else-gathered) - at (goal.at.After-t-2-1 c).Else-gathered) (t_of (goal.at.After-t-2-1 c).Else-gathered) (u (goal.at.After-t-2-1 c).Else-gathered)))
+    (e.new.t ++ drop (at (goal.at.After-t-2-1 c).Else-gathered)
+    (put_mid (at (goal.at.After-t-2-1 c).Else-gathered)
+    (length (t_of (goal.at.After-t-2-1 c).Else-gathered) - at (goal.at.After-t-2-1 c).Else-gathered) (t_of (goal.at.After-t-2-1 c).Else-gathered)
+    (u (goal.at.After-t-2-1 c).Else-gathered)))
 stops c =
     let g = (told (goal.at.After-t-2-1 c).After-gather-gathered).0 in
     let a = (s (goal.at.After-t-2-1 c).Else-gathered).args in
@@ -130,9 +142,15 @@ stops c =
     let e = c.each in
     let R = rejoined (passed_of a.rows (length a.pivot.now) a.c a.k (t_of (goal.at.After-t-2-1 c).Else-gathered)) in
     subst (λ (l : List ℤ). StopsRun R e.result (e.new.t ++ l))
-    (sym (ap (drop (at (goal.at.After-t-2-1 c).Else-gathered)) (back_is (goal.at.After-t-2-1 c).Else-gathered) ∙ drop_at (take (at (goal.at.After-t-2-1 c).Else-gathered) (t_of (goal.at.After-t-2-1 c).Else-gathered)) (u (goal.at.After-t-2-1 c).Else-gathered) (at (goal.at.After-t-2-1 c).Else-gathered) (length-take-le (at (goal.at.After-t-2-1 c).Else-gathered) (t_of (goal.at.After-t-2-1 c).Else-gathered) (room (goal.at.After-t-2-1 c).Else-gathered))))
-    (passed_stops p.standing p.c_in_bounds p.picked (unmarked (goal.at.After-t-2-1 c).Else-gathered) (g.row c.if-gathered.false) (g.left c.if-gathered.false)
-    (subst (λ (l : List ℤ). StopsRun (each_of Above a.c c.gather-gathered.new.pivot a.k l) e.result e.new.t) (top_is (goal.at.After-t-2-1 c).Else-gathered) e.ensures))
+    (sym (ap (drop (at (goal.at.After-t-2-1 c).Else-gathered)) (back_is (goal.at.After-t-2-1 c).Else-gathered)
+    ∙ drop_at (take (at (goal.at.After-t-2-1 c).Else-gathered) (t_of (goal.at.After-t-2-1 c).Else-gathered)) (u (goal.at.After-t-2-1 c).Else-gathered)
+    (at (goal.at.After-t-2-1 c).Else-gathered)
+    (length-take-le (at (goal.at.After-t-2-1 c).Else-gathered) (t_of (goal.at.After-t-2-1 c).Else-gathered)
+    (room (goal.at.After-t-2-1 c).Else-gathered))))
+    (passed_stops p.standing p.c_in_bounds p.picked (unmarked (goal.at.After-t-2-1 c).Else-gathered) (g.row c.if-gathered.false)
+    (g.left c.if-gathered.false)
+    (subst (λ (l : List ℤ). StopsRun (each_of Above a.c c.gather-gathered.new.pivot a.k l) e.result e.new.t)
+    (top_is (goal.at.After-t-2-1 c).Else-gathered) e.ensures))
 
 pub returns-then-each : goal.returns-then-each
 returns-then-each c =
@@ -141,4 +159,8 @@ returns-then-each c =
 
 pub returns : goal.returns
 returns c =
-    let o = stops (goal.at.returns c).After-t-2-1 in record { stops_run = record { answer = c.if-gathered.false ∙ sym c.if-each.false ∙ o.answer; left = λ _. o.left c.if-each.false }; rounds_value = counts (goal.at.returns c).After-gather-gathered }
+    let o = stops (goal.at.returns c).After-t-2-1 in
+    record {
+      stops_run = record { answer = c.if-gathered.false ∙ sym c.if-each.false ∙ o.answer; left = λ _. o.left c.if-each.false };
+      rounds_value = counts (goal.at.returns c).After-gather-gathered;
+    }

@@ -19,7 +19,8 @@ use Rattle.tableau.proofs.Choosing.{sighted_none, sighted_some}
 use Rattle.tableau.proofs.Passing.{columns_over, columns_on, columns_skip, tail_of, room_of, passed_above, passed_below, passed_on}
 use Rattle.tableau.proofs.Passing.{skipped_on, starts, starts_all, picked_of, ends_columns, ends_rows}
 use Rattle.tableau.proofs.Counting.{rounds_on, rounds_skip, rounds_past, rounds_done, rounds_all, passed_few}
-use Rattle.tableau.proofs.elimination.pass_all.Goals.{After-choose-z, After-pass-passed, After-struct_known-else-z-eq0-1, At-loop-c, Else-z-eq0, In-loop-c}
+use Rattle.tableau.proofs.elimination.pass_all.Goals.{After-choose-z, After-pass-passed, After-struct_known-else-z-eq0-1, At-loop-c, Else-z-eq0}
+use Rattle.tableau.proofs.elimination.pass_all.Goals.{In-loop-c}
 use Rattle.tableau.proofs.elimination.pass_all.Goals as goal
 
 -- the choice in the column
@@ -89,7 +90,11 @@ shape_of-pivot-then-k-rows c = c.loop-c.invariant.wide
 pub returns-then-k-rows : goal.returns-then-k-rows
 returns-then-k-rows c =
     let l = c.loop-c in
-    let w : ℕ = length c.args.pivot.now in record { stops_run = ends_rows (w - l.c) l.invariant.stands l.invariant.rest c.if-k-rows.true; rounds_value = omega (arith, l.invariant.sum, rounds_done (w - l.c) l.c w (above_of w l.k l.t) l.t c.if-k-rows.true) }
+    let w : ℕ = length c.args.pivot.now in
+    record {
+      stops_run = ends_rows (w - l.c) l.invariant.stands l.invariant.rest c.if-k-rows.true;
+      rounds_value = omega (arith, l.invariant.sum, rounds_done (w - l.c) l.c w (above_of w l.k l.t) l.t c.if-k-rows.true);
+    }
 
 pub overflow_mul-at : goal.overflow_mul-at
 overflow_mul-at c = omega (arith, room_of c.loop-c.invariant.stands)
@@ -151,7 +156,13 @@ loop-c-preserved-then-z-eq0 c =
 pub pass-passed-requires : goal.pass-passed-requires
 pass-passed-requires c =
     let i = c.loop-c.invariant in
-    rw i.wide record { standing = i.stands; c_in_bounds = c.loop-c-test.true; picked = picked (goal.at.pass-passed-requires c).Else-z-eq0; chooses = chosen (goal.at.pass-passed-requires c).After-choose-z }
+    rw i.wide record {
+      standing =
+          i.stands;
+      c_in_bounds = c.loop-c-test.true;
+      picked = picked (goal.at.pass-passed-requires c).Else-z-eq0;
+      chooses = chosen (goal.at.pass-passed-requires c).After-choose-z;
+    }
 
 pub shape_of-t-then-passed : goal.shape_of-t-then-passed
 shape_of-t-then-passed c = c.pass-passed.auto.t ∙ (turn (goal.at.shape_of-t-then-passed c).After-pass-passed).loop-c.invariant.same
@@ -169,7 +180,8 @@ returns-then-passed c =
             c.if-passed.true
             ∙ sym
             (ap (λ (x : Run). x.over) (sym l.invariant.rest)
-            ∙ columns_over (w - l.c) l.c (above_of w l.k l.t) (below_of a.rows w l.k l.t) (omega (arith, (tested (goal.at.returns-then-passed c).After-pass-passed).loop-c-test.true))
+            ∙ columns_over (w - l.c) l.c (above_of w l.k l.t) (below_of a.rows w l.k l.t)
+            (omega (arith, (tested (goal.at.returns-then-passed c).After-pass-passed).loop-c-test.true))
             (sym (told (goal.at.returns-then-passed c).After-pass-passed).0.answer ∙ c.if-passed.true));
         left = λ e. absurd (true≢false (sym c.if-passed.true ∙ e));
       };
@@ -193,7 +205,12 @@ passed c =
 few_more : (c : After-struct_known-else-z-eq0-1) →
     c.pass-passed.result.rounds ≤ 31
 few_more c =
-    omega (arith, passed c, passed_few (turn (goal.at.After-struct_known-else-z-eq0-1 c).After-pass-passed).loop-c.invariant.stands (tested (goal.at.After-struct_known-else-z-eq0-1 c).After-pass-passed).loop-c-test.true)
+    omega (
+      arith,
+      passed c,
+      passed_few (turn (goal.at.After-struct_known-else-z-eq0-1 c).After-pass-passed).loop-c.invariant.stands
+          (tested (goal.at.After-struct_known-else-z-eq0-1 c).After-pass-passed).loop-c-test.true,
+    )
 
 pub overflow_add-count : goal.overflow_add-count
 overflow_add-count c =
@@ -255,4 +272,8 @@ returns c =
     let l = c.loop-c in
     let a = c.args in
     let w : ℕ = length a.pivot.now in
-    let z : w - l.c ≡ 0 = omega (arith, c.loop-c-test.false) in record { stops_run = ends_columns (w - l.c) l.invariant.stands l.invariant.rest z; rounds_value = omega (arith, l.invariant.sum, rounds_past (w - l.c) l.c (above_of w l.k l.t) (below_of a.rows w l.k l.t) z) }
+    let z : w - l.c ≡ 0 = omega (arith, c.loop-c-test.false) in
+    record {
+      stops_run = ends_columns (w - l.c) l.invariant.stands l.invariant.rest z;
+      rounds_value = omega (arith, l.invariant.sum, rounds_past (w - l.c) l.c (above_of w l.k l.t) (below_of a.rows w l.k l.t) z);
+    }

@@ -34,7 +34,10 @@ pub fill_row-requires : goal.fill_row-requires
 fill_row-requires c =
     let w : ℕ = c.args.p.rows + c.args.p.columns in
     let some = c.loop-j-test.true in
-    record { row_len = (ap length (part_is c.loop-j.at w c.loop-j.t) ∙ row_wide c.loop-j.invariant c.requires.table some, some); coefficients_len = c.requires.matrix }
+    record {
+      row_len = (ap length (part_is c.loop-j.at w c.loop-j.t) ∙ row_wide c.loop-j.invariant c.requires.table some, some);
+      coefficients_len = c.requires.matrix;
+    }
 
 pub overflow_add-j : goal.overflow_add-j
 overflow_add-j c = omega (arith, c.loop-j-test.true)

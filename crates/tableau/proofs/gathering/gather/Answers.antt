@@ -12,4 +12,7 @@ lift-requires c =
 pub returns-then-z-eq1 : goal.returns-then-z-eq1
 returns-then-z-eq1 c =
     let e = sym c.requires.chooses.count ∙ c.if-z-eq1.true in
-    record { gathers = lone_stops c.requires.tail c.requires.picked c.lift.ensures e; rounds_value = sym (lone_round c.requires.tail c.requires.picked c.lift.ensures e) }
+    record {
+      gathers = lone_stops c.requires.tail c.requires.picked c.lift.ensures e;
+      rounds_value = sym (lone_round c.requires.tail c.requires.picked c.lift.ensures e);
+    }

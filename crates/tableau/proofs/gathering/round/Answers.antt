@@ -26,7 +26,13 @@ slice_bounds-each-start c =
 pub each-requires : goal.each-requires
 each-requires c =
     let w : ℕ = length c.args.pivot.now in
-    let u : List ℤ = c.lift.new.t in record { t_len = ap length (tail_is w u) ∙ below_is_wide c.requires.tail c.requires.picked c.lift.ensures; pivot = pivot_is c.requires.tail c.requires.picked c.lift.ensures; within = subst Within (sym (tail_is w u)) (below_is_small c.requires.tail c.requires.picked c.lift.ensures) }
+    let u : List ℤ = c.lift.new.t in
+    record {
+      t_len = ap length (tail_is w u)
+          ∙ below_is_wide c.requires.tail c.requires.picked c.lift.ensures;
+      pivot = pivot_is c.requires.tail c.requires.picked c.lift.ensures;
+      within = subst Within (sym (tail_is w u)) (below_is_small c.requires.tail c.requires.picked c.lift.ensures);
+    }
 
 pub returns : goal.returns
 returns c =

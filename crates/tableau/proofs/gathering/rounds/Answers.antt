@@ -20,7 +20,8 @@ use Rattle.tableau.proofs.GatherLaws.{chosen_stands}
 use Rattle.tableau.proofs.Choosing.{sighted_none, sighted_some, chosen_size}
 use Rattle.tableau.proofs.Rounds.{chosen_low, ends_inside}
 use Rattle.tableau.proofs.Turns.{marked, finished, finished_rounds, last_round, going_on, next_tail, next_below}
-use Rattle.tableau.proofs.gathering.rounds.Goals.{After-choose-next, After-pivot-1, After-round, At-loop-rows, Else-next-eq0, Else-round, Start, Then-count-most}
+use Rattle.tableau.proofs.gathering.rounds.Goals.{After-choose-next, After-pivot-1, After-round, At-loop-rows, Else-next-eq0, Else-round, Start}
+use Rattle.tableau.proofs.gathering.rounds.Goals.{Then-count-most}
 use Rattle.tableau.proofs.gathering.rounds.Goals as goal
 
 -- what the round answers and leaves
@@ -162,7 +163,8 @@ returns-then-round c =
     let l = c.loop-rows in record {
       gathers = record {
         answer =
-            sym (ap (λ (y : Gathered). y.over) (sym l.invariant.rest) ∙ marked l.invariant.tail l.invariant.picked (sym (told (goal.at.returns-then-round c).After-round).answer ∙ c.if-round.true));
+            sym (ap (λ (y : Gathered). y.over) (sym l.invariant.rest)
+            ∙ marked l.invariant.tail l.invariant.picked (sym (told (goal.at.returns-then-round c).After-round).answer ∙ c.if-round.true));
         left = λ e. absurd (true≢false e);
         row = λ e. absurd (true≢false e);
       };
@@ -187,10 +189,12 @@ pub offset_bounds-t-w : goal.offset_bounds-t-w
 offset_bounds-t-w c = omega (arith, room (goal.at.offset_bounds-t-w c).Else-round, (after (goal.at.offset_bounds-t-w c).Else-round).round.auto.t)
 
 pub slice_bounds-choose-count : goal.slice_bounds-choose-count
-slice_bounds-choose-count c = omega (arith, room (goal.at.slice_bounds-choose-count c).Else-round, (after (goal.at.slice_bounds-choose-count c).Else-round).round.auto.t)
+slice_bounds-choose-count c =
+    omega (arith, room (goal.at.slice_bounds-choose-count c).Else-round, (after (goal.at.slice_bounds-choose-count c).Else-round).round.auto.t)
 
 pub slice_bounds-choose-start : goal.slice_bounds-choose-start
-slice_bounds-choose-start c = omega (arith, room (goal.at.slice_bounds-choose-start c).Else-round, (after (goal.at.slice_bounds-choose-start c).Else-round).round.auto.t)
+slice_bounds-choose-start c =
+    omega (arith, room (goal.at.slice_bounds-choose-start c).Else-round, (after (goal.at.slice_bounds-choose-start c).Else-round).round.auto.t)
 
 pub overflow_sub-rows : goal.overflow_sub-rows
 overflow_sub-rows c = omega (arith, (l (goal.at.overflow_sub-rows c).Else-round).loop-rows.invariant.picked.some)
@@ -198,7 +202,13 @@ overflow_sub-rows c = omega (arith, (l (goal.at.overflow_sub-rows c).Else-round)
 pub choose-next-requires : goal.choose-next-requires
 choose-next-requires c = (
   ap length (tail_is (w (goal.at.choose-next-requires c).Else-round) (u (goal.at.choose-next-requires c).Else-round))
-      ∙ omega (arith, length-drop (w (goal.at.choose-next-requires c).Else-round) (u (goal.at.choose-next-requires c).Else-round), (tail_next (goal.at.choose-next-requires c).Else-round).wide, one_less (k (goal.at.choose-next-requires c).Else-round) (w (goal.at.choose-next-requires c).Else-round) (l (goal.at.choose-next-requires c).Else-round).loop-rows.invariant.picked.some),
+      ∙ omega (
+        arith,
+        length-drop (w (goal.at.choose-next-requires c).Else-round) (u (goal.at.choose-next-requires c).Else-round),
+        (tail_next (goal.at.choose-next-requires c).Else-round).wide,
+        one_less (k (goal.at.choose-next-requires c).Else-round) (w (goal.at.choose-next-requires c).Else-round)
+            (l (goal.at.choose-next-requires c).Else-round).loop-rows.invariant.picked.some,
+      ),
   (start (goal.at.choose-next-requires c).Else-round).requires.tail.column,
 )
 

@@ -55,7 +55,8 @@ slice_copy_out-e c = inside c.requires.pivot
 
 pub returns-then-magnitude-eq0 : goal.returns-then-magnitude-eq0
 returns-then-magnitude-eq0 c =
-    stays (step_none c.args.way c.args.c _ _ c.requires.pivot.lead c.requires.within (sym (size (goal.at.returns-then-magnitude-eq0 c).After-magnitude) ∙ c.if-magnitude-eq0.true))
+    stays (step_none c.args.way c.args.c _ _ c.requires.pivot.lead c.requires.within
+    (sym (size (goal.at.returns-then-magnitude-eq0 c).After-magnitude) ∙ c.if-magnitude-eq0.true))
 
 pub offset_bounds-pivot-c : goal.offset_bounds-pivot-c
 offset_bounds-pivot-c c = omega (arith, inside c.requires.pivot)
@@ -71,7 +72,8 @@ quotient-q-requires c =
 
 pub returns-then-magnitude-eq0-2 : goal.returns-then-magnitude-eq0-2
 returns-then-magnitude-eq0-2 c =
-    stays (step_idle c.args.way c.args.c _ _ (other (goal.at.returns-then-magnitude-eq0-2 c).Else-magnitude-eq0) c.requires.within (sym (size_2 (goal.at.returns-then-magnitude-eq0-2 c).After-magnitude-2) ∙ c.if-magnitude-eq0-2.true))
+    stays (step_idle c.args.way c.args.c _ _ (other (goal.at.returns-then-magnitude-eq0-2 c).Else-magnitude-eq0) c.requires.within
+    (sym (size_2 (goal.at.returns-then-magnitude-eq0-2 c).After-magnitude-2) ∙ c.if-magnitude-eq0-2.true))
 
 pub offset_bounds-row-c-2 : goal.offset_bounds-row-c-2
 offset_bounds-row-c-2 c =

@@ -59,7 +59,13 @@ bounds-pivot-i c = omega (arith, c.loop-i.invariant.written.same, c.requires.row
 
 pub less_product-x-requires : goal.less_product-x-requires
 less_product-x-requires c =
-    let i = c.loop-i.i in record { x_bound = rw (read (goal.at.less_product-x-requires c).After-less_product-arg-1) (omega (arith, within_entry c.args.row.now i c.requires.within.0)); q_bound = rw (to_z-of_z c.ranges.q) (omega (arith, c.requires.q_bound)); y_bound = rw (back _ c.less_product-arg-in-loop-i-1.given) (omega (arith, within_entry c.args.pivot.now i c.requires.within.1)) }
+    let i = c.loop-i.i in
+    record {
+      x_bound = rw (read (goal.at.less_product-x-requires c).After-less_product-arg-1)
+          (omega (arith, within_entry c.args.row.now i c.requires.within.0));
+      q_bound = rw (to_z-of_z c.ranges.q) (omega (arith, c.requires.q_bound));
+      y_bound = rw (back _ c.less_product-arg-in-loop-i-1.given) (omega (arith, within_entry c.args.pivot.now i c.requires.within.1));
+    }
 
 pub bounds-row-i : goal.bounds-row-i
 bounds-row-i c = omega arith
@@ -87,4 +93,8 @@ shape_of-row c = c.loop-i.invariant.written.same
 pub returns : goal.returns
 returns c =
     rw (← to_z-of_z c.ranges.q)
-    record { row_after = ends c.loop-i.invariant.written (past c); result_value = c.loop-i.invariant.mark ∙ ap any_beyond (take_all c.loop-i.i _ (past c)) }
+    record {
+      row_after = ends c.loop-i.invariant.written (past c);
+      result_value = c.loop-i.invariant.mark
+          ∙ ap any_beyond (take_all c.loop-i.i _ (past c));
+    }

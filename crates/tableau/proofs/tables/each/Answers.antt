@@ -54,17 +54,25 @@ pub step-requires : goal.step-requires
 step-requires c =
     let a = c.args in
     let l = c.loop-left in
-    rw (part_is l.at (length a.pivot.now) l.t) record { pivot = rw (row_wide l.invariant.room c.loop-left-test.true) c.requires.pivot; within = next_small l.invariant c.loop-left-test.true }
+    rw (part_is l.at (length a.pivot.now) l.t) record {
+      pivot =
+          rw (row_wide l.invariant.room c.loop-left-test.true) c.requires.pivot;
+      within = next_small l.invariant c.loop-left-test.true;
+    }
 
 pub shape_of-t-then-step : goal.shape_of-t-then-step
 shape_of-t-then-step c =
     let l = (loop (goal.at.shape_of-t-then-step c).After-step).loop-left in
-    same_len_mid l.at (l.at + length (start (goal.at.shape_of-t-then-step c).After-step).args.pivot.now - l.at) l.t c.step.new.row c.step.auto.row ∙ l.invariant.same
+    same_len_mid l.at (l.at + length (start (goal.at.shape_of-t-then-step c).After-step).args.pivot.now - l.at) l.t c.step.new.row c.step.auto.row
+    ∙ l.invariant.same
 
 pub returns-then-step : goal.returns-then-step
 returns-then-step c =
     record {
-      answer = sym (stops (loop (goal.at.returns-then-step c).After-step).loop-left.invariant (entered (goal.at.returns-then-step c).After-step).loop-left-test.true (sym (told (goal.at.returns-then-step c).After-step).answer ∙ c.if-step.true));
+      answer = sym
+          (stops (loop (goal.at.returns-then-step c).After-step).loop-left.invariant
+          (entered (goal.at.returns-then-step c).After-step).loop-left-test.true
+          (sym (told (goal.at.returns-then-step c).After-step).answer ∙ c.if-step.true));
       left = λ e. absurd (true≢false e);
     }
 
@@ -80,7 +88,8 @@ loop-left-preserved c =
     let l = (loop (goal.at.loop-left-preserved c).After-step).loop-left in
     let u : List ℤ = c.step.new.row in
     rw (part_back l.at (length a.pivot.now) l.t u)
-    (goes_on l.invariant (entered (goal.at.loop-left-preserved c).After-step).loop-left-test.true (stepping a.way a.c a.pivot.now) u (sym (told (goal.at.loop-left-preserved c).After-step).answer ∙ c.if-step.false)
+    (goes_on l.invariant (entered (goal.at.loop-left-preserved c).After-step).loop-left-test.true (stepping a.way a.c a.pivot.now) u
+    (sym (told (goal.at.loop-left-preserved c).After-step).answer ∙ c.if-step.false)
     ((told (goal.at.loop-left-preserved c).After-step).left c.if-step.false))
 
 pub shape_of-t : goal.shape_of-t

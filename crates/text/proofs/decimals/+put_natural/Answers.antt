@@ -1,7 +1,7 @@
 -- `text::decimals::put_natural` meets its contract: the digits of the tenth and then the last are the definition's, and a tenth is less.
 -- Assumes nothing.
 use mathlib.Core.Path.{ap, subst}
-use Prim.Native.Nat.{ℕ, ◌/◌, ◌<◌, ◌≤◌}
+use Prim.Native.Nat.{ℕ, ◌/◌, ◌<◌}
 use native.Mathlib.Nat.{mod-lt}
 use native.Mathlib.Omega.{arith}
 use lib.Dec.{lit<}

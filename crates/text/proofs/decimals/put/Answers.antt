@@ -1,6 +1,6 @@
 -- `text::decimals::put` meets its contract. The invariant: the first i bytes of the word are copied in. Assumes nothing.
 use mathlib.Core.Path.{refl, ◌∙◌}
-use Prim.Native.Nat.{◌+◌, ◌-◌}
+use Prim.Native.Nat.{◌+◌}
 use native.Mathlib.Omega.{arith}
 use lib.ListN.{get_or, length-set}
 use Rattle.text.proofs.Copying.{copied_none, copied_more, copied_all}

@@ -1,6 +1,5 @@
 -- `text::scanner::stretch_end` meets its contract. The invariant: from i the stretch ends where it ends from at. Assumes nothing.
 use mathlib.Core.Path.{refl, sym, ◌∙◌}
-use Prim.Native.Nat.{◌-◌}
 use native.Mathlib.Omega.{arith}
 use Rattle.text.proofs.Scanning.{stretch_more, stretch_stop, stretch_end}
 use Rattle.text.proofs.scanner.stretch_end.Goals as goal

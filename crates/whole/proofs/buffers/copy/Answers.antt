@@ -1,5 +1,4 @@
 -- `whole::buffers::copy` meets its contract: from the left, each number of the one row is stored in the other. Assumes nothing.
-use Prim.Native.Nat.{◌-◌}
 use native.Mathlib.Omega.{arith}
 use borrow.Author.Rules.{rules}
 use Rattle.whole.proofs.Writing.{starts, goes_on, ends}
