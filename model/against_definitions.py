@@ -94,25 +94,25 @@ def buffers(lent):
 
 def answer(outcome, bounds, goals):
     if isinstance(outcome, int):
-        return "Refused " + REFUSALS[outcome - 1]
-    return "%s (record { bounds = %d; goals = %d })" % (outcome.capitalize(), bounds, goals)
+        return "Err " + REFUSALS[outcome - 1]
+    return "Ok (%s (record { bounds = %d; goals = %d }))" % (outcome.capitalize(), bounds, goals)
 
 
 def seen(number, step):
     """What a preview tells. A single vector has no second one: its sign is 0."""
     if number:
-        return "Unseen " + REFUSALS[number - 1]
+        return "Err " + REFUSALS[number - 1]
     if step is None:
-        return "Rest"
+        return "Ok None"
     (s, a), (t, b) = step.move if len(step.move) == 2 else step.move + ((step.move[0][0], 0),)
-    return ("Next %s %d (record { s = %d; a = %s; t = %d; b = %s })"
+    return ("Ok (Some (next %s %d (record { s = %d; a = %s; t = %d; b = %s })))"
             % (step.part.capitalize(), step.column, s, integer(a), t, integer(b)))
 
 
 def join_answer(number, n, m):
     if number:
-        return "(Unjoined %s)" % REFUSALS[number - 1]
-    return "(Made (record { columns = %d; rows = %d }))" % (n, m)
+        return "(Err %s)" % REFUSALS[number - 1]
+    return "(Ok (record { columns = %d; rows = %d }))" % (n, m)
 
 
 # ------------------------------------------------------------------- the cases
@@ -363,17 +363,16 @@ use lib.IntN.{ℤ, pos, negsuc}
 use Rattle.problem.specs.Checks.{Posed}
 use Rattle.problem.specs.declared.Counts.{Counts}
 use Rattle.problem.specs.declared.Refusal.TheVariants.{%s}
-use Rattle.problem.specs.declared.Answer.TheVariants.{Fitted, Outside, Spent, Refused}
+use Rattle.std.specs.Prelude.{None, Some, Ok, Err}
+use Rattle.problem.specs.declared.Verdict.TheVariants.{Fitted, Outside, Spent}
 use Rattle.settling.specs.Measures.{fraction, below}
 use Rattle.settling.specs.declared.Move.{Move}
 use Rattle.settling.specs.declared.Part.TheVariants.{Bounds, Goals}
 use Rattle.engine.specs.Assign.{Buffers, Done, columns, assign, continue}
-use Rattle.engine.specs.Preview.{Shown, preview}
-use Rattle.engine.specs.declared.preview.Seen.TheVariants.{Refused as Unseen, Rest, Next}
+use Rattle.engine.specs.Preview.{Shown, next, preview}
 use Rattle.pairing.specs.declared.Sizes.{Sizes}
 use Rattle.pairing.specs.Parts.{Part, lists}
 use Rattle.joining.specs.Join.{left, join}
-use Rattle.joining.specs.declared.Joining.TheVariants.{Refused as Unjoined, Made}
 use Rattle.runs.specs.Sorted.{sorted}
 use Rattle.runs.specs.Runs.{distances, ratios}
 use Rattle.runs.specs.CallRuns.{assign_run, continue_run}

@@ -10,9 +10,8 @@ use native.Mathlib.Omega.{arith}
 use lib.IntN.{ℤ, pos, nat_abs}
 use lib.ListN.{length}
 use Rattle.whole.specs.Lists.{zeros, entry}
-use Rattle.goals.specs.declared.Wish.{Wish}
-use Rattle.goals.specs.declared.Wish.TheVariants.{Unset}
-use Rattle.goals.specs.Wishes.{wish_mark, wish_number}
+use Rattle.std.proofs.Common.{None}
+use Rattle.goals.specs.Wishes.{Wish, wish_mark, wish_number}
 use Rattle.neighbours.specs.Neighbours.{Stated, stated_by, neighbour_wish, numbers_from, given_of, ideals_of}
 use Rattle.neighbours.specs.Beside.{SmallColumns}
 use Rattle.neighbours.proofs.Laws.{wish_past, numbers_length, numbers_past}
@@ -56,7 +55,7 @@ small_columns size d w =
 
 -- ---- nothing is handed in past the intervals
 module _ (S : Stated) (n : ℕ) (h : S.intervals ≤ n) (k : n ≤ deck_columns) where
-  handed_padded : (g : Wish → ℤ) → g Unset ≡ pos 0
+  handed_padded : (g : Wish → ℤ) → g None ≡ pos 0
       → numbers_from (λ j. g (neighbour_wish S j)) deck_columns 0 ≡ padded deck_columns (numbers_from (λ j. g (neighbour_wish S j)) n 0)
   handed_padded g e =
       let f : ℕ → ℤ = λ j. g (neighbour_wish S j) in

@@ -1,26 +1,25 @@
 -- Laws of the lists that leave the reader's tables.
---   compacted_more, -end, -is   rows as narrow as the problem: a row at a time, and those of the widest rows
---   entry_drop                  a number behind others
---   picked_more, -end, -is      one number of each column: a column at a time, and those of columns side by side
---   entry_padded, padded_long   a number of a list at the front of a buffer, and how long a buffer is
+--   compacted                   rows as narrow as the problem, of the widest rows; length_compacted, how many numbers they have
+--   map_padded                  one number of each column, of a table of columns
+--   entry_padded                a number of a list at the front of a buffer
 --   entry_front                 a number of the first of two lists of columns
 -- Assumes nothing.
-use mathlib.Core.Path.{◌≡◌, refl, sym, ap, ◌∙◌}
-use mathlib.Core.List.{List, [], ◌∷◌, ◌++◌, map, append_assoc}
+use mathlib.Core.Path.{◌≡◌, refl, sym, ap, ap₂, ◌∙◌}
+use mathlib.Core.List.{List, [], ◌∷◌, ◌++◌, map}
 use Prim.Native.Nat.{ℕ, zero, suc, ◌+◌, ◌-◌, ◌*◌, ◌≤◌, ◌<◌}
 use native.Mathlib.Omega.{arith}
 use lib.IntN.{ℤ, pos}
-use lib.ListN.{length, take, drop, set, length-append, length-replicate}
-use lib.Seq.{drop_at, drop-drop, take-append-le}
+use lib.ListN.{length, take, set, length-append, length-map, replicate}
+use lib.Seq.{take_at}
 use Rattle.whole.specs.Lists.{zeros, entry}
-use Rattle.whole.proofs.Lists.{take_zeros, drop_zeros, entry_zeros}
+use Rattle.whole.proofs.Lists.{take_zeros, entry_zeros}
 use Rattle.problem.specs.Kinds.{Slack, none, slack, slack_of, slack_count}
 use Rattle.sections.specs.Sections.{deck_columns, Line}
-use Rattle.sections.specs.StatedColumns.{placed, with_slack, coefficient_row, coefficient_rows, column_width, cell, cells, padded}
+use Rattle.sections.specs.StatedColumns.{placed, with_slack, coefficient_row, coefficient_rows, padded, padded_by, no_interval}
 use Rattle.sections.specs.declared.Interval.{Interval}
 use Rattle.sections.specs.declared.Term.{Term}
-use Rattle.sections.proofs.Storage.{length_row}
-use Rattle.deck.specs.ReaderTables.{compacted, picked}
+use Rattle.sections.proofs.Storage.{map_two, length_row, length_rows}
+use Rattle.lattice.specs.Rows.{flat}
 
 -- ---- a row's coefficients: the first n numbers of a wider row are the row of n
 take_set : (n : ℕ) (u : List ℤ) (i : ℕ) (x : ℤ) → take n (set u i x) ≡ set (take n u) i x
@@ -45,63 +44,37 @@ take_row n k c l h =
     ap (with_slack (slack_of l.row.kind) c) (take_placed n l.terms (zeros k) ∙ ap (placed l.terms) (take_zeros n k h))
 
 -- ---- from the widest rows to rows of n
-module _ (n : ℕ) (t : List ℤ) where
-  pub compacted_more : (k i : ℕ) → 0 < k → compacted n k i t ≡ take n (drop (i * deck_columns) t) ++ compacted n (k - 1) (i + 1) t
-  unfolding compacted
-  compacted_more zero i h = absurd (omega arith)
-  compacted_more (suc k) i h = let q : suc k - 1 ≡ k = omega arith in rw q
+take_rows : (n k c : ℕ) (ls : List Line) → n ≤ k → map (take n) (coefficient_rows k c ls) ≡ coefficient_rows n c ls
+unfolding coefficient_rows
+take_rows n k c [] h = refl
+take_rows n k c (l ∷ ls) h =
+    ap₂ ◌∷◌ (take_row n k c l h) (take_rows n k (c + slack_count l.row.kind) ls h)
 
-  pub compacted_end : (i : ℕ) → compacted n 0 i t ≡ []
-  unfolding compacted
-  compacted_end i = refl
+pub compacted : (n c m : ℕ) (ls : List Line) (z : List (List ℤ)) → n ≤ deck_columns → m ≡ length ls
+    → flat (map (take n) (take m (coefficient_rows deck_columns c ls ++ z))) ≡ flat (coefficient_rows n c ls)
+compacted n c m ls z h e =
+    let l : length (coefficient_rows deck_columns c ls) ≡ m = length_rows deck_columns c ls ∙ sym e in
+    ap (λ (T : List (List ℤ)). flat (map (take n) T)) (take_at (coefficient_rows deck_columns c ls) z m l)
+    ∙ ap flat (take_rows n deck_columns c ls h)
 
-pub compacted_is : (n c i : ℕ) (ls : List Line) (t z : List ℤ) → n ≤ deck_columns
-    → drop (i * deck_columns) t ≡ coefficient_rows deck_columns c ls ++ z
-    → compacted n (length ls) i t ≡ coefficient_rows n c ls
-unfolding compacted coefficient_rows
-compacted_is n c i [] t z h e = refl
-compacted_is n c i (d ∷ ls) t z h e =
-    let k = slack_count d.row.kind in
-    let w = coefficient_row deck_columns c d in
-    let r : List ℤ = coefficient_rows deck_columns (c + k) ls ++ z in
-    let f : drop (i * deck_columns) t ≡ w ++ r = e ∙ append_assoc w (coefficient_rows deck_columns (c + k) ls) z in
-    let a : take n (drop (i * deck_columns) t) ≡ coefficient_row n c d =
-    ap (take n) f ∙ (take-append-le n w r (omega (arith, length_row deck_columns c d)) ∙ take_row n deck_columns c d h) in
-    let j : i * deck_columns + deck_columns ≡ (i + 1) * deck_columns = omega arith in
-    let b : drop ((i + 1) * deck_columns) t ≡ r =
-    ap (λ (x : ℕ). drop x t) (sym j) ∙ sym (drop-drop deck_columns (i * deck_columns) t) ∙ ap (drop deck_columns) f ∙
-    drop_at w r deck_columns (length_row deck_columns c d) in
-    rw (a, compacted_is n (c + k) (i + 1) ls t z h b)
+pub length_compacted : (n c : ℕ) (ls : List Line) → length (flat (coefficient_rows n c ls)) ≡ length ls * n
+unfolding coefficient_rows
+length_compacted n c [] = omega arith
+length_compacted n c (l ∷ ls) =
+    let e = length_compacted n (c + slack_count l.row.kind) ls in
+    length-append (coefficient_row n c l) (flat (coefficient_rows n (c + slack_count l.row.kind) ls))
+    ∙ (rw (length_row n c l, e) (omega arith))
 
 -- ---- one number of each column
-pub entry_drop : (a f : ℕ) (t : List ℤ) → entry f (drop a t) ≡ entry (a + f) t
-entry_drop zero f t = let z : 0 + f ≡ f = omega arith in rw z
-entry_drop (suc a) f [] = refl
-entry_drop (suc a) f (x ∷ t) = entry_drop a f t ∙ ap (λ (j : ℕ). entry j (x ∷ t)) (let z : suc (a + f) ≡ suc a + f = omega arith in z)
-
-module _ (f : ℕ) where
-  pub picked_more : (k : ℕ) (t : List ℤ) → 0 < k → picked f k t ≡ entry f t ∷ picked f (k - 1) (drop column_width t)
-  unfolding picked
-  picked_more zero t h = absurd (omega arith)
-  picked_more (suc k) t h = let q : suc k - 1 ≡ k = omega arith in rw q
-
-  pub picked_end : (t : List ℤ) → picked f 0 t ≡ []
-  unfolding picked
-  picked_end t = refl
-
-  picked_zeros : (k m : ℕ) → picked f k (zeros m) ≡ zeros k
-  unfolding picked
-  picked_zeros zero m = refl
-  picked_zeros (suc k) m = rw (entry_zeros f m, drop_zeros column_width m) (ap (λ (u : List ℤ). pos 0 ∷ u) (picked_zeros k (m - column_width)))
-
-  pub picked_is : (g : Interval → ℤ) → ((i : Interval) (r : List ℤ) → entry f (cell i ++ r) ≡ g i) → (is : List Interval) (k m : ℕ) → length is ≤ k
-      → picked f k (cells is ++ zeros m) ≡ map g is ++ zeros (k - length is)
-  unfolding picked cells
-  picked_is g each [] k m h = let z : k - 0 ≡ k = omega arith in rw z (picked_zeros k m)
-  picked_is g each (i ∷ is) zero m h = absurd (omega arith)
-  picked_is g each (i ∷ is) (suc k) m h =
-      let z : suc k - suc (length is) ≡ k - length is = omega arith in
-      rw (z, each i (cells is ++ zeros m)) (ap (λ (u : List ℤ). g i ∷ u) (picked_is g each is k m (omega arith)))
+pub map_padded : (f : Interval → ℤ) (size : ℕ) (is : List Interval) → f no_interval ≡ pos 0
+    → map f (padded_by no_interval size is) ≡ padded size (map f is)
+map_padded f size is z =
+    map_two f is (replicate (size - length is) no_interval)
+    ∙ ap (λ (u : List ℤ). map f is ++ u) (blanks (size - length is) ∙ ap zeros (ap (λ (k : ℕ). size - k) (sym (length-map is f))))
+  where
+    blanks : (k : ℕ) → map f (replicate k no_interval) ≡ zeros k
+    blanks zero = refl
+    blanks (suc k) = ap₂ ◌∷◌ z (blanks k)
 
 -- ---- a list at the front
 entry_zeros_behind : (u : List ℤ) (n j : ℕ) → entry j (u ++ zeros n) ≡ entry j u
@@ -111,9 +84,6 @@ entry_zeros_behind (x ∷ u) n (suc j) = entry_zeros_behind u n j
 
 pub entry_padded : (size j : ℕ) (u : List ℤ) → entry j (padded size u) ≡ entry j u
 entry_padded size j u = entry_zeros_behind u (size - length u) j
-
-pub padded_long : (size : ℕ) (u : List ℤ) → size ≤ length (padded size u)
-padded_long size u = omega (arith, length-append u (zeros (size - length u)), length-replicate (size - length u) (pos 0))
 
 pub entry_front : (f : Interval → ℤ) (u v : List Interval) (j : ℕ) → j < length u → entry j (map f (u ++ v)) ≡ entry j (map f u)
 entry_front f [] v j h = absurd (omega (arith, h))

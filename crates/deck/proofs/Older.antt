@@ -20,17 +20,16 @@ use lib.IntN.{ℤ, pos, negsuc, nat_abs, neg_ℤ}
 use lib.ListN.{length, drop}
 use lib.Signed.{le_z}
 use Rattle.whole.specs.Tests.{in_range}
-use Rattle.text.specs.Tokens.{tokens}
+use Rattle.std.proofs.Common.{Some, Ok}
+use Rattle.text.specs.Tokens.{Token, tokens}
 use Rattle.text.specs.Positions.{next_at}
-use Rattle.text.specs.declared.Token.{Token}
-use Rattle.text.specs.declared.Token.TheVariants.{Number}
 use Rattle.text.proofs.Scanning.{tokens_end, found_token, end_token}
 use Rattle.problem.specs.Limits.{max_bound, max_goal}
 use Rattle.problem.specs.declared.Refusal.TheVariants.{Size, Bound, Goal}
-use Rattle.sections.specs.Rules.{Outcome, ok, then, on_end, closed}
+use Rattle.sections.specs.Rules.{Outcome, then, on_end, closed}
 use Rattle.sections.specs.Sections.{deck_columns, max_text, top_goal, top_high, high_from, Line, interval, intervals, interval_section, row_section}
 use Rattle.sections.specs.declared.Interval.{Interval}
-use Rattle.sections.proofs.Numbers.{same_ok, then_ok, closed_ok, within_in}
+use Rattle.sections.proofs.Numbers.{same_ok, same_end, then_ok, closed_ok, within_in}
 use Rattle.sections.proofs.Extending.{Rule, Change, Kept, Carries, ok_carries, then_carries, within_carries, row_section_extends}
 use Rattle.volumes.specs.Volumes.{Volume, volumes, volume_section}
 use Rattle.volumes.specs.PathLines.{swept_lines}
@@ -68,14 +67,14 @@ module _ (k : ℕ) (lower : Token) where
   stays_too upper (goal ∷ ts) = refl
 
 again_carries : (F : Change) (goal : ℤ) (made : ℤ → Interval) → in_range goal (top_high goal) goal ≡ true
-    → Carries (λ ts. Number goal ∷ F ts) (λ s at. ok (made goal) at) (λ s at. then (high_from s goal at) (λ high p. ok (made high) p)) (λ i. F)
+    → Carries (λ ts. Some goal ∷ F ts) (λ s at. Ok (made goal, at)) (λ s at. then (high_from s goal at) (λ high p. Ok (made high, p))) (λ i. F)
 again_carries F goal made i = record {
   kept = λ s w a at p e g h.
-      let q : at ≡ e = cc in
-      let m = found_token w p (Number goal) (F (tokens (drop at s))) g in
+      let q : at ≡ e = same_end h in
+      let m = found_token w p (Some goal) (F (tokens (drop at s))) g in
       record {
         end = m.end;
-        read = rw m.found (rw i (ap (λ (x : Interval). ok x m.end) (same_ok h)));
+        read = rw m.found (rw i (ap (λ (x : Interval). Ok (x, m.end)) (same_ok h)));
         rest = m.rest ∙ ap (λ (j : ℕ). F (tokens (drop j s))) q;
       };
 }
@@ -85,9 +84,9 @@ module _ (z : List Token) where
   line_carries : (k : ℕ) → Carries (λ ts. twice_from (suc k) (ts ++ z)) one_goal_interval interval (λ i ts. twice_from k (ts ++ z))
   unfolding twice_from
   line_carries k =
-      then_carries (within_carries _ _ (λ v ts. stays k (Number v) (ts ++ z)) (neg_ℤ (pos max_bound)) (pos max_bound) Bound) (λ lower _.
-      then_carries (within_carries _ _ (λ v ts. stays_too k (Number lower) (Number v) (ts ++ z)) lower (pos max_bound) Bound) (λ upper _.
-      then_carries (within_carries _ (λ v ts. Number v ∷ twice_from k (ts ++ z)) (λ v ts. refl) (pos 0) (top_goal lower) Goal) (λ goal was.
+      then_carries (within_carries _ _ (λ v ts. stays k (Some v) (ts ++ z)) (neg_ℤ (pos max_bound)) (pos max_bound) Bound) (λ lower _.
+      then_carries (within_carries _ _ (λ v ts. stays_too k (Some lower) (Some v) (ts ++ z)) lower (pos max_bound) Bound) (λ upper _.
+      then_carries (within_carries _ (λ v ts. Some v ∷ twice_from k (ts ++ z)) (λ v ts. refl) (pos 0) (top_goal lower) Goal) (λ goal was.
       let r = within_in (pos 0) (top_goal lower) Goal goal was.end was.text was.at was.read in
       again_carries _ goal _ (goal_again (le_z (pos 1) lower) goal r.0 r.1))))
 
@@ -111,7 +110,7 @@ module _ (z : List Token) where
 
 -- ---- the end of both texts
 end_kept : (w : List ℕ) (p : ℕ) (d b : Deck) → d ≡ b → tokens (drop p w) ≡ [] → Kept (closed w d p) b [] w
-end_kept w p d b e g = record { end = p; read = ap (on_end d p) (end_token w p g) ∙ ap (λ (x : Deck). ok x p) e; rest = g }
+end_kept w p d b e g = record { end = p; read = ap (on_end d p) (end_token w p g) ∙ ap (λ (x : Deck). Ok (x, p)) e; rest = g }
 
 end_carries : (d : Deck) → Carries (λ ts. ts ++ []) (λ s. closed s d) (λ s. closed s d) (λ b ts. [])
 end_carries d = record {
@@ -120,13 +119,13 @@ end_carries d = record {
       end_kept w p d b c.0 (g ∙ ap (λ (ts : List Token). ts ++ []) (tokens_end s at c.1));
 }
 
-zero_carries : (is : List Interval) (ls : List Line) → Carries (λ ts. ts ++ (Number (pos 0) ∷ [])) (λ s. closed s (made is ls []))
+zero_carries : (is : List Interval) (ls : List Line) → Carries (λ ts. ts ++ (Some (pos 0) ∷ [])) (λ s. closed s (made is ls []))
     (λ s at. then (volume_section s (length is) (length ls) at) (λ vs p. closed s (made is ls vs) p)) (λ d ts. [])
 unfolding volumes
 zero_carries is ls = record {
   kept = λ s w b at p e g h.
       let c = closed_ok (made is ls []) b at e (next_at s at) h in
-      let m = found_token w p (Number (pos 0)) [] (g ∙ ap (λ (ts : List Token). ts ++ (Number (pos 0) ∷ [])) (tokens_end s at c.1)) in
+      let m = found_token w p (Some (pos 0)) [] (g ∙ ap (λ (ts : List Token). ts ++ (Some (pos 0) ∷ [])) (tokens_end s at c.1)) in
       let k = end_kept w m.end (made is ls []) b c.0 m.rest in
       record { end = k.end; read = rw m.found k.read; rest = k.rest };
 }
@@ -138,24 +137,24 @@ is_read w d l k = (k.end, rw (le-ltb max_text (length w) l) k.read)
 
 -- the columns of a text with one goal a line
 module _ (s : List ℕ) (d : Deck) (at : ℕ) where
-  closed_intervals : (is : List Interval) (ls : List Line) (vs : List Volume) (q : ℕ) → closed s (made is ls vs) q ≡ ok d at → is ≡ d.intervals
+  closed_intervals : (is : List Interval) (ls : List Line) (vs : List Volume) (q : ℕ) → closed s (made is ls vs) q ≡ Ok (d, at) → is ≡ d.intervals
   closed_intervals is ls vs q h = ap (λ (x : Deck). x.intervals) (closed_ok (made is ls vs) d q at (next_at s q) h).0
 
   twice : (f : List Interval → List Line → ℕ → Outcome Deck)
-      → ((is : List Interval) (ls : List Line) (q : ℕ) → f is ls q ≡ ok d at → is ≡ d.intervals)
-      → then (one_goal_section s 0) (λ is p. then (row_section s (length is) p) (λ ls q. f is ls q)) ≡ ok d at → lows d ≡ highs d
+      → ((is : List Interval) (ls : List Line) (q : ℕ) → f is ls q ≡ Ok (d, at) → is ≡ d.intervals)
+      → then (one_goal_section s 0) (λ is p. then (row_section s (length is) p) (λ ls q. f is ls q)) ≡ Ok (d, at) → lows d ≡ highs d
   twice f x h =
       let a = then_ok (one_goal_section s 0) (λ is p. then (row_section s (length is) p) (λ ls q. f is ls q)) d at h in
       let b = then_ok (row_section s (length a.what) a.at) (λ ls q. f a.what ls q) d at a.second in
-      deck_twice s a.at d (a.first ∙ ap (λ (is : List Interval). ok is a.at) (x a.what b.what b.at b.second))
+      deck_twice s a.at d (a.first ∙ ap (λ (is : List Interval). Ok (is, a.at)) (x a.what b.what b.at b.second))
 
-  one_goal_twice : one_goal_deck s ≡ ok d at → lows d ≡ highs d
+  one_goal_twice : one_goal_deck s ≡ Ok (d, at) → lows d ≡ highs d
   one_goal_twice =
       twice (λ is ls q. then (volume_section s (length is) (length ls) q) (λ vs p. closed s (made is ls vs) p)) (λ is ls q h.
       let c = then_ok (volume_section s (length is) (length ls) q) (λ vs p. closed s (made is ls vs) p) d at h in
       closed_intervals is ls c.what c.at c.second)
 
-  older_twice : older_deck s ≡ ok d at → lows d ≡ highs d
+  older_twice : older_deck s ≡ Ok (d, at) → lows d ≡ highs d
   older_twice = twice (λ is ls q. closed s (made is ls []) q) (λ is ls q h. closed_intervals is ls [] q h)
 
 pub one_goal_texts : OneGoalTexts
@@ -166,7 +165,7 @@ one_goal_texts s w d at h t l = (
   one_goal_twice s d at h,
 )
 
-older_lines : (s : List ℕ) (d : Deck) (at : ℕ) → older_deck s ≡ ok d at → all_lines d ≡ d.lines
+older_lines : (s : List ℕ) (d : Deck) (at : ℕ) → older_deck s ≡ Ok (d, at) → all_lines d ≡ d.lines
 older_lines s d at h =
     let a = then_ok (one_goal_section s 0) _ d at h in
     let b = then_ok (row_section s (length a.what) a.at) (λ ls p. closed s (made a.what ls []) p) d at a.second in
@@ -175,7 +174,7 @@ older_lines s d at h =
 
 pub older_texts : OlderTexts
 older_texts s v w d at h g t l = (
-  is_read w d l ((deck_carries (Number (pos 0) ∷ []) _ _ zero_carries).kept s w d 0 0 at (t ∙ ap goals_twice g) h),
+  is_read w d l ((deck_carries (Some (pos 0) ∷ []) _ _ zero_carries).kept s w d 0 0 at (t ∙ ap goals_twice g) h),
   older_twice s d at h,
   older_lines s d at h,
 )

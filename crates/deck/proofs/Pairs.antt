@@ -21,7 +21,8 @@ use Rattle.problem.specs.Checks.{goal_fits}
 use Rattle.problem.specs.Kinds.{Slack, none, slack, slack_of}
 use Rattle.problem.specs.Limits.{max_bound}
 use Rattle.problem.specs.declared.Refusal.TheVariants.{Size, Bound, Goal}
-use Rattle.sections.specs.Rules.{ok, within}
+use Rattle.std.proofs.Common.{Ok}
+use Rattle.sections.specs.Rules.{within}
 use Rattle.sections.specs.Sections.{deck_columns, spanning, upper_from, top_goal, Line}
 use Rattle.sections.specs.StatedColumns.{slack_column, slack_columns, lower_of, low_of, high_of}
 use Rattle.sections.specs.declared.Interval.{Interval}
@@ -73,17 +74,17 @@ slacks_twice [] = tt
 slacks_twice (l ∷ ls) =
     (all_append Twice (slack_column (slack_of l.row.kind)) (slack_columns ls)).1 (slack_twice (slack_of l.row.kind), slacks_twice ls)
 
-line_twice : (s : List ℕ) (at e : ℕ) (i : Interval) → one_goal_interval s at ≡ ok i e → Twice i
+line_twice : (s : List ℕ) (at e : ℕ) (i : Interval) → one_goal_interval s at ≡ Ok (i, e) → Twice i
 line_twice s at e i h =
     let a = then_ok (spanning s max_bound Bound at) _ i e h in
     let b = then_ok (upper_from s a.what a.at) _ i e a.second in
     let c =
     then_ok (within s (pos 0) (top_goal a.what) Goal b.at)
-    (λ goal at. ok (record { lower = a.what; upper = b.what; low = goal; high = goal }) at) i e b.second in
+    (λ goal at. Ok (record { lower = a.what; upper = b.what; low = goal; high = goal }, at)) i e b.second in
     subst Twice {x = record { lower = a.what; upper = b.what; low = c.what; high = c.what }} (same_ok c.second) refl
 
 lines_twice : (s : List ℕ) (k : ℕ) (done : List Interval) (at e : ℕ) (is : List Interval) → All Twice done
-    → one_goal_intervals s k done at ≡ ok is e → All Twice is
+    → one_goal_intervals s k done at ≡ Ok (is, e) → All Twice is
 unfolding one_goal_intervals
 lines_twice s zero done at e is a h = subst (All Twice) (same_ok h) a
 lines_twice s (suc k) done at e is a h =
@@ -91,12 +92,12 @@ lines_twice s (suc k) done at e is a h =
     let more = all_end Twice done t.what a (line_twice s at t.at t.what t.first) in
     lines_twice s k (done ++ (t.what ∷ [])) t.at e is more t.second
 
-section_twice : (s : List ℕ) (at e : ℕ) (is : List Interval) → one_goal_section s at ≡ ok is e → All Twice is
+section_twice : (s : List ℕ) (at e : ℕ) (is : List Interval) → one_goal_section s at ≡ Ok (is, e) → All Twice is
 section_twice s at e is h =
     let t = then_ok (within s (pos 1) (pos deck_columns) Size at) (λ n at. one_goal_intervals s (nat_abs n) [] at) is e h in
     lines_twice s (nat_abs t.what) [] t.at e is tt t.second
 
-pub deck_twice : (s : List ℕ) (e : ℕ) (d : Deck) → one_goal_section s 0 ≡ ok d.intervals e → lows d ≡ highs d
+pub deck_twice : (s : List ℕ) (e : ℕ) (d : Deck) → one_goal_section s 0 ≡ Ok (d.intervals, e) → lows d ≡ highs d
 deck_twice s e d h =
     lists_same (d.intervals ++ slack_columns (all_lines d))
     ((all_append Twice d.intervals (slack_columns (all_lines d))).1 (section_twice s 0 e d.intervals h, slacks_twice (all_lines d)))

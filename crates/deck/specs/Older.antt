@@ -13,13 +13,11 @@
 --   OlderTexts        and for every text that was read before (iii), has gained a 0 and has each goal written twice; its rows are its lines alone
 -- The theorems are `one_goal_texts` and `older_texts`, in proofs/Older.
 -- Assumes nothing.
-use Rattle.std.specs.Prelude.{◌≡◌, List, [], ◌∷◌, ◌++◌, ℕ, zero, suc, ◌≤◌, pos, nat_abs, length}
-use Rattle.text.specs.Tokens.{tokens}
-use Rattle.text.specs.declared.Token.{Token}
-use Rattle.text.specs.declared.Token.TheVariants.{Number, Bad}
+use Rattle.std.specs.Prelude.{◌≡◌, List, [], ◌∷◌, ◌++◌, ℕ, zero, suc, ◌≤◌, pos, nat_abs, length, Some, None, Ok}
+use Rattle.text.specs.Tokens.{Token, tokens}
 use Rattle.problem.specs.Limits.{max_bound}
 use Rattle.problem.specs.declared.Refusal.TheVariants.{Size, Bound, Goal}
-use Rattle.sections.specs.Rules.{Outcome, ok, then, within, closed}
+use Rattle.sections.specs.Rules.{Outcome, then, within, closed}
 use Rattle.sections.specs.Sections.{deck_columns, max_text, spanning, upper_from, top_goal, row_section}
 use Rattle.sections.specs.declared.Interval.{Interval}
 use Rattle.volumes.specs.Volumes.{volume_section}
@@ -33,11 +31,11 @@ one_goal_interval s at =
     then (spanning s max_bound Bound at) (λ lower at.
     then (upper_from s lower at) (λ upper at.
     then (within s (pos 0) (top_goal lower) Goal at) (λ goal at.
-    ok (record { lower = lower; upper = upper; low = goal; high = goal }) at)))
+    Ok (record { lower = lower; upper = upper; low = goal; high = goal }, at))))
 
 -- k intervals, after those done
 unfoldable pub one_goal_intervals : List ℕ → ℕ → List Interval → ℕ → Outcome (List Interval)
-one_goal_intervals s zero done at = ok done at
+one_goal_intervals s zero done at = Ok (done, at)
 one_goal_intervals s (suc k) done at = then (one_goal_interval s at) (λ i at. one_goal_intervals s k (done ++ (i ∷ [])) at)
 
 abbrev pub one_goal_section : List ℕ → ℕ → Outcome (List Interval)
@@ -62,7 +60,7 @@ one_goal_deck s =
 
 -- "gain a closing 0"
 abbrev pub GainsZero : List ℕ → List ℕ → Type 0
-GainsZero s w = tokens w ≡ tokens s ++ (Number (pos 0) ∷ [])
+GainsZero s w = tokens w ≡ tokens s ++ (Some (pos 0) ∷ [])
 
 -- "both equal": each line's goal stands once more behind it; what is too short for a line stays
 unfoldable pub twice_from : ℕ → List Token → List Token
@@ -75,22 +73,22 @@ twice_from (suc k) (lower ∷ (upper ∷ (goal ∷ ts))) = lower ∷ (upper ∷ 
 -- "the count of intervals, then for each" its line
 abbrev pub goals_twice : List Token → List Token
 goals_twice [] = []
-goals_twice (Number n ∷ ts) = Number n ∷ twice_from (nat_abs n) ts
-goals_twice (Bad ∷ ts) = Bad ∷ ts
+goals_twice (Some n ∷ ts) = Some n ∷ twice_from (nat_abs n) ts
+goals_twice (None ∷ ts) = None ∷ ts
 
 abbrev pub GoalsTwice : List ℕ → List ℕ → Type 0
 GoalsTwice s w = tokens w ≡ goals_twice (tokens s)
 
 -- ---- how they are read
 abbrev pub IsRead : List ℕ → Deck → Type 0
-IsRead w d = (end : ℕ) × (read_deck w ≡ ok d end)
+IsRead w d = (end : ℕ) × (read_deck w ≡ Ok (d, end))
 
 abbrev pub OneGoalTexts : Type 0
 OneGoalTexts =
-    (s w : List ℕ) (d : Deck) (at : ℕ) → one_goal_deck s ≡ ok d at → GoalsTwice s w → length w ≤ max_text
+    (s w : List ℕ) (d : Deck) (at : ℕ) → one_goal_deck s ≡ Ok (d, at) → GoalsTwice s w → length w ≤ max_text
     → IsRead w d × (lows d ≡ highs d)
 
 abbrev pub OlderTexts : Type 0
 OlderTexts =
-    (s v w : List ℕ) (d : Deck) (at : ℕ) → older_deck s ≡ ok d at → GainsZero s v → GoalsTwice v w → length w ≤ max_text
+    (s v w : List ℕ) (d : Deck) (at : ℕ) → older_deck s ≡ Ok (d, at) → GainsZero s v → GoalsTwice v w → length w ≤ max_text
     → IsRead w d × (lows d ≡ highs d) × (all_lines d ≡ d.lines)

@@ -9,11 +9,12 @@
 --   posed limit d   the problem: these lists, and "the reader gives such an interval an ideal"
 --   TextGoalsFit    in the problem of a text that is read no pair of goals breaks its rule; the theorem is `text_goals_fit`, in proofs/Pairs
 -- Assumes nothing.
-use Rattle.std.specs.Prelude.{◌≡◌, true, cond, List, ◌++◌, map, ℕ, ltb, ℤ, length}
+use Rattle.std.specs.Prelude.{◌≡◌, true, cond, List, ◌++◌, map, ℕ, ltb, ℤ, length, Ok, Err}
 use Rattle.problem.specs.Checks.{Posed, goals_fit}
 use Rattle.problem.specs.declared.Refusal.TheVariants.{Layout}
 use Rattle.neighbours.specs.Neighbours.{Stated, stated_by, given_of, ideals_of}
-use Rattle.sections.specs.Rules.{Outcome, ok, no, then, closed}
+use Rattle.lattice.specs.Rows.{flat}
+use Rattle.sections.specs.Rules.{Outcome, then, closed}
 use Rattle.sections.specs.Sections.{max_text, Line, interval_section, row_section}
 use Rattle.volumes.specs.Volumes.{Volume, volume_section}
 use Rattle.volumes.specs.PathLines.{swept_lines}
@@ -34,7 +35,7 @@ deck s =
 
 -- "a text over 32,768 bytes is 11"
 unfoldable pub read_deck : List ℕ → Outcome Deck
-read_deck s = cond (ltb max_text (length s)) (no Layout) (deck s)
+read_deck s = cond (ltb max_text (length s)) (Err Layout) (deck s)
 
 abbrev pub all_lines : Deck → List Line
 all_lines d = d.lines ++ swept_lines d.volumes
@@ -46,7 +47,7 @@ abbrev pub count_of : Deck → ℕ
 count_of d = length (columns_of d)
 
 abbrev pub coefficients_of : Deck → List ℤ
-coefficients_of d = coefficient_rows (count_of d) (length d.intervals) (all_lines d)
+coefficients_of d = flat (coefficient_rows (count_of d) (length d.intervals) (all_lines d))
 
 abbrev pub lowers : Deck → List ℤ
 lowers d = map lower_of (columns_of d)
@@ -79,4 +80,4 @@ posed limit d = record {
 
 -- ---- document 02, (v): "A pair that breaks the rule is refused as 5 is now."
 abbrev pub TextGoalsFit : Type 0
-TextGoalsFit = (s : List ℕ) (d : Deck) (at : ℕ) → read_deck s ≡ ok d at → goals_fit (lowers d) (lows d) (highs d) ≡ true
+TextGoalsFit = (s : List ℕ) (d : Deck) (at : ℕ) → read_deck s ≡ Ok (d, at) → goals_fit (lowers d) (lows d) (highs d) ≡ true

@@ -3,111 +3,64 @@
 // The text reader: its sections, one after the other, and then the lent lists.
 mod tables;
 
-ghost use Rattle.std.specs.Prelude.{◌≡◌};
-ghost use Rattle.text.specs.Positions.{next_at};
-ghost use Rattle.sections.specs.Sections.{deck_rows, coefficient_count};
-ghost use Rattle.sections.specs.StatedColumns.{column_cells, blank};
-ghost use Rattle.deck.specs.Posing.{deck as deck·rule};
-ghost use Rattle.deck.specs.Reader.{deck_buffers, read_done, largest, read};
-ghost use Rattle.deck.specs.ReaderTables.{none_left, DeckRead};
+ghost use Rattle.std.specs.Prelude.{◌≡◌, true, ◌≤◌, map};
+ghost use Rattle.problem.specs.References.{SameReferences};
+ghost use Rattle.neighbours.specs.Beside.{SmallColumns};
+ghost use Rattle.sections.specs.Sections.{deck_columns, deck_rows};
+ghost use Rattle.sections.specs.StatedColumns.{blank_tables, lower_of, upper_of, low_of, high_of};
+ghost use Rattle.deck.specs.Posing.{Deck, deck as deck·rule, posed};
+ghost use Rattle.deck.specs.Reader.{deck_buffers, held, read_done, lengths_fit as lengths·rule, shape_of, filled, read};
+ghost use Rattle.deck.specs.ReaderTables.{tables_of, DeckRead};
 
-use neighbours::{Shape, hand_in};
-use problem::Refusal;
+use neighbours::{Sheet, hand_in};
+use problem::{ListsMut, Refusal};
 use sections::intervals::read_intervals;
 use sections::rows::read_rows;
-use sections::{Section, Sizes};
-use text::Next;
+use sections::{Cursor, Sizes, Tables};
+use tables::{compact, pick_columns};
+use text::scanner::next_token;
 use volumes::read_volumes;
-use whole::buffers::{copy, wipe};
 
-// What the reader returns: n, m and how many of the n columns are intervals, or why the text is turned back.
-#[derive(Clone, Copy)]
-pub enum Reading {
-    Read(usize, usize, usize),
-    Refused(Refusal),
+// What a text that is read tells of its problem: n, m, and how many of the n columns are intervals.
+#[derive(Clone, Copy, Debug, PartialEq, Eq)]
+pub struct Shape {
+    pub columns: usize,
+    pub rows: usize,
+    pub intervals: usize,
 }
 
-// Whether lent lengths are those of the largest buffers.
-fn lengths_fit(
-    coefficients: usize,
-    rights: usize,
-    lower: usize,
-    upper: usize,
-    low: usize,
-    high: usize,
-    given: usize,
-    ideals: usize,
-) -> bool
-    ensures { result ≡ largest coefficients rights lower upper low high given ideals }
+// Whether the lent lists are as long as those of the largest problem.
+fn lengths_fit(lists: &ListsMut<'_>) -> bool
+    ensures { result ≡ lengths·rule (held lists.now) }
 {
-    if coefficients != Sizes::COEFFICIENTS {
-        return false;
-    }
-    if rights != Sizes::ROWS {
-        return false;
-    }
-    if lower != Sizes::COLUMNS {
-        return false;
-    }
-    if upper != Sizes::COLUMNS {
-        return false;
-    }
-    if low != Sizes::COLUMNS {
-        return false;
-    }
-    if high != Sizes::COLUMNS {
-        return false;
-    }
-    if given != Sizes::COLUMNS {
-        return false;
-    }
-    ideals == Sizes::COLUMNS
+    lists.coefficients.len() == Sizes::COEFFICIENTS
+        && lists.rights.len() == Sizes::ROWS
+        && lists.lower.len() == Sizes::COLUMNS
+        && lists.upper.len() == Sizes::COLUMNS
+        && lists.low.len() == Sizes::COLUMNS
+        && lists.high.len() == Sizes::COLUMNS
+        && lists.given.len() == Sizes::COLUMNS
+        && lists.ideals.len() == Sizes::COLUMNS
 }
 
-// Whether no token is left.
-fn is_closed(s: &[u8], at: usize) -> bool
-    ensures { result ≡ none_left (next_at s.now at) }
+// The whole text, into blank tables.
+fn scan(s: &[u8], tables: &mut Tables) -> Result<Cursor, Refusal>
+    requires { tables.old ≡ blank_tables }
+    ensures { DeckRead (deck·rule s.now) result tables.new }
 {
-    let n = text::scanner::next_token(s, at);
-    match n {
-        Next::Found(_, _) => false,
-        Next::End => true,
+    let c = read_intervals(s, 0, &mut tables.columns)?;
+    let c = read_rows(s, c, tables)?;
+    let c = read_volumes(s, c, &mut tables.rows)?;
+    match next_token(s, c.at) {
+        Some(_) => Err(Refusal::Layout),
+        None => Ok(c),
     }
 }
 
-// The whole text, into tables of the largest size that hold 0.
-fn scan(s: &[u8], columns: &mut [i64], rights: &mut [i64], table: &mut [i64]) -> Section
-    requires { (columns.old ≡ blank column_cells) × (rights.old ≡ blank deck_rows) × (table.old ≡ blank coefficient_count) }
-    ensures { DeckRead (deck·rule s.now) result columns.new rights.new table.new }
-{
-    let a = read_intervals(s, 0, columns);
-    match a {
-        Section::Read(p) => {
-            let b = read_rows(s, p, columns, rights, table);
-            match b {
-                Section::Read(q) => {
-                    let v = read_volumes(s, q, table);
-                    match v {
-                        Section::Read(c) => {
-                            if is_closed(s, c.at) {
-                                Section::Read(c)
-                            } else {
-                                Section::Refused(Refusal::Layout)
-                            }
-                        }
-                        Section::Refused(why) => Section::Refused(why),
-                    }
-                }
-                Section::Refused(why) => Section::Refused(why),
-            }
-        }
-        Section::Refused(why) => Section::Refused(why),
-    }
-}
-
-// Reads a text into buffers of the largest size. A refusal leaves every buffer as it was.
-pub fn read_deck(
-    text: &[u8],
+// Fills the lists of a text that was read. They come one by one: of one struct's fields some can't be lent to be read while others are to be written.
+fn fill(
+    tables: &Tables,
+    shape: Shape,
     coefficients: &mut [i64],
     rights: &mut [i64],
     lower: &mut [i64],
@@ -116,49 +69,60 @@ pub fn read_deck(
     high: &mut [i64],
     given: &mut [i64],
     ideals: &mut [i64],
-) -> Reading
-    ensures { read_done result
-        (deck_buffers coefficients.new rights.new lower.new upper.new low.new
-        high.new given.new ideals.new)
-        ≡ read text.now
-        (deck_buffers coefficients.old rights.old lower.old upper.old low.old
-        high.old given.old ideals.old) }
+)
+    requires lists { lengths·rule (deck_buffers coefficients.old rights.old lower.old upper.old low.old high.old given.old ideals.old) ≡ true }
+    requires shape { (shape.columns ≤ deck_columns) × (shape.rows ≤ deck_rows) × (shape.intervals ≤ shape.columns) }
+    requires small { SmallColumns shape.intervals (map lower_of tables.now.columns) (map upper_of tables.now.columns)
+        (map low_of tables.now.columns) (map high_of tables.now.columns) }
+    ensures { (d : Deck) → tables.now ≡ tables_of d → shape ≡ shape_of d
+        → deck_buffers coefficients.new rights.new lower.new upper.new low.new high.new given.new ideals.new ≡ filled (posed 0 d) }
 {
-    if !lengths_fit(
-        coefficients.len(),
-        rights.len(),
-        lower.len(),
-        upper.len(),
-        low.len(),
-        high.len(),
-        given.len(),
-        ideals.len(),
-    ) {
-        return Reading::Refused(Refusal::Length);
+    pick_columns(&tables.columns, lower, upper, low, high);
+    rights.copy_from_slice(&tables.rights);
+    coefficients.fill(0);
+    compact(&tables.rows[..shape.rows], shape.columns, coefficients);
+    let sheet = Sheet {
+        columns: shape.columns,
+        rows: shape.rows,
+        intervals: shape.intervals,
+        coefficients,
+        lower,
+        upper,
+        low,
+        high,
+    };
+    hand_in(sheet, given, ideals);
+}
+
+// Reads a text into lists of the largest size, and tells the shape of its problem. A refusal leaves every list as it was.
+pub fn read_deck(text: &[u8], lists: &mut ListsMut<'_>) -> Result<Shape, Refusal>
+    ensures done { read_done result (held lists.new) ≡ read text.now (held lists.old) }
+    ensures same_references { SameReferences lists.old lists.new }
+{
+    if !lengths_fit(lists) {
+        return Err(Refusal::Length);
     }
     if Sizes::TEXT < text.len() {
-        return Reading::Refused(Refusal::Layout);
+        return Err(Refusal::Layout);
     }
-    let mut k = [0i64; Sizes::CELLS];
-    let mut b = [0i64; Sizes::ROWS];
-    let mut t = [0i64; Sizes::COEFFICIENTS];
-    let d = scan(text, &mut k, &mut b, &mut t);
-    match d {
-        Section::Read(c) => {
-            let n = c.columns;
-            let m = c.rows;
-            tables::pick_columns(&k, lower, upper, low, high);
-            copy(rights, &b);
-            wipe(coefficients);
-            tables::compact(&t, n, m, coefficients);
-            let shape = Shape {
-                columns: n,
-                rows: m,
-                intervals: c.intervals,
-            };
-            hand_in(shape, coefficients, lower, upper, low, high, given, ideals);
-            Reading::Read(n, m, c.intervals)
-        }
-        Section::Refused(why) => Reading::Refused(why),
-    }
+    let mut tables = Tables::blank();
+    let c = scan(text, &mut tables)?;
+    let shape = Shape {
+        columns: c.columns,
+        rows: c.rows,
+        intervals: c.intervals,
+    };
+    fill(
+        &tables,
+        shape,
+        lists.coefficients,
+        lists.rights,
+        lists.lower,
+        lists.upper,
+        lists.low,
+        lists.high,
+        lists.given,
+        lists.ideals,
+    );
+    Ok(shape)
 }

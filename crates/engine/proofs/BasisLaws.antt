@@ -1,6 +1,7 @@
 -- The rows of the tableau that are the basis, in the list in which they lie.
---   basis_view_lem   the vectors of the view are the basis
---   basis_in         so they are in a parted list of the tableau's length
+--   basis_start p h  where the basis starts behind h leading rows
+--   basis_view_lem   the vectors that lie there are the basis
+--   basis_lies       so they are in a parted list of the tableau's length
 -- Assumes nothing.
 use mathlib.Core.Path.{◌≡◌, refl, sym, ◌∙◌, ap, ap₂}
 use mathlib.Core.Bool.{Bool, true, false, cond}
@@ -19,8 +20,12 @@ use Rattle.lattice.proofs.FlatLaws.{flat_append, flat_chop, chop_rows, length_ch
 use Rattle.problem.specs.declared.Problem.{Problem}
 use Rattle.tableau.specs.RightSide.{leading, remaining, basis}
 use Rattle.tableau.proofs.RightLaws.{rising_split}
-use Rattle.settling.specs.Views.{rows_of, vectors}
-use Rattle.engine.specs.BasisPlace.{Parted, basis_of, basis_start, basis_view, table_of, width}
+use Rattle.settling.specs.Views.{rows_of}
+use Rattle.engine.specs.BasisPlace.{Parted, basis_of, table_of, width}
+
+-- where the first number of the basis stands behind h leading rows: at the tableau's end where there is no vector
+abbrev pub basis_start : Problem → ℕ → ℕ
+basis_start p h = cond (ltb h p.columns) (h * width p + p.rows) (p.columns * width p)
 
 -- ---- rows in a list
 -- the rows of R without their first m numbers
@@ -57,7 +62,7 @@ module _ (p : Problem) (T : List (List ℤ)) (w : All (Len (width p)) T) (c : le
       ap (λ (i : ℕ). drop i (flat T)) e ∙ ap (λ (X : List (List ℤ)). drop (length (flat L) + p.rows) (flat X)) (sym s)
       ∙ ap (drop (length (flat L) + p.rows)) (flat_append L R) ∙ drop-append-add (flat L) (flat R) p.rows
 
-  pub basis_view_lem : vectors (basis_view p (length L)) (drop (basis_start p (length L)) (flat T)) ≡ basis p.rows T
+  pub basis_view_lem : rows_of (p.columns - length L) p.columns (width p) (drop (basis_start p (length L)) (flat T)) ≡ basis p.rows T
   unfolding rows_of
   basis_view_lem = go (ltb (length L) p.columns) refl
     where
@@ -76,11 +81,12 @@ module _ (p : Problem) (T : List (List ℤ)) (w : All (Len (width p)) T) (c : le
       go false e = none (p.columns - length L) (omega (arith, ltb-false (length L) p.columns e)) _ R (sym r)
 
 -- ---- in a list of the tableau's length
-pub basis_in :
-    (p : Problem) (t : List ℤ) → Parted p t → vectors (basis_view p (length (leading p.rows (table_of p t))))
-    (drop (basis_start p (length (leading p.rows (table_of p t)))) t) ≡ basis_of p t
-basis_in p t a =
+pub basis_lies :
+    (p : Problem) (t : List ℤ) → Parted p t → (h : ℕ) → h ≡ length (leading p.rows (table_of p t))
+    → rows_of (p.columns - h) p.columns (width p) (drop (basis_start p h) t) ≡ basis_of p t
+basis_lies p t a h e =
     let T : List (List ℤ) = table_of p t in
-    let h : ℕ = length (leading p.rows T) in
-    ap (λ (l : List ℤ). vectors (basis_view p h) (drop (basis_start p h) l)) (sym (flat_chop p.columns (width p) t a.long))
+    let k : ℕ = length (leading p.rows T) in
+    ap (λ (i : ℕ). rows_of (p.columns - i) p.columns (width p) (drop (basis_start p i) t)) e
+    ∙ ap (λ (l : List ℤ). rows_of (p.columns - k) p.columns (width p) (drop (basis_start p k) l)) (sym (flat_chop p.columns (width p) t a.long))
     ∙ basis_view_lem p T (chop_rows p.columns (width p) t a.long) (length_chop p.columns (width p) t) (rising_split p.rows 0 T a.rises)

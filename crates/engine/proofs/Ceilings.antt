@@ -25,42 +25,35 @@ use Rattle.problem.proofs.CheckLaws.{Passes, passes, fits}
 use Rattle.problem.specs.declared.Lent.{Lent}
 use Rattle.problem.specs.declared.Refusal.{Refusal}
 use Rattle.problem.specs.declared.Refusal.TheVariants.{Elimination, Standing}
-use Rattle.problem.specs.declared.Check.{Check}
-use Rattle.problem.specs.declared.Check.TheVariants.{Passed, Failed}
+use Rattle.problem.specs.Checks.{Check}
+use Rattle.std.specs.Prelude.{Ok, Err}
 use Rattle.tableau.specs.RightSide.{Found, none, some}
 use Rattle.tableau.specs.Within.{Within}
 use Rattle.tableau.proofs.Forms.{coefficients_within}
 use Rattle.tableau.proofs.RoundLaws.{form_rounds_lem}
-use Rattle.settling.specs.declared.Step.{Step}
-use Rattle.settling.specs.declared.Step.TheVariants.{Rest as Still, Take}
-use Rattle.settling.specs.Seating.{Seated, seated, far, seat}
-use Rattle.settling.specs.Steps.{part_of, next_step}
-use Rattle.settling.proofs.Verdicts.{settle_verdict}
+use Rattle.settling.specs.Seating.{Seated, seat}
 use Rattle.engine.specs.Assign.{Buffers, Done, n, m, matrix, columns, lent_of, rounds_of, refused, over_limit, settle_on, on_check}
 use Rattle.engine.specs.Assign.{on_seated, on_found, solved, assign, stands, formed, continue}
 use Rattle.engine.specs.Ceiling.{RoundsRefused, RoundsReturned, ceiling, RoundsCeiling}
 use Rattle.engine.specs.Outcomes.{basis_left}
-use Rattle.engine.specs.Preview.{Shown, with_limit, lent_beside, unshown, on_cause, told, shown_on, preview}
-use Rattle.engine.specs.declared.preview.Seen.{Seen}
-use Rattle.engine.specs.declared.preview.Seen.TheVariants.{Refused, Rest, Next}
+use Rattle.engine.specs.Preview.{Seen, Shown, with_limit, lent_beside, unshown, on_cause, shown_on, preview}
 use Rattle.engine.proofs.Assigning.{solved_kept}
 
 abbrev is_shown : Seen → Bool
-is_shown (Refused why) = false
-is_shown Rest = true
-is_shown (Next p i o) = true
+is_shown (Ok next) = true
+is_shown (Err why) = false
 
 record Counted (P : Posed) (L : Lent) (t : Bool) (k : ℕ) : Type 0 where
   none : t ≡ false → k ≡ 0
   all : t ≡ true → k ≡ rounds_of P
-  passed : t ≡ true → first_cause P L ≡ Passed
+  passed : t ≡ true → first_cause P L ≡ Ok tt
   kept : t ≡ true → (formed P).over ≡ false
 
 module _ (P : Posed) (L : Lent) where
   uncounted : Counted P L false 0
   uncounted = record { none = λ e. refl; all = λ e. untrue e; passed = λ e. untrue e; kept = λ e. untrue e }
 
-  counted : first_cause P L ≡ Passed → (formed P).over ≡ false → (t : Bool) → t ≡ true → Counted P L t (rounds_of P)
+  counted : first_cause P L ≡ Ok tt → (formed P).over ≡ false → (t : Bool) → t ≡ true → Counted P L t (rounds_of P)
   counted h o t e = record { none = λ f. absurd (true≢false (sym e ∙ f)); all = λ f. refl; passed = λ f. h; kept = λ f. o }
 
   abbrev OfDone : Done → Type 0
@@ -70,25 +63,21 @@ module _ (P : Posed) (L : Lent) where
   OfShown x = Counted P L (is_shown x.seen) x.rounds
 
   -- past the checks, where the form is not past the limit
-  module _ (h : first_cause P L ≡ Passed) (o : (formed P).over ≡ false) where
+  module _ (h : first_cause P L ≡ Ok tt) (o : (formed P).over ≡ false) where
     settled_counted : (T N : List (List ℤ)) (v : List ℤ) → OfDone (settle_on P T N v)
     unfolding settle_on
-    settled_counted T N v = counted h o _ (settle_verdict (columns P) N P.problem.limit v)
+    settled_counted T N v = counted h o true refl
 
     seated_counted : (T N : List (List ℤ)) (B : Buffers) (z : Seated) → OfDone (on_seated P T N B z)
-    seated_counted T N B far = uncounted
-    seated_counted T N B (seated v) = settled_counted T N v
+    seated_counted T N B (Err why) = uncounted
+    seated_counted T N B (Ok v) = settled_counted T N v
 
     found_counted : (T : List (List ℤ)) (B : Buffers) (f : Found) → OfDone (on_found P T B f)
     found_counted T B none = uncounted
     found_counted T B (some s N) = seated_counted T N B (seat (columns P) N s)
 
     shown_counted : (T N : List (List ℤ)) (v : List ℤ) → OfShown (shown_on P T N v)
-    shown_counted T N v = go (next_step (columns P) N v)
-      where
-        go : (z : Step) → Counted P L (is_shown (told (part_of (columns P) v) z)) (rounds_of P)
-        go Still = counted h o true refl
-        go (Take i u) = counted h o true refl
+    shown_counted T N v = counted h o true refl
 
 -- ---- the calls
 assign_counted : (P : Posed) (B : Buffers) → OfDone P (lent_of B) (assign P B)
@@ -97,9 +86,9 @@ assign_counted P B = go (first_cause P (lent_of B)) refl (solved P).over refl
   where
     go : (c : Check) → first_cause P (lent_of B) ≡ c → (t : Bool) → (solved P).over ≡ t
         → OfDone P (lent_of B) (on_check c B (cond t (over_limit B) (on_found P (solved P).form B (solved P).found)))
-    go (Failed why) h t e = uncounted P (lent_of B)
-    go Passed h true e = uncounted P (lent_of B)
-    go Passed h false e = found_counted P (lent_of B) h (solved_kept P e) (solved P).form B (solved P).found
+    go (Err why) h t e = uncounted P (lent_of B)
+    go (Ok u) h true e = uncounted P (lent_of B)
+    go (Ok u) h false e = found_counted P (lent_of B) h (solved_kept P e) (solved P).form B (solved P).found
 
 continue_counted : (P : Posed) (B : Buffers) → OfDone P (lent_of B) (continue P B)
 unfolding continue
@@ -110,10 +99,10 @@ continue_counted P B = go (first_cause P (lent_of B)) refl (stands P B.values) (
 
     go : (c : Check) → first_cause P (lent_of B) ≡ c → (s o : Bool) → (formed P).over ≡ o
         → OfDone P (lent_of B) (on_check c B (cond s (cond o (over_limit B) d) (refused Standing B.tableau B)))
-    go (Failed why) h s o e = uncounted P (lent_of B)
-    go Passed h false o e = uncounted P (lent_of B)
-    go Passed h true true e = uncounted P (lent_of B)
-    go Passed h true false e = settled_counted P (lent_of B) h e (formed P).table (basis_left P) B.values
+    go (Err why) h s o e = uncounted P (lent_of B)
+    go (Ok u) h false o e = uncounted P (lent_of B)
+    go (Ok u) h true true e = uncounted P (lent_of B)
+    go (Ok u) h true false e = settled_counted P (lent_of B) h e (formed P).table (basis_left P) B.values
 
 preview_counted : (P : Posed) (v : List ℤ) (B : Buffers) → OfShown (with_limit 1 P) (lent_beside (n P) v B) (preview P v B)
 unfolding preview
@@ -130,10 +119,10 @@ preview_counted P v B = go (first_cause Q L) refl (stands P v) (formed P).over r
 
     go : (c : Check) → first_cause Q L ≡ c → (s o : Bool) → (formed P).over ≡ o
         → OfShown Q L (on_cause c B (cond s (cond o (unshown Elimination (zeros (length B.tableau)) B) x) (unshown Standing B.tableau B)))
-    go (Failed why) h s o e = uncounted Q L
-    go Passed h false o e = uncounted Q L
-    go Passed h true true e = uncounted Q L
-    go Passed h true false e = shown_counted Q L h e (formed P).table (basis_left P) v
+    go (Err why) h s o e = uncounted Q L
+    go (Ok u) h false o e = uncounted Q L
+    go (Ok u) h true true e = uncounted Q L
+    go (Ok u) h true false e = shown_counted Q L h e (formed P).table (basis_left P) v
 
 -- ---- with a refusal, and without one
 pub rounds_refused : RoundsRefused
@@ -143,10 +132,9 @@ rounds_refused P B = record {
   previews = λ v why e. (preview_counted P v B).none (ap is_shown e);
 }
 
-not_refused : (x : Seen) → ((why : Refusal) → x ≡ Refused why → ⊥) → is_shown x ≡ true
-not_refused (Refused why) f = absurd (f why refl)
-not_refused Rest f = refl
-not_refused (Next p i o) f = refl
+not_refused : (x : Seen) → ((why : Refusal) → x ≡ Err why → ⊥) → is_shown x ≡ true
+not_refused (Ok next) f = refl
+not_refused (Err why) f = absurd (f why refl)
 
 pub rounds_returned : RoundsReturned
 rounds_returned P B = record {

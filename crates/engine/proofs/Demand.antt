@@ -19,7 +19,8 @@ use Rattle.tableau.specs.RightSide.{Found, none, some, solve}
 use Rattle.tableau.specs.Generators.{Sized}
 use Rattle.tableau.proofs.Theorems.{solve_same}
 use Rattle.settling.specs.Columns.{column_of}
-use Rattle.settling.specs.Seating.{Seated, seated, far, seat}
+use Rattle.std.specs.Prelude.{Ok, Err}
+use Rattle.settling.specs.Seating.{Seated, seat}
 use Rattle.settling.specs.Settle.{settle}
 use Rattle.settling.specs.Strides.{strides}
 use Rattle.engine.specs.Assign.{Buffers, n, matrix, columns, settle_on, on_seated, on_found, solved}
@@ -56,9 +57,9 @@ module _ (P Q : Posed) (T U : List (List ℤ)) (B C : Buffers) (e : n P ≡ n Q)
 
   seated_same : (N : List (List ℤ)) (z : Seated) → SameOutcome (on_seated P T N B z) (on_seated Q U N C z)
   unfolding settle_on
-  seated_same N far = record { answer = refl; intervals = λ h. absurd (true≢false (sym h)) }
-  seated_same N (seated v) = record {
-    answer = λ i. (settle (s.limit i) (columns_same i) N v).answer;
+  seated_same N (Err why) = record { answer = refl; intervals = λ h. absurd (true≢false (sym h)) }
+  seated_same N (Ok v) = record {
+    answer = λ i. Ok (settle (s.limit i) (columns_same i) N v).verdict;
     intervals = λ h i. (settle (s.limit i) (columns_same i) N v).values;
   }
 
@@ -74,8 +75,8 @@ module _ (P : Posed) (T : List (List ℤ)) (B : Buffers) where
   seated_strides : (N : List (List ℤ)) (z : Seated) → is_verdict (on_seated P T N B z).answer ≡ true
       → (on_seated P T N B z).strides ≡ strides (n P) N
   unfolding settle_on
-  seated_strides N far h = absurd (true≢false (sym h))
-  seated_strides N (seated v) h = refl
+  seated_strides N (Err why) h = absurd (true≢false (sym h))
+  seated_strides N (Ok v) h = refl
 
 module _ (P Q : Posed) (T U : List (List ℤ)) (B C : Buffers) (e : n P ≡ n Q) where
   found_strides : (f : Found) → is_verdict (on_found P T B f).answer ≡ true → is_verdict (on_found Q U C f).answer ≡ true

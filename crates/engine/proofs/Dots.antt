@@ -4,9 +4,11 @@
 --   summed_more      one column further up
 --   summed_all       from the first column on it is the whole sum
 --   product_small    a value times a coefficient
+--   product_fits, sum_fits   a product and a sum fit the machine
 --   small_back       what the machine reads back of a number within ±M
 --   room             it leaves room for one more product
 --   dot_small        a whole sum is small
+--   RowStandable     what the checks leave of the lists, where the values lie within ±M too, of row i
 --   row_inside, table_small, row_summable   a row of the coefficients lies in them, which are few, and can be summed
 --   all_within       the two tests for a number beyond ±M agree
 -- Assumes nothing.
@@ -22,18 +24,18 @@ use lib.Dec.{ltb}
 use lib.ListN.{length, take, drop, length-take, length-drop, drop_of_length-le, get_or-eq_default}
 use lib.Seq.{drop-cons, get_or-take, get_or-drop, length-take-le}
 use mir.Syntax.{w64}
-use mir.Val.{to_z, of_z}
+use mir.Val.{to_z, of_z, SFits}
 use mir.Facts.{to_z-of_z}
 use Rattle.whole.specs.Lists.{entry}
 use Rattle.whole.specs.Tests.{spans}
 use Rattle.whole.proofs.Counted.{every_all}
 use Rattle.whole.proofs.Signed.{abs_add, abs_mul, sfits_abs}
 use Rattle.lattice.specs.Sums.{dot}
-use Rattle.problem.specs.Limits.{M, max_columns, max_rows, max_coefficient, any_beyond}
+use Rattle.problem.specs.Limits.{M, max_columns, max_rows, max_coefficient, max_right, any_beyond}
 use Rattle.problem.specs.Checks.{all_span}
 use Rattle.problem.proofs.CheckLaws.{all_small}
 use Rattle.tableau.proofs.Within.{within_entry}
-use Rattle.engine.specs.Standing.{max_sum, Summable, RowStandable}
+use Rattle.engine.specs.Standing.{max_sum, Summable}
 
 abbrev pub step : ℕ
 step = M * max_coefficient
@@ -85,7 +87,23 @@ room a v j s q z =
 pub small_back : (z : ℤ) → nat_abs z ≤ M → to_z w64 (of_z w64 z) ≡ z
 small_back z h = to_z-of_z (sfits_abs z (omega (arith, h)))
 
+-- ---- in the machine
+pub product_fits : (x y : ℤ) → nat_abs x ≤ M → nat_abs y ≤ max_coefficient → SFits w64 (x *ℤ y)
+product_fits x y h k = sfits_abs (x *ℤ y) (omega (arith, product_small x y h k))
+
+pub sum_fits : (s x y : ℤ) → nat_abs s ≤ max_sum → nat_abs x ≤ M → nat_abs y ≤ max_coefficient → SFits w64 (s +ℤ x *ℤ y)
+sum_fits s x y r h k = sfits_abs (s +ℤ x *ℤ y) (omega (arith, abs_add s (x *ℤ y), r, product_small x y h k))
+
 -- ---- a row of the coefficients
+pub record RowStandable (a b v : List ℤ) (i : ℕ) : Type 0 where
+  pub few_columns : length v ≤ max_columns
+  pub few_rows : length b ≤ max_rows
+  pub coefficients_long : length a ≡ length b * length v
+  pub row : i < length b
+  pub coefficients_small : (i : ℕ) → nat_abs (entry i a) ≤ max_coefficient
+  pub rights_small : (i : ℕ) → nat_abs (entry i b) ≤ max_right
+  pub values_small : (i : ℕ) → nat_abs (entry i v) ≤ M
+
 sum_small : (a v : List ℤ) → ((i : ℕ) → nat_abs (entry i a) ≤ max_coefficient) → ((i : ℕ) → nat_abs (entry i v) ≤ M)
     → nat_abs (dot a v) ≤ length a * step
 unfolding dot

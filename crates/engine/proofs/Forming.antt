@@ -1,18 +1,22 @@
 -- What the form of a problem leaves in the tableau.
 --   formable        a problem that passes the checks can be formed; solvable, and its right side taken through the form
+--   basis_few       a basis has no more vectors than the form has rows
 --   form_within     no number of a form lies beyond ±M
 --   Laid P t        the list t is the form's table, row after row, and the problem is not past the elimination limit
 --   laid_table      its rows are the form's; laid-basis, and the basis among them is the problem's
---   laid_parted     it is parted; laid-placed, so everything is placed for seating and settling
+--   laid_parted     it is parted
 --   start_small     a starting list lies within ±M
 -- Assumes nothing.
 use mathlib.Core.Path.{◌≡◌, sym, ◌∙◌, ap, subst}
 use mathlib.Core.Bool.{Bool, true, false, cond, ◌||◌}
 use mathlib.Core.List.{List, ◌++◌}
+use native.Mathlib.Omega.{arith}
+use Rattle.std.proofs.lemmas.List.{length-map}
+use Rattle.tableau.proofs.RightLaws.{rising_split}
 use Prim.Native.Nat.{ℕ, ◌+◌, ◌*◌, ◌≤◌}
 use lib.IntN.{ℤ, pos, nat_abs}
 use lib.Dec.{lit≤}
-use lib.ListN.{length, take, drop, length-replicate}
+use lib.ListN.{length, take, drop, length-append, length-replicate}
 use Rattle.whole.specs.Lists.{entry, zeros}
 use Rattle.whole.proofs.Never.{never}
 use Rattle.lattice.specs.Rows.{neg, all_zero, flat, chop}
@@ -37,8 +41,18 @@ use Rattle.tableau.proofs.Staying.{flat_all, all_flat, eliminate_all}
 use Rattle.rightside.proofs.Sweeping.{sweep_within}
 use Rattle.engine.specs.Assign.{n, m, matrix, solved, formed}
 use Rattle.engine.specs.BasisPlace.{width, table_of, basis_of, Parted}
-use Rattle.engine.specs.Placed.{Placed}
-use Rattle.engine.proofs.Readiness.{view_lies, table, ready}
+
+-- a basis has no more vectors than the form has rows
+pub basis_few : (P : Posed) → length (basis (m P) (formed P).table) ≤ n P
+basis_few P =
+    let T : List (List ℤ) = (formed P).table in
+    omega (
+      arith,
+      length-map (remaining (m P) T) (drop (m P)),
+      length-append (leading (m P) T) (remaining (m P) T),
+      ap length (rising_split (m P) 0 T (problem_rising (n P) (matrix P))),
+      problem_count (n P) (matrix P),
+    )
 
 module _ (P : Posed) (L : Lent) (q : Passes P L) where
   abbrev f : Fits P L
@@ -101,13 +115,6 @@ module _ (P : Posed) (L : Lent) (q : Passes P L) where
           ∙ ap (λ (k : ℕ). k * width P.problem) (problem_count (n P) (matrix P));
       small = λ i. within_entry t i laid_within;
       rises = subst (Rising 0) (sym laid_table) (problem_rising (n P) (matrix P));
-    }
-
-    pub laid_placed : (v : List ℤ) → length v ≡ n P → ((j : ℕ) → nat_abs (entry j v) ≤ M) → Placed P.problem t v (table P)
-    laid_placed v e g = record {
-      few_rows = f.few_rows;
-      parted = laid_parted;
-      ready = λ h. ready P L f h _ v (view_lies P.problem h t laid_parted.long laid_parted.small) e g;
     }
 
   -- ---- the starting list

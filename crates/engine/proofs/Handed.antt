@@ -17,10 +17,10 @@ use Rattle.problem.specs.declared.Lent.{Lent}
 use Rattle.problem.specs.declared.Refusal.TheVariants.{Elimination, Standing}
 use Rattle.tableau.specs.RightSide.{Found, none, some, basis}
 use Rattle.goals.specs.Ideals.{goal_ideal}
-use Rattle.goals.specs.declared.Wish.{Wish}
-use Rattle.goals.specs.declared.Wish.TheVariants.{Unset, Set}
+use Rattle.std.specs.Prelude.{Some, None, Ok, Err}
+use Rattle.goals.specs.Wishes.{Wish}
 use Rattle.goals.specs.Wishes.{into, wish_of, column_wish, ideal}
-use Rattle.settling.specs.Seating.{ideal_at, Seated, seated, far, seat}
+use Rattle.settling.specs.Seating.{ideal_at, Seated, seat}
 use Rattle.settling.specs.Steps.{part_of, next_step}
 use Rattle.settling.specs.Strides.{strides}
 use Rattle.settling.proofs.Wishes.{next_unwished, settle_unwished, seat_same}
@@ -33,13 +33,13 @@ use Rattle.engine.specs.Preview.{shown, with_limit, lent_beside, unshown, on_cau
 -- ---- of a column
 -- what an ideal comes to, of what is brought into the bounds
 abbrev comes_to : ℤ → ℤ → ℤ → Wish → ℤ
-comes_to lo hi x Unset = into lo hi x
-comes_to lo hi x (Set y) = y
+comes_to lo hi x None = into lo hi x
+comes_to lo hi x (Some y) = y
 
 ideal_comes : (lo hi x : ℤ) (w : Wish) → ideal lo hi w x ≡ comes_to lo hi x (brought_in lo hi w)
 unfolding ideal
-ideal_comes lo hi x Unset = refl
-ideal_comes lo hi x (Set y) = refl
+ideal_comes lo hi x None = refl
+ideal_comes lo hi x (Some y) = refl
 
 -- without a goal what is handed in is used alike; with one it is not used
 by_goal : (lo hi a b x : ℤ) (w z : Wish) → (is_zero a ≡ true → brought_in lo hi w ≡ brought_in lo hi z)
@@ -47,7 +47,7 @@ by_goal : (lo hi a b x : ℤ) (w z : Wish) → (is_zero a ≡ true → brought_i
 by_goal lo hi a b x w z f = go (is_zero a) f
   where
     asked : Wish
-    asked = Set (pos (goal_ideal (nat_abs a) (nat_abs b)))
+    asked = Some (pos (goal_ideal (nat_abs a) (nat_abs b)))
 
     go : (t : Bool) → (t ≡ true → brought_in lo hi w ≡ brought_in lo hi z)
         → ideal lo hi (cond t w asked) x ≡ ideal lo hi (cond t z asked) x
@@ -87,7 +87,7 @@ module _ (P : Posed) (ms xs : List ℤ) (l : length P.given ≡ length ms) (k : 
 
   shown_same : (T N : List (List ℤ)) (v : List ℤ) → shown_on P T N v ≡ shown_on other T N v
   shown_same T N v = λ i.
-      shown (told (part_of (columns P) v) (next_same N v i)) (rounds_of P) (flat T) (after N v (next_same N v i)) (strides (n P) N)
+      shown (Ok (told (part_of (columns P) v) (next_same N v i))) (rounds_of P) (flat T) (after N v (next_same N v i)) (strides (n P) N)
 
   preview_same : (v : List ℤ) (B : Buffers) → preview P v B ≡ preview other v B
   unfolding preview
@@ -105,8 +105,8 @@ module _ (P : Posed) (ms xs : List ℤ) (l : length P.given ≡ length ms) (k : 
         by_goal (entry c P.lower) (entry c P.upper) (entry c P.low) (entry c P.high) (entry c v) (handed_in P c) (handed_in other c) (u c)
 
     seated_same : (T N : List (List ℤ)) (B : Buffers) (z : Seated) → on_seated P T N B z ≡ on_seated other T N B z
-    seated_same T N B far = refl
-    seated_same T N B (seated v) = settled_same T N v
+    seated_same T N B (Err why) = refl
+    seated_same T N B (Ok v) = settled_same T N v
 
     found_same : (T : List (List ℤ)) (B : Buffers) (f : Found) → on_found P T B f ≡ on_found other T B f
     found_same T B none = refl

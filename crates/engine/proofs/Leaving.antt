@@ -18,13 +18,13 @@ use Rattle.problem.specs.Limits.{M, max_columns}
 use Rattle.problem.specs.Answers.{no_steps, answer_counts, is_verdict}
 use Rattle.problem.specs.Checks.{Posed, first_cause}
 use Rattle.problem.proofs.CheckLaws.{Fits, Passes, passes, fits}
-use Rattle.problem.specs.declared.Check.{Check}
-use Rattle.problem.specs.declared.Check.TheVariants.{Passed, Failed}
+use Rattle.problem.specs.Checks.{Check}
+use Rattle.std.specs.Prelude.{Ok, Err}
 use Rattle.tableau.specs.RightSide.{remaining, basis, Found, none, some}
 use Rattle.tableau.proofs.Theorems.{solve_tells}
 use Rattle.tableau.specs.Within.{Within}
 use Rattle.tableau.proofs.Within.{within_drop}
-use Rattle.settling.specs.Seating.{Seated, seated, far, seat}
+use Rattle.settling.specs.Seating.{Seated, seat}
 use Rattle.settling.specs.Settle.{settle}
 use Rattle.settling.proofs.Settlings.{Values}
 use Rattle.settling.proofs.Leaving.{seat_values, settle_values, total, settle_steps, strides_small}
@@ -49,7 +49,7 @@ basis_within k (r ∷ T) a = go (ltb (lead r) k) (basis_within k T a.1)
     go true b = b
     go false b = (within_drop k r a.0, b)
 
-module _ (P : Posed) (B : Buffers) (h : first_cause P (lent_of B) ≡ Passed) where
+module _ (P : Posed) (B : Buffers) (h : first_cause P (lent_of B) ≡ Ok tt) where
   abbrev q : Passes P (lent_of B)
   q = passes P (lent_of B) h
 
@@ -78,8 +78,8 @@ module _ (P : Posed) (B : Buffers) (h : first_cause P (lent_of B) ≡ Passed) wh
 
   seated_leaves : (T N : List (List ℤ)) (s : List ℤ) (z : Seated) → Values (n P) s → All Within N → seat (columns P) N s ≡ z
       → is_verdict (on_seated P T N B z).answer ≡ true → Leaves P (on_seated P T N B z)
-  seated_leaves T N s far a w e v = untrue v
-  seated_leaves T N s (seated u) a w e v = settled_leaves T N u (seat_values (columns P) (n P) N s u a e) w
+  seated_leaves T N s (Err why) a w e v = untrue v
+  seated_leaves T N s (Ok u) a w e v = settled_leaves T N u (seat_values (columns P) (n P) N s u a e) w
 
   found_leaves : (T : List (List ℤ)) (x : Found) → (solved P).over ≡ false → (solved P).found ≡ x → is_verdict (on_found P T B x).answer ≡ true
       → Leaves P (on_found P T B x)
@@ -100,5 +100,5 @@ assign_leaves P B = go (first_cause P (lent_of B)) refl
   where
     go : (c : Check) → first_cause P (lent_of B) ≡ c → is_verdict (on_check c B (assign_fit P B)).answer ≡ true
         → Leaves P (on_check c B (assign_fit P B))
-    go Passed h v = fit_leaves P B h v
-    go (Failed why) h v = untrue v
+    go (Ok u) h v = fit_leaves P B h v
+    go (Err why) h v = untrue v

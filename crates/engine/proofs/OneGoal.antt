@@ -8,7 +8,7 @@ use Rattle.whole.specs.Tests.{is_zero, every}
 use Rattle.problem.specs.Checks.{Posed}
 use Rattle.problem.proofs.CheckLaws.{Fits, passes, fits}
 use Rattle.goals.proofs.OneGoal.{ideal_kept, fit_kept}
-use Rattle.goals.specs.declared.Wish.TheVariants.{Set}
+use Rattle.std.specs.Prelude.{Some}
 use Rattle.settling.specs.Columns.{listed}
 use Rattle.engine.specs.Assign.{Buffers, n, columns, lent_of}
 use Rattle.engine.specs.Demand.{WithinLimits, handed_in}
@@ -26,7 +26,7 @@ columns_kept P B e w =
         high = entry j P.low;
         wish =
             cond (is_zero (entry j P.low)) (handed_in P j)
-            (Set (pos (ideal_kept (nat_abs (entry j P.low)) (small.low_small j) i)));
+            (Some (pos (ideal_kept (nat_abs (entry j P.low)) (small.low_small j) i)));
       };
     })
   where

@@ -9,55 +9,49 @@
 use mathlib.Core.Path.{◌≡◌, refl, sym, ◌∙◌, ap, ap₂, subst}
 use mathlib.Core.Bool.{Bool, true, false, cond, ◌&&◌, true≢false}
 use mathlib.Core.List.{List}
-use Prim.Native.Nat.{ℕ, ◌+◌, ◌-◌, ◌*◌, ◌<◌}
+use Prim.Native.Nat.{ℕ, ◌+◌, ◌*◌, ◌<◌, ◌≤◌}
 use native.Mathlib.Omega.{arith}
 use borrow.Author.Tests.{ne_eqb, eqb-true}
 use lib.Dec.{eqb}
 use lib.IntN.{ℤ}
-use lib.ListN.{length, drop}
+use lib.ListN.{length}
 use Rattle.whole.specs.Lists.{zeros}
 use Rattle.whole.proofs.Never.{never, untrue}
 use Rattle.problem.specs.Limits.{max_columns, max_rows}
-use Rattle.problem.specs.Answers.{no_steps, answer_counts, is_verdict}
+use Rattle.problem.specs.Answers.{no_steps, verdict_counts, answer_counts, is_verdict}
 use Rattle.problem.specs.Checks.{Posed, sizes_fit, row_lengths_fit, column_lengths_fit, ideal_lengths_fit, lent_fit}
 use Rattle.problem.specs.Checks.{rows_fit, bounds_fit, goals_fit, limit_fits, or_next, first_cause}
 use Rattle.problem.specs.declared.Counts.{Counts}
 use Rattle.problem.proofs.CheckLaws.{Fits}
-use Rattle.problem.specs.declared.Problem.{Problem}
 use Rattle.problem.specs.declared.Lent.{Lent}
 use Rattle.problem.specs.declared.Refusal.{Refusal}
 use Rattle.problem.specs.declared.Refusal.TheVariants.{Size, Length, Coefficient, Bound, Goal, Limit, Elimination, Standing}
-use Rattle.problem.specs.declared.Answer.{Answer}
-use Rattle.problem.specs.declared.Answer.TheVariants.{Refused as Turned}
-use Rattle.problem.specs.declared.Check.{Check}
-use Rattle.problem.specs.declared.Check.TheVariants.{Passed, Failed}
-use Rattle.tableau.specs.RightSide.{leading}
+use Rattle.problem.specs.Answers.{Answer}
+use Rattle.problem.specs.Checks.{Check}
+use Rattle.std.specs.Prelude.{Option, Some, None, Result, Ok, Err}
 use Rattle.settling.specs.declared.Move.{Move}
 use Rattle.settling.specs.declared.Part.{Part}
 use Rattle.settling.specs.declared.Part.TheVariants.{Bounds, Goals}
 use Rattle.settling.specs.declared.Step.{Step}
-use Rattle.settling.specs.declared.Step.TheVariants.{Rest as Still, Take}
-use Rattle.settling.specs.Columns.{Columns, columns_in}
+use Rattle.settling.specs.Columns.{Columns}
 use Rattle.settling.specs.Moves.{moved}
 use Rattle.settling.specs.Settle.{Settled, at_rest, counted, settle_from, settle}
-use Rattle.settling.specs.Steps.{part_of, next_step}
+use Rattle.settling.specs.Steps.{part_of, step, next_step}
 use Rattle.settling.specs.Verdicts.{Improving}
-use Rattle.settling.specs.Views.{vectors, OfBasis}
-use Rattle.settling.proofs.Settlings.{taken_ready, settle_rest, settle_spent, settle_on_lem}
+use Rattle.settling.specs.Views.{OfBasis}
+use Rattle.settling.proofs.Settlings.{step_good, settle_rest, settle_spent, settle_on_lem}
 use Rattle.settling.proofs.Stepping.{next_taken}
 use Rattle.settling.proofs.Verdicts.{rest_exactly}
 use Rattle.engine.specs.Assign.{Buffers, Done, n, m, columns, lent_of, refused, settle_on, stands, formed}
-use Rattle.engine.specs.BasisPlace.{table_of, basis_view, basis_start}
 use Rattle.engine.specs.Ground.{Grounded, grounded, laid_ground}
 use Rattle.engine.specs.Outcomes.{basis_left}
-use Rattle.engine.specs.Preview.{Shown, with_limit, list_length, lent_beside, unshown, on_cause, told, after, shown_on, preview_fit, preview}
+use Rattle.engine.specs.Preview.{Seen, next, Shown, with_limit, list_length, lent_beside, unshown, on_cause, told, after, shown_on}
+use Rattle.engine.specs.Preview.{preview_fit, preview}
 use Rattle.engine.specs.Preview.{copied, Equals, EqualsContinue, PreviewContinue, PreviewRoom}
 use Rattle.engine.specs.Preview.{NamesStep, PreviewStep, AtRest, PreviewRest, PreviewLimit}
-use Rattle.engine.specs.declared.preview.Seen.TheVariants.{Refused, Rest, Next}
-use Rattle.engine.proofs.BasisLaws.{basis_in}
-use Rattle.engine.proofs.Readiness.{table, table_columns}
-use Rattle.engine.proofs.Forming.{Laid, laid_basis, laid_parted}
-use Rattle.engine.proofs.Grounding.{by_check, Clear, clear, clear_passes, clear_fits, clear_laid, clear_placed, continue_ground}
+use Rattle.engine.specs.declared.preview.Next.{Next}
+use Rattle.engine.proofs.Forming.{basis_few}
+use Rattle.engine.proofs.Grounding.{by_rounds, Clear, clear, clear_fits, continue_ground}
 use Rattle.engine.proofs.Showing.{both_long, preview_ground}
 
 -- ---- counts
@@ -71,8 +65,26 @@ same_part Bounds Goals e = absurd (omega (arith, ap (λ (k : Counts). k.bounds) 
 same_part Goals Bounds e = absurd (omega (arith, ap (λ (k : Counts). k.bounds) e))
 same_part Goals Goals e = refl
 
-turned_not : (a : Answer) (why : Refusal) → is_verdict a ≡ true → a ≡ Turned why → ⊥
+turned_not : (a : Answer) (why : Refusal) → is_verdict a ≡ true → a ≡ Err why → ⊥
 turned_not a why v e = true≢false (sym v ∙ ap is_verdict e)
+
+-- ---- a step as it is told
+abbrev told_next : Part → ℕ → Move → Seen
+told_next p i o = Ok (Some (next p i o))
+
+abbrev told_seen : Option Next → Seen
+told_seen x = Ok x
+
+-- the step in what is told, or else d
+abbrev step_in : Next → Seen → Next
+step_in d (Ok None) = d
+step_in d (Ok (Some x)) = x
+step_in d (Err why) = d
+
+same_next : (p q : Part) (i j : ℕ) (o u : Move) → told_next p i o ≡ told_next q j u → (p ≡ q) × (i ≡ j) × (o ≡ u)
+same_next p q i j o u e =
+    let h : next p i o ≡ next q j u = ap (step_in (next p i o)) e in
+    (ap (λ (x : Next). x.part) h, ap (λ (x : Next). x.column) h, ap (λ (x : Next). x.o) h)
 
 -- ---- what it is to equal Continue, by what is shown
 refused_equal : (v : List ℤ) (B : Buffers) (why : Refusal) (t : List ℤ) → Equals (unshown why t B) (refused why t (copied v B)) B.values
@@ -89,13 +101,12 @@ refused_equal v B why t = record {
 
 -- how settling ends: a verdict with these counts and values
 record EndsWith (z : Settled) (k : Counts) (w : List ℤ) : Type 0 where
-  verdict : is_verdict z.answer ≡ true
-  counts : answer_counts z.answer ≡ k
+  counts : verdict_counts z.verdict ≡ k
   values : z.values ≡ w
 
 module _ (x : Shown) (d : Done) (before : List ℤ) (v : is_verdict d.answer ≡ true) (r : x.rounds ≡ d.rounds) (t : x.tableau ≡ d.tableau)
     (s : x.strides ≡ d.strides) (a : x.after ≡ d.values) where
-  rest_equal : x.seen ≡ Rest → answer_counts d.answer ≡ no_steps → Equals x d before
+  rest_equal : x.seen ≡ Ok None → answer_counts d.answer ≡ no_steps → Equals x d before
   rest_equal e k = record {
     refused = λ why. ((λ h. never (cc)), (λ h. absurd (turned_not d.answer why v h)));
     rests = ((λ h. (v, k)), (λ h. e));
@@ -107,16 +118,13 @@ module _ (x : Shown) (d : Done) (before : List ℤ) (v : is_verdict d.answer ≡
     kept = λ h. absurd (true≢false (sym v ∙ h));
   }
 
-  step_equal : (p : Part) (i : ℕ) (o : Move) → x.seen ≡ Next p i o → answer_counts d.answer ≡ counted p no_steps → Equals x d before
+  step_equal : (p : Part) (i : ℕ) (o : Move) → x.seen ≡ Ok (Some (next p i o)) → answer_counts d.answer ≡ counted p no_steps → Equals x d before
   step_equal p i o e k = record {
     refused = λ why. ((λ h. never (cc)), (λ h. absurd (turned_not d.answer why v h)));
     rests = ((λ h. never (cc)), (λ h. absurd (no_step p (sym h.1 ∙ k))));
     steps = λ q. (
-      (λ y.
-          let h = y.is in
-          let z : p ≡ q = cc in
-          k ∙ ap (λ (r : Part). counted r no_steps) z),
-      (λ h. record { column = i; move = o; is = e ∙ ap (λ (r : Part). Next r i o) (same_part p q (sym k ∙ h)) }),
+      (λ y. k ∙ ap (λ (r : Part). counted r no_steps) (same_next p q i y.column o y.move (sym e ∙ y.is)).0),
+      (λ h. record { column = i; move = o; is = e ∙ ap (λ (r : Part). told_next r i o) (same_part p q (sym k ∙ h)) }),
     );
     rounds = r;
     tableau = t;
@@ -127,24 +135,24 @@ module _ (x : Shown) (d : Done) (before : List ℤ) (v : is_verdict d.answer ≡
 
 -- ---- settling with limit 1
 module _ (C : Columns) (N : List (List ℤ)) where
-  rest_ends : (p : Part) (k : Counts) (v : List ℤ) → EndsWith (record { answer = at_rest p k; values = v }) k v
-  rest_ends Bounds k v = record { verdict = refl; counts = refl; values = refl }
-  rest_ends Goals k v = record { verdict = refl; counts = refl; values = refl }
+  rest_ends : (p : Part) (k : Counts) (v : List ℤ) → EndsWith (record { verdict = at_rest p k; values = v }) k v
+  rest_ends Bounds k v = record { counts = refl; values = refl }
+  rest_ends Goals k v = record { counts = refl; values = refl }
 
   none_left : (k : Counts) (v : List ℤ) → EndsWith (settle_from 0 C N k v) k v
   none_left k v = go (next_step C N v) refl
     where
-      go : (z : Step) → next_step C N v ≡ z → EndsWith (settle_from 0 C N k v) k v
-      go Still e = subst (λ (z : Settled). EndsWith z k v) (sym (settle_rest C N k v 0 e)) (rest_ends (part_of C v) k v)
-      go (Take i o) e =
-          subst (λ (z : Settled). EndsWith z k v) (sym (settle_spent C N k v 0 i o refl e)) (record { verdict = refl; counts = refl; values = refl })
+      go : (z : Option Step) → next_step C N v ≡ z → EndsWith (settle_from 0 C N k v) k v
+      go None e = subst (λ (z : Settled). EndsWith z k v) (sym (settle_rest C N k v 0 e)) (rest_ends (part_of C v) k v)
+      go (Some u) e =
+          subst (λ (z : Settled). EndsWith z k v) (sym (settle_spent C N k v 0 u.column u.o refl e)) (record { counts = refl; values = refl })
 
   module _ (v : List ℤ) where
-    rests_ends : next_step C N v ≡ Still → EndsWith (settle 1 C N v) no_steps v
+    rests_ends : next_step C N v ≡ None → EndsWith (settle 1 C N v) no_steps v
     unfolding settle
     rests_ends e = subst (λ (z : Settled). EndsWith z no_steps v) (sym (settle_rest C N no_steps v 1 e)) (rest_ends (part_of C v) no_steps v)
 
-    step_ends : (i : ℕ) (o : Move) → next_step C N v ≡ Take i o → EndsWith (settle 1 C N v) (counted (part_of C v) no_steps) (moved N o v)
+    step_ends : (i : ℕ) (o : Move) → next_step C N v ≡ Some (step i o) → EndsWith (settle 1 C N v) (counted (part_of C v) no_steps) (moved N o v)
     unfolding settle
     step_ends i o e =
         subst (λ (z : Settled). EndsWith z (counted (part_of C v) no_steps) (moved N o v))
@@ -160,15 +168,15 @@ shown_equal P v T N before = go (next_step C N v) refl
     C : Columns
     C = columns P
 
-    go : (z : Step) → next_step C N v ≡ z → Equals (shown_on P T N v) (settle_on (with_limit 1 P) T N v) before
-    go Still e =
+    go : (z : Option Step) → next_step C N v ≡ z → Equals (shown_on P T N v) (settle_on (with_limit 1 P) T N v) before
+    go None e =
         let w = rests_ends C N v e in
-        rest_equal (shown_on P T N v) (settle_on (with_limit 1 P) T N v) before w.verdict refl refl refl (ap (after N v) e ∙ sym w.values)
-        (ap (told (part_of C v)) e) w.counts
-    go (Take i o) e =
-        let w = step_ends C N v i o e in
-        step_equal (shown_on P T N v) (settle_on (with_limit 1 P) T N v) before w.verdict refl refl refl (ap (after N v) e ∙ sym w.values)
-        (part_of C v) i o (ap (told (part_of C v)) e) w.counts
+        rest_equal (shown_on P T N v) (settle_on (with_limit 1 P) T N v) before refl refl refl refl (ap (after N v) e ∙ sym w.values)
+        (ap (λ (z : Option Step). told_seen (told (part_of C v) z)) e) w.counts
+    go (Some u) e =
+        let w = step_ends C N v u.column u.o e in
+        step_equal (shown_on P T N v) (settle_on (with_limit 1 P) T N v) before refl refl refl refl (ap (after N v) e ∙ sym w.values)
+        (part_of C v) u.column u.o (ap (λ (z : Option Step). told_seen (told (part_of C v) z)) e) w.counts
 
 -- ---- whole
 same_lengths : (n a b : ℕ) → b ≡ n → list_length n a b ≡ a
@@ -185,11 +193,11 @@ module _ (P : Posed) (v : List ℤ) (B : Buffers) where
   abbrev d : Done
   d = settle_on (with_limit 1 P) (formed P).table (basis_left P) v
 
-  by_check_lem :
-      (c : Check) (t : List ℤ)
-      → Equals (by_check (λ why t. unshown why t B) x c t) (by_check (λ why t. refused why t (copied v B)) d c t) B.values
-  by_check_lem Passed t = shown_equal P v (formed P).table (basis_left P) B.values
-  by_check_lem (Failed why) t = refused_equal v B why t
+  by_rounds_lem :
+      (c : Result ℕ Refusal) (t : List ℤ)
+      → Equals (by_rounds (λ why t. unshown why t B) x c t) (by_rounds (λ why t. refused why t (copied v B)) d c t) B.values
+  by_rounds_lem (Ok u) t = shown_equal P v (formed P).table (basis_left P) B.values
+  by_rounds_lem (Err why) t = refused_equal v B why t
 
   module _ (e : length B.values ≡ n P) where
     same_lent : lent_beside (n P) v B ≡ lent_of (copied v B)
@@ -200,7 +208,7 @@ module _ (P : Posed) (v : List ℤ) (B : Buffers) where
     equal : EqualsContinue P v B
     equal =
         let g : Grounded = laid_ground (with_limit 1 P) v (lent_of (copied v B)) B.tableau in
-        rw (preview_ground P v B, continue_ground (with_limit 1 P) (copied v B), same_lent) (by_check_lem g.check g.tableau)
+        rw (preview_ground P v B, continue_ground (with_limit 1 P) (copied v B), same_lent) (by_rounds_lem g.rounds g.tableau)
 
 pub preview_continue : PreviewContinue
 preview_continue P v B e = equal P v B e
@@ -212,7 +220,7 @@ short_lent false b c e = refl
 
 first_short :
     (a b c d : Bool) (r : Check)
-    → or_next a Size (or_next b Length (or_next c Length (or_next d Length (or_next false Length r)))) ≡ Failed (cond a Length Size)
+    → or_next a Size (or_next b Length (or_next c Length (or_next d Length (or_next false Length r)))) ≡ Err (cond a Length Size)
 first_short false b c d r = refl
 first_short true false c d r = refl
 first_short true true false d r = refl
@@ -221,15 +229,15 @@ first_short true true true true r = refl
 
 short_cause :
     (P : Posed) (L : Lent) → lent_fit P.problem L ≡ false
-    → first_cause P L ≡ Failed (cond (sizes_fit max_columns max_rows P.problem) Length Size)
+    → first_cause P L ≡ Err (cond (sizes_fit max_columns max_rows P.problem) Length Size)
 unfolding first_cause
 short_cause P L e =
     rw e (first_short (sizes_fit max_columns max_rows P.problem) (row_lengths_fit P.problem P.coefficients P.rights)
     (column_lengths_fit P.problem P.lower P.upper P.low P.high) (ideal_lengths_fit P.problem P.given P.ideals)
     (or_next (rows_fit P.coefficients P.rights) Coefficient (or_next (bounds_fit P.lower P.upper) Bound
-    (or_next (goals_fit P.lower P.low P.high) Goal (or_next (limit_fits P.problem) Limit Passed)))))
+    (or_next (goals_fit P.lower P.low P.high) Goal (or_next (limit_fits P.problem) Limit (Ok tt))))))
 
-turned : (P : Posed) (v : List ℤ) (B : Buffers) (why : Refusal) → first_cause (with_limit 1 P) (lent_beside (n P) v B) ≡ Failed why
+turned : (P : Posed) (v : List ℤ) (B : Buffers) (why : Refusal) → first_cause (with_limit 1 P) (lent_beside (n P) v B) ≡ Err why
     → preview P v B ≡ unshown why B.tableau B
 unfolding preview
 turned P v B why e = rw e refl
@@ -244,7 +252,8 @@ preview_room P v B f =
 
 -- ---- what is named
 module _ (P : Posed) (v : List ℤ) (p : Part) (i : ℕ) (o : Move) where
-  shown_names : (T : List (List ℤ)) → (shown_on P T (basis_left P) v).seen ≡ Next p i o → NamesStep P v (shown_on P T (basis_left P) v) p i o
+  shown_names : (T : List (List ℤ)) → (shown_on P T (basis_left P) v).seen ≡ Ok (Some (next p i o))
+      → NamesStep P v (shown_on P T (basis_left P) v) p i o
   shown_names T = go (next_step C N v) refl
     where
       C : Columns
@@ -253,35 +262,36 @@ module _ (P : Posed) (v : List ℤ) (p : Part) (i : ℕ) (o : Move) where
       N : List (List ℤ)
       N = basis_left P
 
-      go : (z : Step) → next_step C N v ≡ z → told (part_of C v) (next_step C N v) ≡ Next p i o → NamesStep P v (shown_on P T N v) p i o
-      go Still e h = let f : Rest ≡ Next p i o = sym (ap (told (part_of C v)) e) ∙ h in never (cc)
-      go (Take j u) e h =
-          let f : Next (part_of C v) j u ≡ Next p i o = sym (ap (told (part_of C v)) e) ∙ h in
-          let part : part_of C v ≡ p = cc in
-          let column : j ≡ i = cc in
-          let move : u ≡ o = cc in
-          let step : next_step C N v ≡ Take i o = e ∙ ap₂ Take column move in
+      go : (z : Option Step) → next_step C N v ≡ z → told_seen (told (part_of C v) (next_step C N v)) ≡ told_next p i o
+          → NamesStep P v (shown_on P T N v) p i o
+      go None e h =
+          let f : told_seen None ≡ told_next p i o = sym (ap (λ (z : Option Step). told_seen (told (part_of C v) z)) e) ∙ h in
+          never (cc)
+      go (Some u) e h =
+          let f : told_next (part_of C v) u.column u.o ≡ told_next p i o = sym (ap (λ (z : Option Step). told_seen (told (part_of C v) z)) e) ∙ h in
+          let g : (part_of C v ≡ p) × (u.column ≡ i) × (u.o ≡ o) = same_next (part_of C v) p u.column i u.o o f in
+          let named : next_step C N v ≡ Some (step i o) = e ∙ ap₂ (λ (a : ℕ) (b : Move). Some (step a b)) g.1 g.2 in
           record {
-            part = part;
-            step = step;
-            improving = subst (λ (q : Part). Improving q C N v i o) part (next_taken C N v i o step);
-            after = ap (after N v) step;
+            part = g.0;
+            step = named;
+            improving = subst (λ (q : Part). Improving q C N v i o) g.0 (next_taken C N v i o named);
+            after = ap (after N v) named;
           }
 
   module _ (B : Buffers) where
-    names : (c : Check) (t : List ℤ) → (by_check (λ why t. unshown why t B) (x P v B) c t).seen ≡ Next p i o
-        → NamesStep P v (by_check (λ why t. unshown why t B) (x P v B) c t) p i o
-    names Passed t e = shown_names (formed P).table e
-    names (Failed why) t e = never (cc)
+    names : (c : Result ℕ Refusal) (t : List ℤ) → (by_rounds (λ why t. unshown why t B) (x P v B) c t).seen ≡ Ok (Some (next p i o))
+        → NamesStep P v (by_rounds (λ why t. unshown why t B) (x P v B) c t) p i o
+    names (Ok u) t e = shown_names (formed P).table e
+    names (Err why) t e = never (cc)
 
 pub preview_step : PreviewStep
 preview_step P v B p i o e =
     let g : Grounded = laid_ground (with_limit 1 P) v (lent_beside (n P) v B) B.tableau in
-    rw (preview_ground P v B) (names P v p i o B g.check g.tableau (rw (preview_ground P v B) at e))
+    rw (preview_ground P v B) (names P v p i o B g.rounds g.tableau (rw (preview_ground P v B) at e))
 
 -- ---- at rest
 module _ (P : Posed) (v : List ℤ) where
-  shown_rests : (T : List (List ℤ)) → (shown_on P T (basis_left P) v).seen ≡ Rest → AtRest P v (shown_on P T (basis_left P) v)
+  shown_rests : (T : List (List ℤ)) → (shown_on P T (basis_left P) v).seen ≡ Ok None → AtRest P v (shown_on P T (basis_left P) v)
   shown_rests T = go (next_step C N v) refl
     where
       C : Columns
@@ -290,27 +300,30 @@ module _ (P : Posed) (v : List ℤ) where
       N : List (List ℤ)
       N = basis_left P
 
-      go : (z : Step) → next_step C N v ≡ z → told (part_of C v) (next_step C N v) ≡ Rest → AtRest P v (shown_on P T N v)
-      go Still e h = record { none = (rest_exactly C N v).0 e; after = ap (after N v) e }
-      go (Take j u) e h = let f : Next (part_of C v) j u ≡ Rest = sym (ap (told (part_of C v)) e) ∙ h in never (cc)
+      go : (z : Option Step) → next_step C N v ≡ z → told_seen (told (part_of C v) (next_step C N v)) ≡ told_seen None
+          → AtRest P v (shown_on P T N v)
+      go None e h = record { none = (rest_exactly C N v).0 e; after = ap (after N v) e }
+      go (Some u) e h =
+          let f : told_next (part_of C v) u.column u.o ≡ told_seen None = sym (ap (λ (z : Option Step). told_seen (told (part_of C v) z)) e) ∙ h in
+          never (cc)
 
-  rests : (B : Buffers) (c : Check) (t : List ℤ) → (by_check (λ why t. unshown why t B) (x P v B) c t).seen ≡ Rest
-      → AtRest P v (by_check (λ why t. unshown why t B) (x P v B) c t)
-  rests B Passed t e = shown_rests (formed P).table e
-  rests B (Failed why) t e = never (cc)
+  rests : (B : Buffers) (c : Result ℕ Refusal) (t : List ℤ) → (by_rounds (λ why t. unshown why t B) (x P v B) c t).seen ≡ Ok None
+      → AtRest P v (by_rounds (λ why t. unshown why t B) (x P v B) c t)
+  rests B (Ok u) t e = shown_rests (formed P).table e
+  rests B (Err why) t e = never (cc)
 
 pub preview_rest : PreviewRest
 preview_rest P v B e =
     let g : Grounded = laid_ground (with_limit 1 P) v (lent_beside (n P) v B) B.tableau in
-    rw (preview_ground P v B) (rests P v B g.check g.tableau (rw (preview_ground P v B) at e))
+    rw (preview_ground P v B) (rests P v B g.rounds g.tableau (rw (preview_ground P v B) at e))
 
 -- ---- how large it is
-no_refusal : (P : Posed) (v : List ℤ) (B : Buffers) (p : Part) (i : ℕ) (o : Move) (c : Check) (t : List ℤ)
-    → (by_check (λ why t. unshown why t B) (x P v B) c t).seen ≡ Next p i o → c ≡ Passed
-no_refusal P v B p i o Passed t e = refl
-no_refusal P v B p i o (Failed why) t e = never (cc)
+no_refusal : (P : Posed) (v : List ℤ) (B : Buffers) (p : Part) (i : ℕ) (o : Move) (c : Result ℕ Refusal) (t : List ℤ)
+    → (by_rounds (λ why t. unshown why t B) (x P v B) c t).seen ≡ Ok (Some (next p i o)) → (k : ℕ) × (c ≡ Ok k)
+no_refusal P v B p i o (Ok k) t e = (k, refl)
+no_refusal P v B p i o (Err why) t e = never (cc)
 
-module _ (P : Posed) (v : List ℤ) (B : Buffers) (p : Part) (i : ℕ) (o : Move) (e : (preview P v B).seen ≡ Next p i o) where
+module _ (P : Posed) (v : List ℤ) (B : Buffers) (p : Part) (i : ℕ) (o : Move) (e : (preview P v B).seen ≡ Ok (Some (next p i o))) where
   abbrev L : Lent
   L = lent_beside (n P) v B
 
@@ -320,49 +333,34 @@ module _ (P : Posed) (v : List ℤ) (B : Buffers) (p : Part) (i : ℕ) (o : Move
   is_clear : Clear (with_limit 1 P) v L B.tableau g.tableau
   is_clear =
       clear (with_limit 1 P) v L B.tableau
-      (ap (λ (c : Check). grounded c g.rounds g.tableau)
-      (sym (no_refusal P v B p i o g.check g.tableau (rw (preview_ground P v B) at e))))
-
-  abbrev laid : Laid (with_limit 1 P) L (clear_passes _ _ _ _ is_clear) g.tableau
-  laid = clear_laid _ _ _ _ is_clear
+      (ap (λ (c : Result ℕ Refusal). grounded c g.tableau)
+      (sym (no_refusal P v B p i o g.rounds g.tableau (rw (preview_ground P v B) at e)).1))
 
   abbrev fit : Fits (with_limit 1 P) L
   fit = clear_fits _ _ _ _ is_clear
 
-  abbrev q : Problem
-  q = (with_limit 1 P).problem
-
-  -- the rows above the basis
-  abbrev h : ℕ
-  h = length (leading q.rows (table_of q g.tableau))
-
-  next_in : next_step (columns_in (n P) (table P)) (vectors (basis_view q h) (drop (basis_start q h) g.tableau)) v ≡ Take i o
-  next_in =
-      ap₂ (λ (C : Columns) (N : List (List ℤ)). next_step C N v) (table_columns (with_limit 1 P) L fit)
-      (basis_in q g.tableau (laid_parted _ _ _ laid) ∙ laid_basis _ _ _ laid)
-      ∙ (preview_step P v B p i o e).step
-
-  of_basis : OfBasis (n P - h) o
-  of_basis =
-      (taken_ready (basis_view q h) v (table P) (drop (basis_start q h) g.tableau) i o
-      ((clear_placed _ _ _ _ is_clear (both_long (n P) (length v) (length B.values) fit.values_long).0 refl).ready h) next_in).0
-
   pub preview_small : (i < max_columns) × OfBasis max_columns o
   preview_small =
-      let f = fit.few_columns in (
-        omega (arith, (preview_step P v B p i o e).improving.inside, f),
-        record { s = omega (arith, of_basis.s, f); t = omega (arith, of_basis.t, f); a = of_basis.a; b = of_basis.b },
+      let s : NamesStep P v (preview P v B) p i o = preview_step P v B p i o e in
+      let g : OfBasis (length (basis_left P)) o = (step_good (columns P) (basis_left P) v i o s.step).0 in
+      let k : length (basis_left P) ≤ n P = basis_few P in
+      let f : n P ≤ max_columns = fit.few_columns in (
+        omega (arith, s.improving.inside),
+        record { s = omega (arith, g.s); t = omega (arith, g.t); a = g.a; b = g.b },
       )
 
 -- ---- the limit
-or_not : (t : Bool) (why : Refusal) (c : Check) → (why ≡ Limit → ⊥) → (c ≡ Failed Limit → ⊥) → or_next t why c ≡ Failed Limit → ⊥
+or_not : (t : Bool) (why : Refusal) (c : Check) → (why ≡ Limit → ⊥) → (c ≡ Err Limit → ⊥) → or_next t why c ≡ Err Limit → ⊥
 or_not true why c f g e = g e
 or_not false why c f g e = let h : why ≡ Limit = cc in f h
 
-passes_not : Passed ≡ Failed Limit → ⊥
+abbrev passed : Check
+passed = Ok tt
+
+passes_not : passed ≡ Err Limit → ⊥
 passes_not e = never (cc)
 
-first_not : (P : Posed) (L : Lent) → first_cause (with_limit 1 P) L ≡ Failed Limit → ⊥
+first_not : (P : Posed) (L : Lent) → first_cause (with_limit 1 P) L ≡ Err Limit → ⊥
 unfolding first_cause
 first_not P L =
     or_not (sizes_fit max_columns max_rows (with_limit 1 P).problem) Size _ (λ (e : Size ≡ Limit). never (cc))
@@ -378,23 +376,22 @@ first_not P L =
     length_not e = never (cc)
 
 module _ (P : Posed) (v : List ℤ) (B : Buffers) where
-  shown_not : (z : Step) → told (part_of (columns P) v) z ≡ Refused Limit → ⊥
-  shown_not Still e = never (cc)
-  shown_not (Take i o) e = never (cc)
+  shown_not : (z : Option Next) → told_seen z ≡ Err Limit → ⊥
+  shown_not z e = never (cc)
 
   fit_not : (s o : Bool) → (cond s (cond o (unshown Elimination (zeros (length B.tableau)) B) (x P v B)) (unshown Standing B.tableau B)).seen
-      ≡ Refused Limit → ⊥
+      ≡ Err Limit → ⊥
   fit_not false o e = never (cc)
   fit_not true true e = never (cc)
-  fit_not true false e = shown_not (next_step (columns P) (basis_left P) v) e
+  fit_not true false e = shown_not (told (part_of (columns P) v) (next_step (columns P) (basis_left P) v)) e
 
-  never_limit : (preview P v B).seen ≡ Refused Limit → ⊥
+  never_limit : (preview P v B).seen ≡ Err Limit → ⊥
   unfolding preview
   never_limit = go (first_cause (with_limit 1 P) (lent_beside (n P) v B)) refl
     where
-      go : (c : Check) → first_cause (with_limit 1 P) (lent_beside (n P) v B) ≡ c → (on_cause c B (preview_fit P v B)).seen ≡ Refused Limit → ⊥
-      go Passed h e = fit_not (stands P v) (formed P).over e
-      go (Failed why) h e = let w : why ≡ Limit = cc in first_not P (lent_beside (n P) v B) (h ∙ ap Failed w)
+      go : (c : Check) → first_cause (with_limit 1 P) (lent_beside (n P) v B) ≡ c → (on_cause c B (preview_fit P v B)).seen ≡ Err Limit → ⊥
+      go (Ok u) h e = fit_not (stands P v) (formed P).over e
+      go (Err why) h e = let w : why ≡ Limit = cc in first_not P (lent_beside (n P) v B) (h ∙ ap Err w)
 
 pub preview_limit : PreviewLimit
 unfolding preview

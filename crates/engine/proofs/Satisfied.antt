@@ -35,7 +35,8 @@ use Rattle.problem.specs.declared.Refusal.TheVariants.{Standing}
 use Rattle.tableau.specs.RightSide.{Found, none, some}
 use Rattle.tableau.specs.Generators.{Tells, Sized}
 use Rattle.tableau.proofs.Theorems.{solve_tells, solve_none}
-use Rattle.settling.specs.Seating.{Seated, seated, far, seat}
+use Rattle.std.specs.Prelude.{Ok, Err}
+use Rattle.settling.specs.Seating.{Seated, seat}
 use Rattle.settling.specs.Settle.{settle}
 use Rattle.settling.proofs.Keeping.{Keeps, seat_keeps, settle_keeps}
 use Rattle.engine.specs.Assign.{Buffers, n, m, matrix, columns, lent_of, refused, over_limit, settle_on, on_seated, on_found}
@@ -75,8 +76,8 @@ module _ (P : Posed) (T : List (List ℤ)) (B : Buffers) where
       k = describes_keeps (n P) (SatisfiesRows P) v N (λ x s. s.wide) d
 
       go : (z : Seated) → seat (columns P) N v ≡ z → KeepsRows P (on_seated P T N B z)
-      go far h e = absurd (true≢false (sym e))
-      go (seated u) h e =
+      go (Err why) h e = absurd (true≢false (sym e))
+      go (Ok u) h e =
           settle_keeps (SatisfiesRows P) (columns P) N k P.problem.limit no_steps u
           (seat_keeps (SatisfiesRows P) (columns P) N v u k ((d.set v d.long).1 (coset_self N v)) h)
 

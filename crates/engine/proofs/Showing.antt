@@ -1,6 +1,5 @@
 -- The preview, by what is found before it.
 --   both_long          where the length that stands for both lists is n, both have n numbers
---   stepping           the next step of a ready list can be taken
 --   shown_with k t x   what is displayed, with t in the tableau, of k rounds
 --   preview_ground     a preview is made of what is found
 --   preview_shown      where nothing is refused it is what is displayed over the basis in the tableau
@@ -15,22 +14,15 @@ use lib.IntN.{ℤ}
 use lib.ListN.{length}
 use Rattle.whole.specs.Lists.{zeros}
 use Rattle.lattice.specs.Rows.{flat}
-use Rattle.problem.specs.Checks.{Posed, first_cause}
+use Rattle.problem.specs.Checks.{Posed, Check, first_cause}
 use Rattle.problem.specs.declared.Refusal.TheVariants.{Elimination, Standing}
-use Rattle.problem.specs.declared.Check.{Check}
-use Rattle.problem.specs.declared.Check.TheVariants.{Passed, Failed}
-use Rattle.settling.specs.declared.Basis.{Basis}
-use Rattle.settling.specs.declared.Turn.{Turn}
-use Rattle.settling.specs.Columns.{columns_in}
-use Rattle.settling.specs.Ready.{Ready}
-use Rattle.settling.specs.Steps.{turn_of}
-use Rattle.settling.specs.Views.{vectors}
-use Rattle.settling.proofs.Settlings.{taken_ready}
+use Rattle.std.specs.Prelude.{Ok, Err}
 use Rattle.engine.specs.Assign.{Buffers, n, columns, rounds_of, stands, formed}
 use Rattle.engine.specs.Ground.{grounded, on_first, laid_ground}
 use Rattle.engine.specs.Outcomes.{basis_left}
 use Rattle.engine.specs.Preview.{Shown, shown, with_limit, list_length, lent_beside, unshown, on_cause, shown_on, preview}
-use Rattle.engine.specs.Showing.{Displayed, displayed_by, displayed_over, Stepping}
+use Rattle.engine.specs.BasisPlace.{basis_of}
+use Rattle.engine.specs.Showing.{Displayed, displayed_by}
 use Rattle.engine.proofs.Forming.{laid_basis}
 use Rattle.engine.proofs.Grounding.{by_ground, Clear, clear_passes, clear_laid}
 
@@ -41,16 +33,8 @@ both_long n a b = go (eqb a n) refl
     go true e h = (eqb-true a n e, h)
     go false e h = absurd (eqb-false a n e h)
 
-pub stepping : {B : Basis} {v t l : List ℤ} {x : Turn} → Ready B v t l → x ≡ turn_of (columns_in B.columns t) (vectors B l) v → Stepping x B v l
-stepping {B} {v} {t} {l} {x} r e = record {
-  basis = r.basis;
-  long = r.values_long;
-  small = r.values_small;
-  move = λ i o h. (taken_ready B v t l i o r (sym (ap (λ (z : Turn). z.step) e) ∙ h)).0;
-}
-
 abbrev pub shown_with : ℕ → List ℤ → Displayed → Shown
-shown_with k t x = shown x.seen k t x.after x.strides
+shown_with k t x = shown (Ok x.next) k t x.after x.strides
 
 module _ (P : Posed) (v : List ℤ) (B : Buffers) where
   abbrev x : Shown
@@ -60,19 +44,19 @@ module _ (P : Posed) (v : List ℤ) (B : Buffers) where
       (c : Check) (s o : Bool) (k : ℕ) (u : List ℤ)
       → on_cause c B (cond s (cond o (unshown Elimination (zeros (length B.tableau)) B) x) (unshown Standing B.tableau B))
       ≡ by_ground (λ why t. unshown why t B) x (on_first c B.tableau
-      (cond s (cond o (grounded (Failed Elimination) 0 (zeros (length B.tableau))) (grounded Passed k u))
-      (grounded (Failed Standing) 0 B.tableau)))
-  by_cases (Failed why) s o k u = refl
-  by_cases Passed false o k u = refl
-  by_cases Passed true true k u = refl
-  by_cases Passed true false k u = refl
+      (cond s (cond o (grounded (Err Elimination) (zeros (length B.tableau))) (grounded (Ok k) u))
+      (grounded (Err Standing) B.tableau)))
+  by_cases (Err why) s o k u = refl
+  by_cases (Ok z) false o k u = refl
+  by_cases (Ok z) true true k u = refl
+  by_cases (Ok z) true false k u = refl
 
   pub preview_ground : preview P v B ≡ by_ground (λ why t. unshown why t B) x (laid_ground (with_limit 1 P) v (lent_beside (n P) v B) B.tableau)
   unfolding preview laid_ground
   preview_ground = by_cases (first_cause (with_limit 1 P) (lent_beside (n P) v B)) (stands P v) (formed P).over (rounds_of P) (flat (formed P).table)
 
   module _ {u : List ℤ} (c : Clear (with_limit 1 P) v (lent_beside (n P) v B) B.tableau u) where
-    pub preview_shown : preview P v B ≡ shown_with (rounds_of P) u (displayed_over (with_limit 1 P).problem (columns P) u v)
+    pub preview_shown : preview P v B ≡ shown_with (rounds_of P) u (displayed_by (columns P) (basis_of (with_limit 1 P).problem u) v)
     unfolding preview
     preview_shown =
         rw (c.passed, c.standing, c.kept) refl

@@ -24,7 +24,8 @@ use Rattle.problem.specs.declared.Refusal.TheVariants.{Standing}
 use Rattle.tableau.specs.RightSide.{Found, none, some}
 use Rattle.tableau.specs.Generators.{Tells}
 use Rattle.tableau.proofs.Theorems.{solve_tells, solve_none}
-use Rattle.settling.specs.Seating.{Seated, seated, far, seat}
+use Rattle.std.specs.Prelude.{Ok, Err}
+use Rattle.settling.specs.Seating.{Seated, seat}
 use Rattle.settling.specs.Strides.{stride, strides}
 use Rattle.settling.proofs.StrideLaws.{strides_at}
 use Rattle.settling.proofs.Striding.{stride_greatest, span_divides}
@@ -80,8 +81,8 @@ module _ (P : Posed) (T : List (List ℤ)) (B : Buffers) (j : ℕ) (h : j < n P)
   found_strides (some v N) d e = go (seat (columns P) N v) e
     where
       go : (z : Seated) → is_verdict (on_seated P T N B z).answer ≡ true → StrideOf P j (get_or (on_seated P T N B z).strides j 0)
-      go far e = absurd (true≢false (sym e))
-      go (seated u) e = listed_strides P v N d j h
+      go (Err why) e = absurd (true≢false (sym e))
+      go (Ok u) e = listed_strides P v N d j h
 
 pub assign_strides : AssignStrides
 unfolding assign

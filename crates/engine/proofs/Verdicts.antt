@@ -9,12 +9,12 @@ use lib.IntN.{ℤ}
 use Rattle.problem.specs.Answers.{is_verdict}
 use Rattle.problem.specs.Checks.{Posed, first_cause}
 use Rattle.problem.specs.declared.Refusal.{Refusal}
-use Rattle.problem.specs.declared.Refusal.TheVariants.{Elimination, NoWholeNumbers, Seating, Standing}
-use Rattle.problem.specs.declared.Check.{Check}
-use Rattle.problem.specs.declared.Check.TheVariants.{Passed, Failed}
-use Rattle.problem.specs.declared.Answer.TheVariants.{Refused}
+use Rattle.problem.specs.declared.Refusal.TheVariants.{Elimination, NoWholeNumbers, Standing}
+use Rattle.problem.specs.Checks.{Check}
+use Rattle.std.specs.Prelude.{Ok, Err}
+use Rattle.std.specs.Prelude.{Err}
 use Rattle.tableau.specs.RightSide.{Found, none, some}
-use Rattle.settling.specs.Seating.{Seated, seated, far, seat}
+use Rattle.settling.specs.Seating.{Seated, seat}
 use Rattle.settling.specs.Verdicts.{Means}
 use Rattle.whole.proofs.Never.{never}
 use Rattle.settling.proofs.Verdicts.{settle_means}
@@ -28,8 +28,8 @@ pub verdict_within : (P : Posed) (B : Buffers) (d : Done) → is_verdict (on_che
 verdict_within P B d = go (first_cause P (lent_of B)) refl
   where
     go : (c : Check) → first_cause P (lent_of B) ≡ c → is_verdict (on_check c B d).answer ≡ true → WithinLimits P B
-    go Passed h e = record { passed = h }
-    go (Failed why) h e = absurd (true≢false (sym e))
+    go (Ok u) h e = record { passed = h }
+    go (Err why) h e = absurd (true≢false (sym e))
 
 module _ (P : Posed) where
   -- over the basis N
@@ -37,7 +37,7 @@ module _ (P : Posed) where
   MeansOver N d = Means P.problem.limit (columns P) N d.answer d.values
 
   -- a refusal is no verdict
-  no_verdict : (N : List (List ℤ)) (why : Refusal) (v : List ℤ) → Means P.problem.limit (columns P) N (Refused why) v
+  no_verdict : (N : List (List ℤ)) (why : Refusal) (v : List ℤ) → Means P.problem.limit (columns P) N (Err why) v
   no_verdict N why v = record { fitted = λ k e. never (cc); outside = λ k e. never (cc); spent = λ k e. never (cc) }
 
   means_on : (T N : List (List ℤ)) (v : List ℤ) → MeansOver N (settle_on P T N v)
@@ -46,8 +46,8 @@ module _ (P : Posed) where
 
   module _ (B : Buffers) where
     means_checked : (c : Check) (d : Done) → VerdictMeans P d → VerdictMeans P (on_check c B d)
-    means_checked Passed d h = h
-    means_checked (Failed why) d h = no_verdict (basis_left P) why B.values
+    means_checked (Ok u) d h = h
+    means_checked (Err why) d h = no_verdict (basis_left P) why B.values
 
     means_limited : (t : Bool) (d : Done) → VerdictMeans P d → VerdictMeans P (cond t (over_limit B) d)
     means_limited true d h = no_verdict (basis_left P) Elimination B.values
@@ -60,8 +60,8 @@ module _ (P : Posed) where
     -- ---- whole assignments
     module _ (T : List (List ℤ)) where
       means_seated : (N : List (List ℤ)) (z : Seated) → MeansOver N (on_seated P T N B z)
-      means_seated N far = no_verdict N Seating B.values
-      means_seated N (seated v) = means_on T N v
+      means_seated N (Err why) = no_verdict N why B.values
+      means_seated N (Ok v) = means_on T N v
 
       means_found : (f : Found) → (solved P).found ≡ f → VerdictMeans P (on_found P T B f)
       means_found none e = no_verdict (basis_left P) NoWholeNumbers B.values

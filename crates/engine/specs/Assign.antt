@@ -13,26 +13,23 @@
 --   continue P B     "Continue settles a lent list that satisfies the rows. It forms the tableau but takes neither the right-side step nor seating."
 -- "Order: 1 to 6, then 10, then 7 and 8 as met, then 9."
 -- Assumes nothing.
-use Rattle.std.specs.Prelude.{Bool, not, cond, ◌&&◌, List, ℕ, ℤ, ◌-ℤ◌, length}
+use Rattle.std.specs.Prelude.{Bool, not, cond, ◌&&◌, List, ℕ, ℤ, ◌-ℤ◌, length, Ok, Err}
 use Rattle.whole.specs.Lists.{entry, zeros}
 use Rattle.whole.specs.Tests.{is_zero, every}
 use Rattle.lattice.specs.Rows.{flat, chop}
 use Rattle.lattice.specs.Sums.{sums}
 use Rattle.problem.specs.Limits.{any_beyond}
-use Rattle.problem.specs.Checks.{Posed, first_cause}
+use Rattle.problem.specs.Checks.{Posed, Check, first_cause}
 use Rattle.problem.specs.declared.Problem.{Problem}
 use Rattle.problem.specs.declared.Lent.{Lent}
 use Rattle.problem.specs.declared.Refusal.{Refusal}
-use Rattle.problem.specs.declared.Refusal.TheVariants.{Elimination, NoWholeNumbers, Seating, Standing}
-use Rattle.problem.specs.declared.Check.{Check}
-use Rattle.problem.specs.declared.Check.TheVariants.{Passed, Failed}
-use Rattle.problem.specs.declared.Answer.{Answer}
-use Rattle.problem.specs.declared.Answer.TheVariants.{Refused}
+use Rattle.problem.specs.declared.Refusal.TheVariants.{Elimination, NoWholeNumbers, Standing}
+use Rattle.problem.specs.Answers.{Answer}
 use Rattle.tableau.specs.Elimination.{Run}
 use Rattle.tableau.specs.RoundCount.{form_rounds}
 use Rattle.tableau.specs.RightSide.{Found, none, some, Solved, basis, form, solve}
 use Rattle.settling.specs.Columns.{Columns, listed}
-use Rattle.settling.specs.Seating.{Seated, seated, far, seat}
+use Rattle.settling.specs.Seating.{Seated, seat}
 use Rattle.settling.specs.Settle.{Settled, settle}
 use Rattle.settling.specs.Strides.{strides}
 
@@ -96,7 +93,7 @@ rounds_of P = form_rounds (n P) (matrix P)
 -- ---- what is left: the table "Turned back"
 -- T is what the tableau then holds
 abbrev pub refused : Refusal → List ℤ → Buffers → Done
-refused why T B = done (Refused why) 0 T B.values B.strides
+refused why T B = done (Err why) 0 T B.values B.strides
 
 -- 7: "tableau all 0, lists as before"
 abbrev pub over_limit : Buffers → Done
@@ -104,7 +101,7 @@ over_limit B = refused Elimination (zeros (length B.tableau)) B
 
 -- "leaves the form in the tableau, the final values in the interval list and the strides in theirs"
 abbrev pub settled : ℕ → List (List ℤ) → List ℕ → Settled → Done
-settled rounds T d z = done z.answer rounds (flat T) z.values d
+settled rounds T d z = done (Ok z.verdict) rounds (flat T) z.values d
 
 -- settling over the basis N of the form T, from the list v
 unfoldable pub settle_on : Posed → List (List ℤ) → List (List ℤ) → List ℤ → Done
@@ -112,13 +109,13 @@ settle_on P T N v = settled (rounds_of P) T (strides (n P) N) (settle P.problem.
 
 -- what the checks find, then the rest
 abbrev pub on_check : Check → Buffers → Done → Done
-on_check Passed B d = d
-on_check (Failed why) B d = refused why B.tableau B
+on_check (Ok u) B d = d
+on_check (Err why) B d = refused why B.tableau B
 
 -- ---- a whole assignment
 abbrev pub on_seated : Posed → List (List ℤ) → List (List ℤ) → Buffers → Seated → Done
-on_seated P T N B far = refused Seating (flat T) B
-on_seated P T N B (seated v) = settle_on P T N v
+on_seated P T N B (Err why) = refused why (flat T) B
+on_seated P T N B (Ok v) = settle_on P T N v
 
 abbrev pub on_found : Posed → List (List ℤ) → Buffers → Found → Done
 on_found P T B none = refused NoWholeNumbers (flat T) B

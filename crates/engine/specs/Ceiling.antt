@@ -8,19 +8,18 @@
 --   RoundsCeiling      so it is of every problem and all lent buffers
 -- The theorems are `rounds_refused`, `rounds_returned` and `rounds_ceiling`, in proofs/Ceilings.
 -- Assumes nothing.
-use Rattle.std.specs.Prelude.{◌≡◌, true, false, List, ℕ, ◌*◌, ◌≤◌, ℤ}
+use Rattle.std.specs.Prelude.{◌≡◌, true, false, List, ℕ, ◌*◌, ◌≤◌, ℤ, Err}
 use Rattle.problem.specs.Answers.{is_verdict}
 use Rattle.problem.specs.Checks.{Posed}
 use Rattle.problem.specs.declared.Refusal.{Refusal}
 use Rattle.engine.specs.Assign.{Buffers, n, rounds_of, assign, continue}
 use Rattle.engine.specs.Preview.{preview}
-use Rattle.engine.specs.declared.preview.Seen.TheVariants.{Refused}
 
 -- ---- with a refusal
 pub record NoRounds (P : Posed) (B : Buffers) : Type 0 where
   pub assigns : is_verdict (assign P B).answer ≡ false → (assign P B).rounds ≡ 0
   pub continues : is_verdict (continue P B).answer ≡ false → (continue P B).rounds ≡ 0
-  pub previews : (v : List ℤ) (why : Refusal) → (preview P v B).seen ≡ Refused why → (preview P v B).rounds ≡ 0
+  pub previews : (v : List ℤ) (why : Refusal) → (preview P v B).seen ≡ Err why → (preview P v B).rounds ≡ 0
 
 abbrev pub RoundsRefused : Type 0
 RoundsRefused = (P : Posed) (B : Buffers) → NoRounds P B
@@ -29,7 +28,7 @@ RoundsRefused = (P : Posed) (B : Buffers) → NoRounds P B
 pub record AllRounds (P : Posed) (B : Buffers) : Type 0 where
   pub assigns : is_verdict (assign P B).answer ≡ true → (assign P B).rounds ≡ rounds_of P
   pub continues : is_verdict (continue P B).answer ≡ true → (continue P B).rounds ≡ rounds_of P
-  pub previews : (v : List ℤ) → ((why : Refusal) → (preview P v B).seen ≡ Refused why → ⊥) → (preview P v B).rounds ≡ rounds_of P
+  pub previews : (v : List ℤ) → ((why : Refusal) → (preview P v B).seen ≡ Err why → ⊥) → (preview P v B).rounds ≡ rounds_of P
 
 abbrev pub RoundsReturned : Type 0
 RoundsReturned = (P : Posed) (B : Buffers) → AllRounds P B

@@ -18,28 +18,25 @@
 --   Demand3 P Q B C    the demand, as one statement about both problems and what was in their lent buffers. m and the rows may differ
 -- The theorem is `demand_3`, in proofs/.
 -- Assumes nothing.
-use Rattle.std.specs.Prelude.{◌≡◌, ◌↔◌, ◌⊎◌, true, List, ℕ, ℤ}
+use Rattle.std.specs.Prelude.{◌≡◌, ◌↔◌, ◌⊎◌, true, List, ℕ, ℤ, Ok, Err}
 use Rattle.whole.specs.Lists.{entry}
 use Rattle.lattice.specs.Sums.{Satisfies}
 use Rattle.problem.specs.Answers.{is_verdict}
 use Rattle.problem.specs.Checks.{Posed, first_cause}
 use Rattle.problem.specs.declared.Refusal.TheVariants.{Elimination, NoWholeNumbers}
-use Rattle.problem.specs.declared.Check.TheVariants.{Passed}
-use Rattle.problem.specs.declared.Answer.TheVariants.{Refused}
 use Rattle.tableau.specs.RightSide.{some}
-use Rattle.goals.specs.declared.Wish.{Wish}
-use Rattle.goals.specs.Wishes.{wish_of}
+use Rattle.goals.specs.Wishes.{Wish, wish_of}
 use Rattle.engine.specs.Assign.{Buffers, Done, n, matrix, lent_of, solved, assign}
 
 -- ---- the words
 pub record WithinLimits (P : Posed) (B : Buffers) : Type 0 where
-  pub passed : first_cause P (lent_of B) ≡ Passed
+  pub passed : first_cause P (lent_of B) ≡ Ok tt
 
 abbrev pub PastLimit : Posed → Buffers → Type 0
-PastLimit P B = (assign P B).answer ≡ Refused Elimination
+PastLimit P B = (assign P B).answer ≡ Err Elimination
 
 abbrev pub IsNone : Posed → Buffers → Type 0
-IsNone P B = (assign P B).answer ≡ Refused NoWholeNumbers
+IsNone P B = (assign P B).answer ≡ Err NoWholeNumbers
 
 abbrev pub SatisfiesRows : Posed → List ℤ → Type 0
 SatisfiesRows P x = Satisfies (n P) (matrix P) P.rights x

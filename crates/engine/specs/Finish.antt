@@ -1,21 +1,18 @@
--- The end of a whole assignment, from the starting list on, in the terms of the buffers: seating, then settling over the basis in the tableau.
---   Finished               the answer, and what the interval list and the strides then hold; `finished_with` makes one of the three
---   settled_by k C N v     with the step limit k the list v settled over the basis N, which gives the strides too
---   settled_over p C t v   the same over the basis in the tableau t
---   finished p C t s v d   with the form in t, the starting list s, and v and d in the lists before; `on_seat` by what seating finds
---   Finishable ..          what it needs, with the columns in the table c
+-- The end of a whole assignment, from the starting list on, in the terms of the buffers: seating, then settling over the basis.
+--   Finished             the answer, and what the interval list and the strides then hold; `finished_with` makes one of the three
+--   settled_by k C N v   with the step limit k the list v settled over the basis N, which gives the strides too
+--   finished k C N s v d   from the starting list s, with v and d in the lists before; `on_seat` by what seating finds
+--   Finishable ..        what it needs, with the columns in the table c
 -- Assumes nothing.
-use Rattle.std.specs.Prelude.{◌≡◌, List, ℕ, ℤ, length}
-use Rattle.problem.specs.declared.Problem.{Problem}
-use Rattle.problem.specs.declared.Refusal.TheVariants.{Seating}
-use Rattle.problem.specs.declared.Answer.{Answer}
-use Rattle.problem.specs.declared.Answer.TheVariants.{Refused}
+use Rattle.std.specs.Prelude.{◌≡◌, List, ℕ, ℤ, length, Ok, Err}
+use Rattle.problem.specs.Answers.{Answer}
+use Rattle.settling.specs.declared.Basis.{Basis}
+use Rattle.settling.specs.declared.Column.{Column}
 use Rattle.settling.specs.Columns.{Columns}
-use Rattle.settling.specs.Seating.{Seated, seated, far, seat}
+use Rattle.settling.specs.Seating.{Seated, seat}
+use Rattle.settling.specs.Seats.{Seatable}
 use Rattle.settling.specs.Settle.{settle}
 use Rattle.settling.specs.Strides.{strides}
-use Rattle.engine.specs.BasisPlace.{basis_of}
-use Rattle.engine.specs.Placed.{Placed, LedBasis, Stridable}
 
 pub record Finished : Type 0 where
   pub answer : Answer
@@ -26,20 +23,16 @@ abbrev pub finished_with : Answer → List ℤ → List ℕ → Finished
 finished_with answer values strides = record { answer = answer; values = values; strides = strides }
 
 abbrev pub settled_by : ℕ → Columns → List (List ℤ) → List ℤ → Finished
-settled_by limit C N v = finished_with (settle limit C N v).answer (settle limit C N v).values (strides C.count N)
-
-abbrev pub settled_over : Problem → Columns → List ℤ → List ℤ → Finished
-settled_over p C t v = settled_by p.limit C (basis_of p t) v
+settled_by limit C N v = finished_with (Ok (settle limit C N v).verdict) (settle limit C N v).values (strides C.count N)
 
 abbrev pub on_seat : ℕ → Columns → List (List ℤ) → List ℤ → List ℕ → Seated → Finished
-on_seat limit C N v d far = finished_with (Refused Seating) v d
-on_seat limit C N v d (seated u) = settled_by limit C N u
+on_seat limit C N v d (Err why) = finished_with (Err why) v d
+on_seat limit C N v d (Ok u) = settled_by limit C N u
 
-abbrev pub finished : Problem → Columns → List ℤ → List ℤ → List ℤ → List ℕ → Finished
-finished p C t s v d = on_seat p.limit C (basis_of p t) v d (seat C (basis_of p t) s)
+abbrev pub finished : ℕ → Columns → List (List ℤ) → List ℤ → List ℤ → List ℕ → Finished
+finished limit C N s v d = on_seat limit C N v d (seat C N s)
 
-pub record Finishable (p : Problem) (t s c v : List ℤ) (d : List ℕ) : Type 0 where
-  pub placed : Placed p t s c
-  pub led : LedBasis p t
-  pub values : length v ≡ p.columns
-  pub strides : Stridable p d
+pub record Finishable (B : Basis) (s : List ℤ) (c : List Column) (v : List ℤ) (d : List ℕ) : Type 0 where
+  pub seatable : Seatable B s c
+  pub values : length v ≡ B.columns
+  pub strides : length d ≡ B.columns

@@ -8,13 +8,11 @@
 --   IdealsUnread     so it is with whatever ideals
 -- The theorems are `ideals_used` and `ideals_unread`, in proofs/Handed.
 -- Assumes nothing.
-use Rattle.std.specs.Prelude.{◌≡◌, true, List, ℕ, ℤ, length}
+use Rattle.std.specs.Prelude.{◌≡◌, true, List, ℕ, ℤ, length, Some, None}
 use Rattle.whole.specs.Lists.{entry}
 use Rattle.whole.specs.Tests.{is_zero}
 use Rattle.problem.specs.Checks.{Posed}
-use Rattle.goals.specs.declared.Wish.{Wish}
-use Rattle.goals.specs.declared.Wish.TheVariants.{Unset, Set}
-use Rattle.goals.specs.Wishes.{into}
+use Rattle.goals.specs.Wishes.{Wish, into}
 use Rattle.engine.specs.Assign.{Buffers, assign, continue}
 use Rattle.engine.specs.Demand.{handed_in}
 use Rattle.engine.specs.Preview.{preview}
@@ -32,8 +30,8 @@ pub record ButIdeals (P Q : Posed) : Type 0 where
 
 -- ---- "it is used only without a goal, and brought into the bounds"
 abbrev pub brought_in : ℤ → ℤ → Wish → Wish
-brought_in lo hi Unset = Unset
-brought_in lo hi (Set x) = Set (into lo hi x)
+brought_in lo hi None = None
+brought_in lo hi (Some x) = Some (into lo hi x)
 
 abbrev pub SameUse : Posed → Posed → Type 0
 SameUse P Q =

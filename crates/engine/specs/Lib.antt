@@ -2,7 +2,6 @@
 pub mod Assign
 pub mod Replies
 pub mod BasisPlace
-pub mod Placed
 pub mod Finish
 pub mod Standing
 pub mod Demand

@@ -7,15 +7,15 @@
 --   OneGoalKept           all three are kept
 -- The theorem is `one_goal_kept`, in proofs/OneGoal. Document 01's ideal and its cause 5 of one column stand in the room goals.
 -- Assumes nothing.
-use Rattle.std.specs.Prelude.{◌≡◌, Bool, cond, List, ℕ, ◌*◌, ℤ, pos, nat_abs, length}
+use Rattle.std.specs.Prelude.{◌≡◌, Bool, cond, List, ℕ, ◌*◌, ℤ, pos, nat_abs, length, Some}
 use Rattle.whole.specs.Lists.{entry}
 use Rattle.whole.specs.Tests.{is_zero, every}
 use Rattle.problem.specs.Checks.{Posed, goals_fit}
 use Rattle.goals.specs.OneGoal.{one_goal_ideal, one_goal_fits}
 use Rattle.settling.specs.declared.Measure.{Measure}
-use Rattle.goals.specs.declared.Wish.{Wish}
-use Rattle.goals.specs.declared.Wish.TheVariants.{Set}
-use Rattle.settling.specs.Columns.{Column, Columns}
+use Rattle.goals.specs.Wishes.{Wish}
+use Rattle.settling.specs.declared.Column.{Column}
+use Rattle.settling.specs.Columns.{Columns}
 use Rattle.settling.specs.Measures.{fraction, larger, ratio}
 use Rattle.engine.specs.Assign.{Buffers, n, columns}
 use Rattle.engine.specs.Demand.{WithinLimits, handed_in}
@@ -25,7 +25,7 @@ one_goals_fit lower gs = every (length lower) (λ j. one_goal_fits (entry j lowe
 
 abbrev pub one_goal_column : ℤ → ℤ → ℤ → Wish → Column
 one_goal_column lo hi g w =
-    record { lower = lo; upper = hi; low = g; high = g; wish = cond (is_zero g) w (Set (pos (one_goal_ideal (nat_abs g)))) }
+    record { lower = lo; upper = hi; low = g; high = g; wish = cond (is_zero g) w (Some (pos (one_goal_ideal (nat_abs g)))) }
 
 abbrev pub one_goal_columns : Posed → Columns
 one_goal_columns P = record {

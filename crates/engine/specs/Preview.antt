@@ -1,5 +1,6 @@
 -- Document 02, (i): the next step of a standing list, shown before it is taken.
---   Seen                what is told: a refusal, that no move improves, or a step's part, column and move (declared in src/)
+--   Next                a step's part, column and move (declared in src/); `next` makes one
+--   Seen                what is told: a refusal, that no move improves, or a step
 --   Shown               what is told, the rounds of the tableau, and what the tableau, the list after and the strides then hold; `shown` makes one of
 --                       the five
 --   with_limit k P      the problem P with the step limit k for the one held beside it
@@ -21,32 +22,33 @@
 --   LimitUnused, PreviewLimit   a limit held beside the problem plays no part, so that 6 is never given
 -- The theorems are `preview_continue`, `preview_room`, `preview_step`, `preview_rest` and `preview_limit`, in proofs/Previews.
 -- Assumes nothing.
-use Rattle.std.specs.Prelude.{◌≡◌, ◌↔◌, true, false, cond, List, ℕ, eqb, ℤ, length}
+use Rattle.std.specs.Prelude.{◌≡◌, ◌↔◌, true, false, cond, List, ℕ, eqb, ℤ, length, Option, Some, None, Result, Ok, Err}
 use Rattle.whole.specs.Lists.{zeros}
 use Rattle.lattice.specs.Rows.{flat}
 use Rattle.problem.specs.Answers.{no_steps, answer_counts, is_verdict}
 use Rattle.problem.specs.Limits.{max_columns, max_rows}
-use Rattle.problem.specs.Checks.{Posed, sizes_fit, first_cause}
+use Rattle.problem.specs.Checks.{Posed, Check, sizes_fit, first_cause}
 use Rattle.problem.specs.declared.Lent.{Lent}
 use Rattle.problem.specs.declared.Refusal.{Refusal}
 use Rattle.problem.specs.declared.Refusal.TheVariants.{Size, Length, Limit, Elimination, Standing}
-use Rattle.problem.specs.declared.Check.{Check}
-use Rattle.problem.specs.declared.Check.TheVariants.{Passed, Failed}
-use Rattle.problem.specs.declared.Answer.TheVariants.{Refused as Turned}
 use Rattle.tableau.specs.RightSide.{basis}
 use Rattle.settling.specs.declared.Move.{Move}
 use Rattle.settling.specs.declared.Part.{Part}
 use Rattle.settling.specs.declared.Step.{Step}
-use Rattle.settling.specs.declared.Step.TheVariants.{Rest as Still, Take}
 use Rattle.settling.specs.Moves.{moved}
 use Rattle.settling.specs.Settle.{counted}
-use Rattle.settling.specs.Steps.{part_of, next_step}
+use Rattle.settling.specs.Steps.{part_of, step, next_step}
 use Rattle.settling.specs.Strides.{strides}
 use Rattle.settling.specs.Verdicts.{Improving, NoMoveImproves}
 use Rattle.engine.specs.Assign.{Buffers, buffers, Done, n, m, columns, rounds_of, stands, formed, continue}
 use Rattle.engine.specs.Outcomes.{basis_left}
-use Rattle.engine.specs.declared.preview.Seen.{Seen}
-use Rattle.engine.specs.declared.preview.Seen.TheVariants.{Refused, Rest, Next}
+use Rattle.engine.specs.declared.preview.Next.{Next}
+
+abbrev pub Seen : Type 0
+Seen = Result (Option Next) Refusal
+
+abbrev pub next : Part → ℕ → Move → Next
+next p i o = record { part = p; column = i; o = o }
 
 pub record Shown : Type 0 where
   pub seen : Seen
@@ -85,25 +87,26 @@ lent_beside n v B = record {
 -- ---- what is left: the table "Turned back"
 -- T is what the tableau then holds
 abbrev pub unshown : Refusal → List ℤ → Buffers → Shown
-unshown why T B = shown (Refused why) 0 T B.values B.strides
+unshown why T B = shown (Err why) 0 T B.values B.strides
 
 abbrev pub on_cause : Check → Buffers → Shown → Shown
-on_cause Passed B x = x
-on_cause (Failed why) B x = unshown why B.tableau B
+on_cause (Ok u) B x = x
+on_cause (Err why) B x = unshown why B.tableau B
 
 -- ---- "the preview names the part, the column, the move .."
-abbrev pub told : Part → Step → Seen
-told p Still = Rest
-told p (Take i o) = Next p i o
+abbrev pub told : Part → Option Step → Option Next
+told p None = None
+told p (Some s) = Some (next p s.column s.o)
 
 -- ".. and the list after it, or says that no move improves": then it is the standing list
-abbrev pub after : List (List ℤ) → List ℤ → Step → List ℤ
-after N v Still = v
-after N v (Take i o) = moved N o v
+abbrev pub after : List (List ℤ) → List ℤ → Option Step → List ℤ
+after N v None = v
+after N v (Some s) = moved N s.o v
 
 abbrev pub shown_on : Posed → List (List ℤ) → List (List ℤ) → List ℤ → Shown
 shown_on P T N v =
-    shown (told (part_of (columns P) v) (next_step (columns P) N v)) (rounds_of P) (flat T) (after N v (next_step (columns P) N v)) (strides (n P) N)
+    shown (Ok (told (part_of (columns P) v) (next_step (columns P) N v))) (rounds_of P) (flat T) (after N v (next_step (columns P) N v))
+    (strides (n P) N)
 
 -- 10, then 7
 abbrev pub preview_fit : Posed → List ℤ → Buffers → Shown
@@ -123,13 +126,13 @@ copied v B = buffers B.tableau v B.strides
 pub record ShowsStep (x : Shown) (p : Part) : Type 0 where
   pub column : ℕ
   pub move : Move
-  pub is : x.seen ≡ Next p column move
+  pub is : x.seen ≡ Ok (Some (next p column move))
 
 pub record Equals (x : Shown) (d : Done) (before : List ℤ) : Type 0 where
   -- "refusals included": it is turned back exactly when Continue is, by the same refusal
-  pub refused : (why : Refusal) → (x.seen ≡ Refused why) ↔ (d.answer ≡ Turned why)
+  pub refused : (why : Refusal) → (x.seen ≡ Err why) ↔ (d.answer ≡ Err why)
   -- no move improves exactly when Continue has a verdict without a step
-  pub rests : (x.seen ≡ Rest) ↔ ((is_verdict d.answer ≡ true) × (answer_counts d.answer ≡ no_steps))
+  pub rests : (x.seen ≡ Ok None) ↔ ((is_verdict d.answer ≡ true) × (answer_counts d.answer ≡ no_steps))
   -- a step is shown exactly when Continue takes one, and of that part
   pub steps : (p : Part) → ShowsStep x p ↔ (answer_counts d.answer ≡ counted p no_steps)
   -- the rounds are Continue's, 0 with a refusal
@@ -157,13 +160,13 @@ PreviewRoom =
 pub record NamesStep (P : Posed) (v : List ℤ) (x : Shown) (p : Part) (i : ℕ) (o : Move) : Type 0 where
   pub part : part_of (columns P) v ≡ p
   -- "A step takes the first column with an improving move, and its first such move, once."
-  pub step : next_step (columns P) (basis_left P) v ≡ Take i o
+  pub step : next_step (columns P) (basis_left P) v ≡ Some (step i o)
   pub improving : Improving p (columns P) (basis_left P) v i o
   pub after : x.after ≡ moved (basis_left P) o v
 
 abbrev pub PreviewStep : Type 0
 PreviewStep =
-    (P : Posed) (v : List ℤ) (B : Buffers) (p : Part) (i : ℕ) (o : Move) → (preview P v B).seen ≡ Next p i o
+    (P : Posed) (v : List ℤ) (B : Buffers) (p : Part) (i : ℕ) (o : Move) → (preview P v B).seen ≡ Ok (Some (next p i o))
     → NamesStep P v (preview P v B) p i o
 
 pub record AtRest (P : Posed) (v : List ℤ) (x : Shown) : Type 0 where
@@ -171,12 +174,12 @@ pub record AtRest (P : Posed) (v : List ℤ) (x : Shown) : Type 0 where
   pub after : x.after ≡ v
 
 abbrev pub PreviewRest : Type 0
-PreviewRest = (P : Posed) (v : List ℤ) (B : Buffers) → (preview P v B).seen ≡ Rest → AtRest P v (preview P v B)
+PreviewRest = (P : Posed) (v : List ℤ) (B : Buffers) → (preview P v B).seen ≡ Ok None → AtRest P v (preview P v B)
 
 -- ---- the limit
 pub record LimitUnused (P : Posed) (v : List ℤ) (B : Buffers) : Type 0 where
   pub same : (k : ℕ) → preview (with_limit k P) v B ≡ preview P v B
-  pub never : (preview P v B).seen ≡ Refused Limit → ⊥
+  pub never : (preview P v B).seen ≡ Err Limit → ⊥
 
 abbrev pub PreviewLimit : Type 0
 PreviewLimit = (P : Posed) (v : List ℤ) (B : Buffers) → LimitUnused P v B

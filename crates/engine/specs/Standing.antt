@@ -3,9 +3,9 @@
 --   Summable a v        a row of coefficients within the limits, and as many values within ±M
 --   keeps_row n a b v i   row i of the coefficients a, n to a row, adds up to its right side in b
 --   stands_in p a b v   no value lies beyond ±M, and every row is kept
---   Standable ..        what the checks leave of these lists; RowStandable, where the values lie within ±M too, of row i
+--   Standable ..        what the checks leave of these lists
 -- Assumes nothing.
-use Rattle.std.specs.Prelude.{◌≡◌, Bool, not, ◌&&◌, List, ℕ, ◌*◌, ◌<◌, ◌≤◌, ℤ, nat_abs, ◌-ℤ◌, length, take, drop}
+use Rattle.std.specs.Prelude.{◌≡◌, Bool, not, ◌&&◌, List, ℕ, ◌*◌, ◌≤◌, ℤ, nat_abs, ◌-ℤ◌, length, take, drop}
 use Rattle.whole.specs.Lists.{entry}
 use Rattle.whole.specs.Tests.{is_zero, every}
 use Rattle.lattice.specs.Sums.{dot}
@@ -35,12 +35,3 @@ pub record Standable (p : Problem) (a b v : List ℤ) : Type 0 where
   pub values_long : length v ≡ p.columns
   pub coefficients_small : (i : ℕ) → nat_abs (entry i a) ≤ max_coefficient
   pub rights_small : (i : ℕ) → nat_abs (entry i b) ≤ max_right
-
-pub record RowStandable (a b v : List ℤ) (i : ℕ) : Type 0 where
-  pub few_columns : length v ≤ max_columns
-  pub few_rows : length b ≤ max_rows
-  pub coefficients_long : length a ≡ length b * length v
-  pub row : i < length b
-  pub coefficients_small : (i : ℕ) → nat_abs (entry i a) ≤ max_coefficient
-  pub rights_small : (i : ℕ) → nat_abs (entry i b) ≤ max_right
-  pub values_small : (i : ℕ) → nat_abs (entry i v) ≤ M

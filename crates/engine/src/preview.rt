@@ -1,163 +1,93 @@
 // Document 02's preview: the next step of a standing list, shown before it is taken.
 ghost use Rattle.std.specs.Prelude.{◌≡◌, length};
+ghost use Rattle.problem.specs.Checks.{posed};
 ghost use Rattle.settling.specs.Columns.{columns_in};
 ghost use Rattle.settling.specs.Ready.{Ready};
 ghost use Rattle.settling.specs.Views.{vectors};
-ghost use Rattle.engine.specs.Assign.{posed_by, buffers};
-ghost use Rattle.engine.specs.Placed.{Placed};
 ghost use Rattle.engine.specs.Preview as Preview;
-ghost use Rattle.engine.specs.Preview.{shown, list_length};
-ghost use Rattle.engine.specs.Showing.{displayed, displayed_by, displayed_over, Showable, Stepping};
+ghost use Rattle.engine.specs.Preview.{list_length};
+ghost use Rattle.engine.specs.Replies.{held, left, shown_by};
+ghost use Rattle.engine.specs.Showing.{displayed, displayed_by};
 
+use crate::Buffers;
 use crate::ground::lay_ground;
-use crate::views::basis_place;
-use problem::{Check, Lent, Problem, Refusal};
-use settling::columns::WIDTH;
+use crate::views::basis_in;
+use problem::{Lent, Lists, Problem, Refusal};
 use settling::moves::take_move;
-use settling::{Basis, Move, Part, Step, Turn};
-use whole::buffers::copy;
+use settling::{Basis, Column, Move, Part};
 
-// What a preview tells: why it is turned back, that no move improves, or the next step: its part, the column that it improves and its move.
-#[derive(Clone, Copy)]
-pub enum Seen {
-    Refused(Refusal),
-    Rest,
-    Next(Part, usize, Move),
+// The next step: its part, the column that it improves, counted from 0, and its move. The search's `Step` is not told as it is: it has no part.
+#[derive(Clone, Copy, Debug, PartialEq, Eq)]
+pub struct Next {
+    pub part: Part,
+    pub column: usize,
+    pub o: Move,
 }
 
-// What a preview returns: what it tells, and the rounds that its tableau took. A refusal returns 0 rounds.
-#[derive(Clone, Copy)]
+// What a preview returns: the next step, or that no move improves, and the rounds that its tableau took. One type for this and `Assigned` would lose
+// the names `next` and `verdict`, which are what a caller reads.
+#[derive(Clone, Copy, Debug, PartialEq, Eq)]
 pub struct Sight {
-    pub seen: Seen,
+    pub next: Option<Next>,
     pub rounds: u32,
 }
 
-// Tells of a step, and takes it on a copy of the list.
-fn show_turn(turn: Turn, basis: &[i64], view: Basis, after: &mut [i64]) -> Seen
-    requires { Stepping turn view after.old basis.now }
-    ensures { (result ≡ Preview.told turn.part turn.step)
-        × (after.new ≡ Preview.after (vectors view basis.now) after.old turn.step) }
-{
-    let part = turn.part;
-    let step = turn.step;
-    match step {
-        Step::Rest => Seen::Rest,
-        Step::Take(i, o) => {
-            take_move(after, basis, view, o);
-            Seen::Next(part, i, o)
-        }
-    }
-}
-
-// Shows the next step of a list over a basis, and gives its strides.
+// Shows the next step of a list over a basis, takes it on a copy of the list, and gives the basis' strides.
 fn show_on(
-    columns: &[i64],
-    basis: &[i64],
-    view: Basis,
+    columns: &[Column],
+    basis: Basis<'_>,
     standing: &[i64],
     after: &mut [i64],
     strides: &mut [u64],
-) -> Seen
-    requires { Ready view standing.now columns.now basis.now × (length after.old ≡ view.columns)
-        × (length strides.old ≡ view.columns) }
+) -> Option<Next>
+    requires { Ready basis standing.now columns.now × (length after.old ≡ basis.columns) × (length strides.old ≡ basis.columns) }
     ensures { displayed result after.new strides.new
-        ≡ displayed_by (columns_in view.columns columns.now) (vectors view basis.now) standing.now }
+        ≡ displayed_by (columns_in basis.entry.columns columns.now) (vectors basis.entry) standing.now }
 {
-    settling::strides::strides(strides, basis, view);
-    copy(after, standing);
-    let turn = search::turn_at(standing, columns, basis, view);
-    show_turn(turn, basis, view, after)
-}
-
-// Shows the next step of a list over the basis that lies in the tableau, and gives its strides.
-fn show_over(
-    p: Problem,
-    columns: &[i64],
-    tableau: &[i64],
-    standing: &[i64],
-    after: &mut [i64],
-    strides: &mut [u64],
-) -> Seen
-    requires { Placed p tableau.now standing.now columns.now × Showable p after.old strides.old }
-    ensures { displayed result after.new strides.new
-        ≡ displayed_over p (columns_in p.columns columns.now) tableau.now standing.now }
-{
-    let place = basis_place(tableau, p);
-    let at = place.at;
-    let view = place.view;
-    show_on(columns, &tableau[at..], view, standing, after, strides)
+    settling::strides::strides(strides, basis);
+    after.copy_from_slice(standing);
+    let turn = search::turn_at(standing, columns, basis);
+    let step = turn.step?;
+    take_move(after, basis, step.o);
+    Some(Next {
+        part: turn.part,
+        column: step.column,
+        o: step.o,
+    })
 }
 
 // The length that stands for both lists.
 fn list_length(n: usize, standing: usize, after: usize) -> usize
     ensures { result ≡ list_length n standing after }
 {
-    if standing == n {
-        return after;
-    }
-    standing
+    if standing == n { after } else { standing }
 }
 
 // The next step of the standing list. A limit held beside the problem plays no part: the checks are those of Continue with limit 1. The list after
 // is written only once nothing can be refused.
 pub fn preview(
     p: Problem,
-    coefficients: &[i64],
-    rights: &[i64],
-    lower: &[i64],
-    upper: &[i64],
-    low: &[i64],
-    high: &[i64],
-    given: &[i64],
-    ideals: &[i64],
+    lists: Lists<'_>,
     standing: &[i64],
-    tableau: &mut [i64],
-    after: &mut [i64],
-    strides: &mut [u64],
-) -> Sight
-    ensures { shown result.seen result.rounds tableau.new after.new strides.new
-        ≡ Preview.preview
-        (posed_by p coefficients.now rights.now lower.now upper.now
-        low.now high.now given.now ideals.now)
-        standing.now (buffers tableau.old after.old strides.old) }
+    lent: Buffers<'_>,
+) -> Result<Sight, Refusal>
+    ensures { shown_by result (left lent.exit)
+        ≡ Preview.preview (posed p lists.entry) standing.now (held lent.entry) }
 {
-    let one = Problem {
-        columns: p.columns,
-        rows: p.rows,
-        limit: 1,
-    };
-    let lent = Lent {
+    let Buffers {
+        tableau,
+        values,
+        strides,
+    } = lent;
+    let one = Problem { limit: 1, ..p };
+    let room = Lent {
         tableau: tableau.len(),
-        values: list_length(p.columns, standing.len(), after.len()),
+        values: list_length(p.columns, standing.len(), values.len()),
         strides: strides.len(),
     };
-    let mut columns = [0i64; WIDTH * Problem::MAX_COLUMNS];
-    let ground = lay_ground(
-        one,
-        coefficients,
-        rights,
-        lower,
-        upper,
-        low,
-        high,
-        given,
-        ideals,
-        standing,
-        lent,
-        tableau,
-        &mut columns,
-    );
-    let found = ground.check;
-    if let Check::Failed(why) = found {
-        return Sight {
-            seen: Seen::Refused(why),
-            rounds: 0,
-        };
-    }
-    let used = WIDTH * one.columns;
-    let seen = show_over(one, &columns[..used], tableau, standing, after, strides);
-    Sight {
-        seen: seen,
-        rounds: ground.rounds,
-    }
+    let mut columns = [Column::BLANK; Problem::MAX_COLUMNS];
+    let rounds = lay_ground(one, lists, standing, room, tableau, &mut columns)?;
+    let basis = basis_in(tableau, one);
+    let next = show_on(&columns[..p.columns], basis, standing, values, strides);
+    Ok(Sight { next, rounds })
 }

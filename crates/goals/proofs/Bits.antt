@@ -1,21 +1,17 @@
--- Laws of the whole root's bits and of the ideal, as the code's loop and branches meet them.
+-- Laws of the whole root's bits, as the code's loop meets them.
 --   bits_start, bits_step, bits_end    `root_bits` for a loop that counts the bits down from 20
 --   bits_trial, bits_room              what is still to come keeps the trial, and the next k, below 2^20
 --   trial_room                         so that the trial's product is below 2^63
---   raised_taken, raised_left          the two cases of a trial
---   shifted                            1 << b is 2 ^ b
---   from_least, from_up, from_down     the three cases of an ideal
---   from_room                          the product of a whole root with the next number
+--   root_turns                         those of a turn of the loop
 -- Assumes nothing.
 use mathlib.Core.Path.{◌≡◌, refl, ap}
 use mathlib.Core.Bool.{Bool, true, false, cond}
-use Prim.Native.Nat.{ℕ, zero, suc, ◌+◌, ◌*◌, ◌-◌, ◌%◌, ◌^◌, ◌≤◌, ◌<◌}
+use Prim.Native.Nat.{ℕ, zero, suc, ◌+◌, ◌*◌, ◌-◌, ◌^◌, ◌≤◌, ◌<◌}
 use native.Mathlib.Nat.{mul-le-mul, pow-suc}
 use native.Mathlib.Omega.{arith}
-use borrow.Author.Tests.{lt-ltb, le-ltb, le-leb, lt-leb}
 use lib.Dec.{leb}
 use lib.Pow.{pow_mono}
-use Rattle.goals.specs.Ideals.{raised, root_bits, whole_root, ideal_from}
+use Rattle.goals.specs.Ideals.{raised, root_bits, whole_root}
 
 -- ---- the bits
 pub bits_start : (p : ℕ) → root_bits 20 p 0 ≡ whole_root p
@@ -56,29 +52,4 @@ trial_room t h =
     let l : t ≤ 1048575 = omega arith in
     omega (arith, mul-le-mul l l)
 
-pub raised_taken : (p k t : ℕ) → t * t * 1000000 ≤ p → t ≡ raised p k t
-raised_taken p k t h = rw (le-leb (t * t * 1000000) p h)
-
-pub raised_left : (p k t : ℕ) → p < t * t * 1000000 → k ≡ raised p k t
-raised_left p k t h = rw (lt-leb (t * t * 1000000) p h)
-
-pub shifted : (b k : ℕ) → k + 2 ^ b < 2 ^ 20 → (1 * 2 ^ b) % 18446744073709551616 ≡ 2 ^ b
-shifted b k h = omega arith
-
--- ---- the ideal's cases
-pub from_least : (p k : ℕ) → k ≡ 0 → 1 ≡ ideal_from p k
-from_least p zero e = refl
-from_least p (suc k) e = absurd (omega arith)
-
-pub from_up : (p k : ℕ) → (k ≡ 0 → ⊥) → k * (k + 1) * 1000000 < p → k + 1 ≡ ideal_from p k
-from_up p zero f h = absurd (f refl)
-from_up p (suc k) f h = rw (lt-ltb (suc k * (suc k + 1) * 1000000) p h) refl
-
-pub from_down : (p k : ℕ) → (k ≡ 0 → ⊥) → p ≤ k * (k + 1) * 1000000 → k ≡ ideal_from p k
-from_down p zero f h = absurd (f refl)
-from_down p (suc k) f h = rw (le-ltb (suc k * (suc k + 1) * 1000000) p h) refl
-
-pub from_room : (k : ℕ) → k ≤ 1000000 → k * (k + 1) ≤ 1000001000000
-from_room k h =
-    let k1 : k + 1 ≤ 1000001 = omega arith in
-    mul-le-mul h k1
+pub ruleset root_turns = (bits_start, bits_step, bits_end, bits_room)

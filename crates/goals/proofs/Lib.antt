@@ -1,6 +1,5 @@
 -- The root of the laws that the proofs cite.
 pub mod Roots
 pub mod Bits
-pub mod Bounds
 pub mod OneGoal
 pub mod Cases

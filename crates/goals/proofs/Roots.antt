@@ -3,6 +3,8 @@
 --   root_is          and `whole_root` is it
 --   root_small       it is at most 1,000,000
 --   product_small    the product of two goals is at most `max_product`
+--   root_room        the product of a whole root with the next number
+--   ideal_sizes      those of an ideal's products
 --   ideal_small      the ideal of two goals is at most 1,000,001
 -- Assumes nothing.
 use mathlib.Core.Path.{◌≡◌, refl, subst}
@@ -74,3 +76,10 @@ unfolding goal_ideal
 ideal_small low high h g =
     let p = low * high in
     omega (arith, from_small p (whole_root p), root_small p (product_small low high h g))
+
+pub root_room : (k : ℕ) → k ≤ 1000000 → k * (k + 1) ≤ 1000001000000
+root_room k h =
+    let k1 : k + 1 ≤ 1000001 = omega arith in
+    mul-le-mul h k1
+
+pub ruleset ideal_sizes = (root_small, product_small, root_room)

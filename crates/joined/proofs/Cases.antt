@@ -10,8 +10,9 @@ use mathlib.Core.Path.{◌≡◌, refl}
 use mathlib.Core.List.{[], ◌∷◌}
 use Prim.Native.Nat.{ℕ}
 use lib.IntN.{ℤ, pos, negsuc}
+use Rattle.std.specs.Prelude.{Some, None}
 use Rattle.pairing.specs.Parts.{Lists, Part, lists, columns_from}
-use Rattle.joined.specs.Columns.{absorb, places_from, unshared}
+use Rattle.joined.specs.Columns.{absorb, places_from}
 use Rattle.joined.specs.Joined.{spread_from, joined}
 
 abbrev pub o : ℤ
@@ -43,17 +44,17 @@ behind_lists = lists (pos 1 ∷ pos 1 ∷ o ∷ o ∷ pos 3 ∷ o ∷ pos 2 ∷ 
 
 -- column 1 of the first is column 1 of the second, 2 is 2, and the third comes behind: "the larger lower and the smaller upper bound, the lowest
 -- low and the highest high goal"; the ideal is "the first's where both have one", and none where neither has; "the rows of both, the first's first"
-whole : joined first second (1 ∷ 2 ∷ 0 ∷ []) ≡ part 3 2 whole_lists
-unfolding columns_from absorb places_from unshared spread_from joined
+whole : joined first second (Some 0 ∷ Some 1 ∷ None ∷ []) ≡ part 3 2 whole_lists
+unfolding columns_from absorb places_from spread_from joined
 whole = refl
 
 -- crossed, the first's 1 is the second's 2 and its 2 is the second's 1: "where one has no goal, the other's are taken", of the first and of the
 -- second, and so of the ideals
-crossed : joined first second (2 ∷ 1 ∷ 0 ∷ []) ≡ part 3 2 crossed_lists
-unfolding columns_from absorb places_from unshared spread_from joined
+crossed : joined first second (Some 1 ∷ Some 0 ∷ None ∷ []) ≡ part 3 2 crossed_lists
+unfolding columns_from absorb places_from spread_from joined
 crossed = refl
 
 -- the second's columns 1 and 2 come to the places 3 and 4: "the first's columns, then the second's unshared ones in order"
-behind : joined first second (0 ∷ 0 ∷ 1 ∷ []) ≡ part 4 2 behind_lists
-unfolding columns_from absorb places_from unshared spread_from joined
+behind : joined first second (None ∷ None ∷ Some 0 ∷ []) ≡ part 4 2 behind_lists
+unfolding columns_from absorb places_from spread_from joined
 behind = refl

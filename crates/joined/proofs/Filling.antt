@@ -1,7 +1,5 @@
 -- Lists of the joined columns, filled number by number.
---   places_next           the places, one after the other
---   field r c             the number of the column c that the rule r is for
---   shared_field          of a shared column it is the two numbers combined
+--   unshared_alone, unshared_shared   the columns that are not shared, by the first partner
 --   map_set, map_behind   the numbers of columns with one of them changed, and with one more behind
 --   at_place              the number at a column's place, with anything behind the columns' numbers
 --   put_shared, put_behind   the number of a shared column set at its place, and of an unshared one behind
@@ -16,43 +14,27 @@ use native.Mathlib.Omega.{arith}
 use lib.IntN.{ℤ, pos}
 use lib.ListN.{length, get_or, set, length-append, length-set, length-map, get_or-map, get_or-append}
 use lib.Seq.{set_at, set-append_left}
+use Rattle.std.specs.Prelude.{Option, Some, None, is_none}
+use Rattle.std.proofs.lemmas.List.Sums.{sum_by-cons}
 use Rattle.whole.specs.Lists.{entry}
 use Rattle.whole.specs.Tests.{is_zero}
 use Rattle.pairing.specs.Parts.{PartColumn, no_column, at}
 use Rattle.pairing.proofs.Partners.{Ready, ready_set, ready_append}
-use Rattle.joined.specs.Columns.{shared, absorb, places_from, unshared}
-use Rattle.joined.specs.Filling.{place_of, next_of, combined, absorb_into, absorb_ideals}
-use Rattle.joined.specs.declared.columns.Rule.{Rule}
-use Rattle.joined.specs.declared.columns.Rule.TheVariants.{Lower, Upper, Low, High, Given}
+use Rattle.joined.specs.Columns.{set_first, shared, absorb, places_from, unshared}
+use Rattle.joined.specs.Filling.{absorb_into, absorb_ideals}
 
-pub places_next : (k q : ℕ) (R : List ℕ) → places_from k (q ∷ R) ≡ place_of q k ∷ places_from (next_of q k) R
-unfolding places_from
-places_next k zero R = refl
-places_next k (suc i) R = refl
-
-abbrev pub field : Rule → PartColumn → ℤ
-field Lower c = c.lower
-field Upper c = c.upper
-field Low c = c.low
-field High c = c.high
-field Given c = c.given
+abbrev given : PartColumn → ℤ
+given c = c.given
 
 abbrev ideal : PartColumn → ℤ
 ideal c = c.ideal
 
-pub shared_field : (r : Rule) (c d : PartColumn) → field r (shared c d) ≡ combined r (field r c) (field r d)
-shared_field Lower c d = refl
-shared_field Upper c d = refl
-shared_field Low c d = refl
-shared_field High c d = refl
-shared_field Given c d = refl
+-- ---- the columns that are not shared
+pub unshared_alone : (R : List (Option ℕ)) → unshared (None ∷ R) ≡ suc (unshared R)
+unshared_alone R = omega (arith, sum_by-cons (λ (p : Option ℕ). cond (is_none p) 1 0) None R)
 
-field_none : (r : Rule) → field r no_column ≡ pos 0
-field_none Lower = refl
-field_none Upper = refl
-field_none Low = refl
-field_none High = refl
-field_none Given = refl
+pub unshared_shared : (i : ℕ) (R : List (Option ℕ)) → unshared (Some i ∷ R) ≡ unshared R
+unshared_shared i R = omega (arith, sum_by-cons (λ (p : Option ℕ). cond (is_none p) 1 0) (Some i) R)
 
 -- ---- the numbers of columns, by any f
 module _ (f : PartColumn → ℤ) where
@@ -82,56 +64,62 @@ module _ (f : PartColumn → ℤ) where
   put_behind L k c y u e = set_at (map f L) y u (f c) k (length-map L f ∙ sym e) ∙ sym (map_behind L c u)
 
 -- ---- the joined columns
-module _ (r : Rule) where
+-- h is the number of a column that a list is for, and f what a shared column takes of two
+module _ (f : ℤ → ℤ → ℤ) (h : PartColumn → ℤ) (none : h no_column ≡ pos 0) (both : (c d : PartColumn) → h (shared c d) ≡ f (h c) (h d)) where
   step_shared : (L : List PartColumn) (i : ℕ) (c : PartColumn) (u : List ℤ) → i < length L
-      → set (map (field r) L ++ u) i (combined r (entry i (map (field r) L ++ u)) (field r c)) ≡ map (field r) (set L i (shared (at L i) c)) ++ u
-  step_shared L i c u h =
-      put_shared (field r) L i (shared (at L i) c) u _ h
-      (ap (λ (z : ℤ). combined r z (field r c)) (at_place (field r) L i u (field_none r) h) ∙ sym (shared_field r (at L i) c))
+      → set (map h L ++ u) i (f (entry i (map h L ++ u)) (h c)) ≡ map h (set L i (shared (at L i) c)) ++ u
+  step_shared L i c u w =
+      put_shared h L i (shared (at L i) c) u _ w
+      (ap (λ (z : ℤ). f z (h c)) (at_place h L i u none w) ∙ sym (both (at L i) c))
 
-  pub absorb_into_lem : (k : ℕ) (L : List PartColumn) (R : List ℕ) (C : List PartColumn) (u : List ℤ)
+  pub absorb_into_lem : (k : ℕ) (L : List PartColumn) (R : List (Option ℕ)) (C : List PartColumn) (u : List ℤ)
       → k ≡ length L → length R ≡ length C → unshared R ≡ length u → Ready L R C
-      → absorb_into r (map (field r) L ++ u) R (places_from k R) (map (field r) C) ≡ map (field r) (absorb L R C)
-  unfolding absorb_into absorb places_from unshared
-  absorb_into_lem k L [] [] [] e l n h = append-nil (map (field r) L)
-  absorb_into_lem k L [] [] (y ∷ u) e l n h = absurd (omega arith)
-  absorb_into_lem k L [] (c ∷ C) u e l n h = absurd (omega arith)
-  absorb_into_lem k L (q ∷ R) [] u e l n h = absurd (omega arith)
-  absorb_into_lem k L (zero ∷ R) (c ∷ C) [] e l n h = absurd (omega arith)
-  absorb_into_lem k L (zero ∷ R) (c ∷ C) (y ∷ u) e l n h =
-      ap (λ (z : List ℤ). absorb_into r z R (places_from (suc k) R) (map (field r) C)) (put_behind (field r) L k c y u e)
-      ∙ absorb_into_lem (suc k) (L ++ (c ∷ [])) R C u (omega (arith, length-append L (c ∷ []))) (omega arith) (omega arith)
-      (ready_append L R C (c ∷ []) h)
-  absorb_into_lem k L (suc i ∷ R) (c ∷ C) u e l n h =
-      ap (λ (z : List ℤ). absorb_into r z R (places_from k R) (map (field r) C)) (step_shared L i c u h.0)
-      ∙ absorb_into_lem k (set L i (shared (at L i) c)) R C u (e ∙ sym (length-set L i (shared (at L i) c))) (omega arith) n
-      (ready_set L R C i (shared (at L i) c) h.2 h.3)
+      → absorb_into f (map h L ++ u) R (places_from k R) (map h C) ≡ map h (absorb L R C)
+  unfolding absorb_into absorb places_from
+  absorb_into_lem k L [] [] [] e l n w = append-nil (map h L)
+  absorb_into_lem k L [] [] (y ∷ u) e l n w = absurd (omega arith)
+  absorb_into_lem k L [] (c ∷ C) u e l n w = absurd (omega arith)
+  absorb_into_lem k L (q ∷ R) [] u e l n w = absurd (omega arith)
+  absorb_into_lem k L (None ∷ R) (c ∷ C) [] e l n w = absurd (omega (arith, unshared_alone R))
+  absorb_into_lem k L (None ∷ R) (c ∷ C) (y ∷ u) e l n w =
+      ap (λ (z : List ℤ). absorb_into f z R (places_from (suc k) R) (map h C)) (put_behind h L k c y u e)
+      ∙ absorb_into_lem (suc k) (L ++ (c ∷ [])) R C u (omega (arith, length-append L (c ∷ []))) (omega arith) (omega (arith, unshared_alone R))
+      (ready_append L R C (c ∷ []) w)
+  absorb_into_lem k L (Some i ∷ R) (c ∷ C) u e l n w =
+      ap (λ (z : List ℤ). absorb_into f z R (places_from k R) (map h C)) (step_shared L i c u w.0)
+      ∙ absorb_into_lem k (set L i (shared (at L i) c)) R C u (e ∙ sym (length-set L i (shared (at L i) c))) (omega arith)
+      (sym (unshared_shared i R) ∙ n)
+      (ready_set L R C i (shared (at L i) c) w.2 w.3)
 
 step_ideal : (L : List PartColumn) (i : ℕ) (c : PartColumn) (u v : List ℤ) → i < length L
-    → set (map ideal L ++ v) i (cond (is_zero (entry i (map (field Given) L ++ u))) c.ideal (entry i (map ideal L ++ v)))
+    → set (map ideal L ++ v) i (cond (is_zero (entry i (map given L ++ u))) c.ideal (entry i (map ideal L ++ v)))
     ≡ map ideal (set L i (shared (at L i) c)) ++ v
 step_ideal L i c u v h =
     put_shared ideal L i (shared (at L i) c) v _ h
-    (ap₂ (λ (g a : ℤ). cond (is_zero g) c.ideal a) (at_place (field Given) L i u refl h) (at_place ideal L i v refl h))
+    (ap₂ (λ (g a : ℤ). cond (is_zero g) c.ideal a) (at_place given L i u refl h) (at_place ideal L i v refl h))
 
-pub absorb_ideals_into : (k : ℕ) (L : List PartColumn) (R : List ℕ) (C : List PartColumn) (u v : List ℤ)
+pub absorb_ideals_into : (k : ℕ) (L : List PartColumn) (R : List (Option ℕ)) (C : List PartColumn) (u v : List ℤ)
     → k ≡ length L → length R ≡ length C → unshared R ≡ length u → unshared R ≡ length v → Ready L R C
     → absorb_ideals (map (λ c. c.given) L ++ u) (map (λ c. c.ideal) L ++ v) R (places_from k R) (map (λ c. c.given) C) (map (λ c. c.ideal) C)
     ≡ map (λ c. c.ideal) (absorb L R C)
-unfolding absorb_ideals absorb places_from unshared
+unfolding absorb_ideals absorb places_from
 absorb_ideals_into k L [] [] u [] e l n m h = append-nil (map ideal L)
 absorb_ideals_into k L [] [] u (y ∷ v) e l n m h = absurd (omega arith)
 absorb_ideals_into k L [] (c ∷ C) u v e l n m h = absurd (omega arith)
 absorb_ideals_into k L (q ∷ R) [] u v e l n m h = absurd (omega arith)
-absorb_ideals_into k L (zero ∷ R) (c ∷ C) [] v e l n m h = absurd (omega arith)
-absorb_ideals_into k L (zero ∷ R) (c ∷ C) (y ∷ u) [] e l n m h = absurd (omega arith)
-absorb_ideals_into k L (zero ∷ R) (c ∷ C) (y ∷ u) (z ∷ v) e l n m h =
-    ap₂ (λ (g a : List ℤ). absorb_ideals g a R (places_from (suc k) R) (map (field Given) C) (map ideal C)) (put_behind (field Given) L k c y u e)
+absorb_ideals_into k L (None ∷ R) (c ∷ C) [] v e l n m h = absurd (omega (arith, unshared_alone R))
+absorb_ideals_into k L (None ∷ R) (c ∷ C) (y ∷ u) [] e l n m h = absurd (omega (arith, unshared_alone R))
+absorb_ideals_into k L (None ∷ R) (c ∷ C) (y ∷ u) (z ∷ v) e l n m h =
+    ap₂ (λ (g a : List ℤ). absorb_ideals g a R (places_from (suc k) R) (map given C) (map ideal C)) (put_behind given L k c y u e)
     (put_behind ideal L k c z v e)
-    ∙ absorb_ideals_into (suc k) (L ++ (c ∷ [])) R C u v (omega (arith, length-append L (c ∷ []))) (omega arith) (omega arith) (omega arith)
+    ∙ absorb_ideals_into (suc k) (L ++ (c ∷ [])) R C u v (omega (arith, length-append L (c ∷ []))) (omega arith) (omega (arith, unshared_alone R))
+    (omega (arith, unshared_alone R))
     (ready_append L R C (c ∷ []) h)
-absorb_ideals_into k L (suc i ∷ R) (c ∷ C) u v e l n m h =
-    ap₂ (λ (g a : List ℤ). absorb_ideals g a R (places_from k R) (map (field Given) C) (map ideal C)) (step_shared Given L i c u h.0)
+absorb_ideals_into k L (Some i ∷ R) (c ∷ C) u v e l n m h =
+    ap₂ (λ (g a : List ℤ). absorb_ideals g a R (places_from k R) (map given C) (map ideal C))
+    (step_shared set_first given refl (λ c d. refl) L i c u h.0)
     (step_ideal L i c u v h.0)
-    ∙ absorb_ideals_into k (set L i (shared (at L i) c)) R C u v (e ∙ sym (length-set L i (shared (at L i) c))) (omega arith) n m
+    ∙ absorb_ideals_into k (set L i (shared (at L i) c)) R C u v (e ∙ sym (length-set L i (shared (at L i) c))) (omega arith)
+    (sym (unshared_shared i R) ∙ n)
+    (sym (unshared_shared i R) ∙ m)
     (ready_set L R C i (shared (at L i) c) h.2 h.3)

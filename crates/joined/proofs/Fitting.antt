@@ -10,13 +10,14 @@
 use mathlib.Core.Path.{◌≡◌, refl, sym, ◌∙◌, ap, ap₂, subst}
 use mathlib.Core.Bool.{Bool, true, false, not, cond, ◌&&◌, ◌||◌}
 use mathlib.Core.List.{List, [], ◌∷◌, ◌++◌, map}
-use Prim.Native.Nat.{ℕ, zero, suc, ◌+◌, ◌*◌, ◌<◌}
+use Prim.Native.Nat.{ℕ, ◌+◌, ◌*◌, ◌<◌}
 use native.Mathlib.Omega.{arith}
 use borrow.Author.Tests.{eq-eqb, not-true}
 use lib.Dec.{eqb}
 use lib.IntN.{ℤ, pos}
 use lib.ListN.{length, set, length-append, length-map, get_or-map}
 use lib.Signed.{le_z}
+use Rattle.std.specs.Prelude.{Option, Some, None}
 use Rattle.whole.specs.Lists.{entry, zeros}
 use Rattle.whole.specs.Tests.{is_zero, spans}
 use Rattle.whole.proofs.Tests.{both_true, all_true}
@@ -155,13 +156,13 @@ shared_goals c d e f g =
 
 -- ---- all columns
 absorb_all : (Q : PartColumn → Type 0) → ((c d : PartColumn) → Leaves c d → Q c → Q d → Q (shared c d))
-    → (L : List PartColumn) (R : List ℕ) (C : List PartColumn) → Ready L R C → All Q L → All Q C → All Q (absorb L R C)
+    → (L : List PartColumn) (R : List (Option ℕ)) (C : List PartColumn) → Ready L R C → All Q L → All Q C → All Q (absorb L R C)
 unfolding absorb
 absorb_all Q f L [] C r e g = e
 absorb_all Q f L (p ∷ R) [] r e g = e
-absorb_all Q f L (zero ∷ R) (c ∷ C) r e g =
+absorb_all Q f L (None ∷ R) (c ∷ C) r e g =
     absorb_all Q f (L ++ (c ∷ [])) R C (ready_append L R C (c ∷ []) r) (all_end Q L c e g.0) g.1
-absorb_all Q f L (suc i ∷ R) (c ∷ C) r e g =
+absorb_all Q f L (Some i ∷ R) (c ∷ C) r e g =
     absorb_all Q f (set L i (shared (at L i) c)) R C (ready_set L R C i (shared (at L i) c) r.2 r.3)
     (all_set Q L i (shared (at L i) c) e (f (at L i) c r.1 (all_at Q L i no_column r.0 e) g.0)) g.1
 
@@ -205,7 +206,7 @@ module _ (C : List PartColumn) where
       (all_at GoalsFit C j no_column (omega (arith, h, long)) e))
 
 -- ---- the joined problem
-module _ (P Q : Part) (R : List ℕ) (p : PartPasses P) (q : PartPasses Q) (r : Partners P Q R) where
+module _ (P Q : Part) (R : List (Option ℕ)) (p : PartPasses P) (q : PartPasses Q) (r : Partners P Q R) where
   row_facts : (X : Part) → PartPasses X → (all_span max_coefficient X.lists.coefficients ≡ true) × (all_span max_right X.lists.rights ≡ true)
   row_facts X f = both_true (all_span max_coefficient X.lists.coefficients) (all_span max_right X.lists.rights) f.rows
 

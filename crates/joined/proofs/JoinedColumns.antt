@@ -6,7 +6,7 @@
 --   inside_part         a list lies in a part's bounds
 --   inside_take         the bounds of n columns look at n numbers
 -- Assumes nothing.
-use mathlib.Core.Path.{◌≡◌, refl, sym, ◌∙◌, ap, subst}
+use mathlib.Core.Path.{◌≡◌, refl, sym, ◌∙◌, subst}
 use mathlib.Core.Logic.{◌↔◌, ⊎_elim}
 use mathlib.Core.Bool.{Bool, true, false}
 use mathlib.Core.List.{List, [], ◌∷◌, ◌++◌}
@@ -18,6 +18,7 @@ use lib.Dec.{eqb}
 use lib.IntN.{ℤ, pos}
 use lib.ListN.{length, set, take, length-append, length-set, get_or-append}
 use lib.Seq.{get_or-set_same, get_or-set_other, get_or-append_seam, get_or-take}
+use Rattle.std.specs.Prelude.{Option, Some, None}
 use Rattle.whole.specs.Lists.{entry}
 use Rattle.whole.specs.Tests.{in_range}
 use Rattle.whole.proofs.Counted.{every_at, every_all}
@@ -25,6 +26,7 @@ use Rattle.pairing.specs.Parts.{Part, PartColumn, no_column, columns, at, in_bou
 use Rattle.pairing.proofs.Orders.{in_both}
 use Rattle.pairing.proofs.Partners.{length_columns, at_columns, Ready, ready_set, ready_append}
 use Rattle.joined.specs.Columns.{shared, absorb, places_from, unshared}
+use Rattle.joined.proofs.Filling.{unshared_alone, unshared_shared}
 use Rattle.joined.specs.Joined.{second_share}
 
 abbrev In : PartColumn → ℤ → Type 0
@@ -91,29 +93,31 @@ regroup f g k = (
   (λ h. f.1 (g.1 (h.0, (k.0 h.1).0), (k.0 h.1).1)),
 )
 
-pub absorb_inside : (x : List ℤ) (k : ℕ) (L : List PartColumn) (R : List ℕ) (C : List PartColumn) → k ≡ length L → length R ≡ length C → Ready L R C
+pub absorb_inside : (x : List ℤ) (k : ℕ) (L : List PartColumn) (R : List (Option ℕ)) (C : List PartColumn)
+    → k ≡ length L → length R ≡ length C → Ready L R C
     → Inside (absorb L R C) x ↔ (Inside L x × Inside C (second_share (places_from k R) x))
 unfolding absorb places_from
 absorb_inside x k L [] [] e l r = ((λ h. (h, record { all = λ j n. absurd (omega arith) })), (λ h. h.0))
 absorb_inside x k L [] (c ∷ C) e l r = absurd (omega arith)
 absorb_inside x k L (p ∷ R) [] e l r = absurd (omega arith)
-absorb_inside x k L (zero ∷ R) (c ∷ C) e l r =
+absorb_inside x k L (None ∷ R) (c ∷ C) e l r =
     regroup (absorb_inside x (suc k) (L ++ (c ∷ [])) R C (omega (arith, length-append L (c ∷ []))) (omega arith) (ready_append L R C (c ∷ []) r))
     (subst (λ (n : ℕ). Inside (L ++ (c ∷ [])) x ↔ (Inside L x × In c (entry n x))) (sym e) (inside_append L c x))
     (inside_cons c C (entry k x) (second_share (places_from (suc k) R) x))
-absorb_inside x k L (suc i ∷ R) (c ∷ C) e l r =
+absorb_inside x k L (Some i ∷ R) (c ∷ C) e l r =
     regroup (absorb_inside x k (set L i (shared (at L i) c)) R C (e ∙ sym (length-set L i (shared (at L i) c))) (omega arith)
     (ready_set L R C i (shared (at L i) c) r.2 r.3))
     (inside_set L i c x r.0)
     (inside_cons c C (entry i x) (second_share (places_from k R) x))
 
-pub length_absorb : (L : List PartColumn) (R : List ℕ) (C : List PartColumn) → length R ≡ length C → length (absorb L R C) ≡ length L + unshared R
-unfolding absorb unshared
+pub length_absorb : (L : List PartColumn) (R : List (Option ℕ)) (C : List PartColumn) → length R ≡ length C
+    → length (absorb L R C) ≡ length L + unshared R
+unfolding absorb
 length_absorb L [] C l = omega arith
 length_absorb L (p ∷ R) [] l = absurd (omega arith)
-length_absorb L (zero ∷ R) (c ∷ C) l = omega (arith, length_absorb (L ++ (c ∷ [])) R C (omega arith), length-append L (c ∷ []))
-length_absorb L (suc i ∷ R) (c ∷ C) l =
-    length_absorb (set L i (shared (at L i) c)) R C (omega arith) ∙ ap (λ (n : ℕ). n + unshared R) (length-set L i (shared (at L i) c))
+length_absorb L (None ∷ R) (c ∷ C) l = omega (arith, length_absorb (L ++ (c ∷ [])) R C (omega arith), length-append L (c ∷ []), unshared_alone R)
+length_absorb L (Some i ∷ R) (c ∷ C) l =
+    omega (arith, length_absorb (set L i (shared (at L i) c)) R C (omega arith), length-set L i (shared (at L i) c), unshared_shared i R)
 
 -- ---- a part's bounds
 pub inside_part : (P : Part) (x : List ℤ) → (in_bounds P x ≡ true) ↔ Inside (columns P) x

@@ -11,7 +11,7 @@ use Prim.Native.Nat.{◌+◌, ◌*◌}
 use borrow.Author.Tests.{eq-eqb}
 use Rattle.problem.specs.Checks.{lent_fit}
 use Rattle.problem.specs.declared.Problem.{Problem}
-use Rattle.problem.specs.declared.Check.TheVariants.{Passed}
+use Rattle.std.specs.Prelude.{Ok}
 use Rattle.problem.proofs.CheckLaws.{Passes, Fits, passes, fits}
 use Rattle.pairing.specs.Parts.{Part, sized, as_posed, room_for, part_cause}
 
@@ -21,7 +21,7 @@ PartPasses P = Passes (as_posed P 0) (room_for (sized P.columns P.rows 0))
 abbrev pub PartFits : Part → Type 0
 PartFits P = Fits (as_posed P 0) (room_for (sized P.columns P.rows 0))
 
-pub part_passes : (P : Part) → part_cause P ≡ Passed → PartPasses P
+pub part_passes : (P : Part) → part_cause P ≡ Ok tt → PartPasses P
 unfolding part_cause
 part_passes P e = passes (as_posed P 0) (room_for (sized P.columns P.rows 0)) e
 

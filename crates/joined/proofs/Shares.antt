@@ -11,6 +11,7 @@ use native.Mathlib.Omega.{arith}
 use lib.IntN.{ℤ}
 use lib.ListN.{length, length-append, length-map, get_or-map}
 use lib.Seq.{length-take-le, ext_get_or}
+use Rattle.std.specs.Prelude.{Option}
 use Rattle.lattice.specs.Rows.{chop, flat}
 use Rattle.lattice.specs.Span.{All, Len}
 use Rattle.lattice.specs.Sums.{sums, Satisfies}
@@ -25,7 +26,7 @@ use Rattle.joined.proofs.Passing.{PartPasses, part_fits}
 use Rattle.joined.proofs.JoinedColumns.{Inside, absorb_inside, length_absorb, inside_part, inside_take}
 use Rattle.joined.proofs.SpreadRows.{joined_free, places_below, sums_padded, sums_spread, padded_wide, spread_wide}
 
-module _ (P Q : Part) (R : List ℕ) (p : PartPasses P) (q : PartPasses Q) (r : Partners P Q R) where
+module _ (P Q : Part) (R : List (Option ℕ)) (p : PartPasses P) (q : PartPasses Q) (r : Partners P Q R) where
   -- ---- the joined problem's rows and columns, read back from its lists
   firsts : List (List ℤ)
   firsts = map (padded (unshared R)) (matrix P)

@@ -8,25 +8,31 @@
 --   padded_wide, spread_wide   the rows' lengths
 -- Assumes nothing.
 use mathlib.Core.Path.{◌≡◌, refl, sym, ◌∙◌, ap, ap₂, subst}
-use mathlib.Core.Bool.{false}
+use mathlib.Core.Bool.{Bool, false}
 use mathlib.Core.List.{List, [], ◌∷◌, map}
 use Prim.Native.Nat.{ℕ, zero, suc, ◌+◌, ◌<◌, ◌≤◌}
 use native.Mathlib.Omega.{arith}
 use lib.IntN.{ℤ, pos, ◌+ℤ◌, ◌*ℤ◌}
 use lib.ListN.{length, get_or, set, take, length-append, length-set, length-replicate}
 use lib.Seq.{get_or-set_other}
+use borrow.Author.Tests.{eqb-false, ne_eqb}
+use lib.Dec.{eqb}
+use Rattle.std.specs.List.{list_any}
+use Rattle.std.specs.Prelude.{nat_eq, Option, Some, None}
 use Rattle.whole.specs.Lists.{entry, zeros}
 use Rattle.whole.proofs.Integers.{rep, diff_rel}
 use Rattle.whole.proofs.Lists.{entry_zeros}
+use Rattle.whole.proofs.Tests.{neither}
 use Rattle.lattice.specs.Span.{All, Len}
 use Rattle.lattice.specs.Sums.{dot, sums}
 use Rattle.lattice.proofs.SumLaws.{dot_row_zeros, dot_row_set}
 use Rattle.pairing.specs.Parts.{Part, PartColumn, columns}
 use Rattle.pairing.specs.Pairs.{uses}
-use Rattle.pairing.proofs.Partners.{length_columns, Ready, not_first, not_either, Partners}
+use Rattle.pairing.proofs.Partners.{length_columns, Ready, not_first, Partners}
 use Rattle.joined.specs.Columns.{places_from, places, unshared, joined_count}
 use Rattle.joined.specs.Joined.{second_share, padded, spread_from, spread}
 use Rattle.joined.specs.Filling.{AllBelow}
+use Rattle.joined.proofs.Filling.{unshared_alone, unshared_shared}
 
 -- ---- a row of the first
 dot_padded : (k : ℕ) (a x : List ℤ) → dot (padded k a) x ≡ dot a (take (length a) x)
@@ -36,14 +42,24 @@ dot_padded k (c ∷ a) [] = refl
 dot_padded k (c ∷ a) (v ∷ x) = ap (λ (s : ℤ). s +ℤ v *ℤ c) (dot_padded k a x)
 
 -- ---- a row of the second
+-- a place among others
+abbrev pub among : List ℕ → ℕ → Bool
+among S i = list_any (λ k. nat_eq k i) S
+
+not_first_place : (k : ℕ) (S : List ℕ) (i : ℕ) → among (k ∷ S) i ≡ false → (k ≡ i → ⊥) × (among S i ≡ false)
+not_first_place k S i u = let s : (eqb k i ≡ false) × (among S i ≡ false) = neither (eqb k i) (among S i) u in (eqb-false k i s.0, s.1)
+
+not_either_place : (k : ℕ) (S : List ℕ) (i : ℕ) → (k ≡ i → ⊥) → among S i ≡ false → among (k ∷ S) i ≡ false
+not_either_place k S i n u = rw (ne_eqb k i n, u)
+
 abbrev pub Free : List ℤ → List ℕ → Type 0
 Free r [] = Unit {0}
-Free r (i ∷ S) = (i < length r) × (entry i r ≡ pos 0) × (uses S i ≡ false) × Free r S
+Free r (i ∷ S) = (i < length r) × (entry i r ≡ pos 0) × (among S i ≡ false) × Free r S
 
-free_set : (r : List ℤ) (S : List ℕ) (i : ℕ) (c : ℤ) → uses S i ≡ false → Free r S → Free (set r i c) S
+free_set : (r : List ℤ) (S : List ℕ) (i : ℕ) (c : ℤ) → among S i ≡ false → Free r S → Free (set r i c) S
 free_set r [] i c u f = tt
 free_set r (k ∷ S) i c u f =
-    let n : (k ≡ i → ⊥) × (uses S i ≡ false) = not_first k S i u in (
+    let n : (k ≡ i → ⊥) × (among S i ≡ false) = not_first_place k S i u in (
       omega (arith, f.0, length-set r i c),
       get_or-set_other r i k c (pos 0) n.0 ∙ f.1,
       f.2,
@@ -72,49 +88,49 @@ length_spread r (i ∷ S) (c ∷ a) = length_spread (set r i c) S a ∙ length-s
 
 -- ---- the places
 -- a place behind L and before the next unshared one is not taken
-places_behind : (L C : List PartColumn) (R : List ℕ) (i k : ℕ) → length R ≡ length C → length L ≤ i → i < k → Ready L R C
-    → uses (places_from k R) i ≡ false
-unfolding places_from uses
+places_behind : (L C : List PartColumn) (R : List (Option ℕ)) (i k : ℕ) → length R ≡ length C → length L ≤ i → i < k → Ready L R C
+    → among (places_from k R) i ≡ false
+unfolding places_from
 places_behind L C [] i k l h e r = refl
 places_behind L [] (p ∷ R) i k l h e r = absurd (omega arith)
-places_behind L (c ∷ C) (zero ∷ R) i k l h e r =
-    not_either k (places_from (suc k) R) i (λ q. omega arith) (places_behind L C R i (suc k) (omega arith) h (omega arith) r)
-places_behind L (c ∷ C) (suc q ∷ R) i k l h e r =
-    not_either q (places_from k R) i (λ z. omega (arith, r.0)) (places_behind L C R i k (omega arith) h e r.3)
+places_behind L (c ∷ C) (None ∷ R) i k l h e r =
+    not_either_place k (places_from (suc k) R) i (λ q. omega arith) (places_behind L C R i (suc k) (omega arith) h (omega arith) r)
+places_behind L (c ∷ C) (Some q ∷ R) i k l h e r =
+    not_either_place q (places_from k R) i (λ z. omega (arith, r.0)) (places_behind L C R i k (omega arith) h e r.3)
 
 -- nor is the place of a column that is no partner
-places_other : (R : List ℕ) (i k : ℕ) → i < k → uses R (suc i) ≡ false → uses (places_from k R) i ≡ false
-unfolding places_from uses
+places_other : (R : List (Option ℕ)) (i k : ℕ) → i < k → uses R i ≡ false → among (places_from k R) i ≡ false
+unfolding places_from
 places_other [] i k h u = refl
-places_other (zero ∷ R) i k h u =
-    not_either k (places_from (suc k) R) i (λ q. omega arith) (places_other R i (suc k) (omega arith) (not_first zero R (suc i) u).1)
-places_other (suc q ∷ R) i k h u =
-    let n : (suc q ≡ suc i → ⊥) × (uses R (suc i) ≡ false) = not_first (suc q) R (suc i) u in
-    not_either q (places_from k R) i (λ z. n.0 (ap suc z)) (places_other R i k h n.1)
+places_other (None ∷ R) i k h u =
+    not_either_place k (places_from (suc k) R) i (λ q. omega arith) (places_other R i (suc k) (omega arith) u)
+places_other (Some q ∷ R) i k h u =
+    let n : (q ≡ i → ⊥) × (uses R i ≡ false) = not_first q R i u in
+    not_either_place q (places_from k R) i n.0 (places_other R i k h n.1)
 
-pub places_free : (n k : ℕ) (L C : List PartColumn) (R : List ℕ) → length R ≡ length C → length L ≤ k → k + unshared R ≤ n → Ready L R C
+pub places_free : (n k : ℕ) (L C : List PartColumn) (R : List (Option ℕ)) → length R ≡ length C → length L ≤ k → k + unshared R ≤ n → Ready L R C
     → Free (zeros n) (places_from k R)
-unfolding places_from unshared
+unfolding places_from
 places_free n k L C [] l h e r = tt
 places_free n k L [] (p ∷ R) l h e r = absurd (omega arith)
-places_free n k L (c ∷ C) (zero ∷ R) l h e r = (
-  omega (arith, length-replicate n (pos 0)),
+places_free n k L (c ∷ C) (None ∷ R) l h e r = (
+  omega (arith, length-replicate n (pos 0), unshared_alone R),
   entry_zeros k n,
   places_behind L C R k (suc k) (omega arith) h (omega arith) r,
-  places_free n (suc k) L C R (omega arith) (omega arith) (omega arith) r,
+  places_free n (suc k) L C R (omega arith) (omega arith) (omega (arith, unshared_alone R)) r,
 )
-places_free n k L (c ∷ C) (suc i ∷ R) l h e r = (
-  omega (arith, length-replicate n (pos 0), r.0),
+places_free n k L (c ∷ C) (Some i ∷ R) l h e r = (
+  omega (arith, length-replicate n (pos 0), r.0, unshared_shared i R),
   entry_zeros i n,
   places_other R i k (omega (arith, r.0)) r.2,
-  places_free n k L C R (omega arith) h e r.3,
+  places_free n k L C R (omega arith) h (omega (arith, unshared_shared i R)) r.3,
 )
 
-pub length_places : (k : ℕ) (R : List ℕ) → length (places_from k R) ≡ length R
+pub length_places : (k : ℕ) (R : List (Option ℕ)) → length (places_from k R) ≡ length R
 unfolding places_from
 length_places k [] = refl
-length_places k (zero ∷ R) = ap suc (length_places (suc k) R)
-length_places k (suc i ∷ R) = ap suc (length_places k R)
+length_places k (None ∷ R) = ap suc (length_places (suc k) R)
+length_places k (Some i ∷ R) = ap suc (length_places k R)
 
 place_below : (r : List ℤ) (S : List ℕ) (j : ℕ) → Free r S → j < length S → get_or S j 0 < length r
 place_below r [] j f h = absurd (omega arith)
@@ -125,7 +141,7 @@ pub free_below : (r : List ℤ) (S : List ℕ) → Free r S → AllBelow (length
 free_below r S f = record { below = λ j h. place_below r S j f h }
 
 -- ---- those of the second part
-module _ (P Q : Part) (R : List ℕ) (r : Partners P Q R) where
+module _ (P Q : Part) (R : List (Option ℕ)) (r : Partners P Q R) where
   pub joined_free : Free (zeros (joined_count P R)) (places P R)
   joined_free =
       places_free (joined_count P R) P.columns (columns P) (columns Q) R (r.long ∙ sym (length_columns Q)) (omega (arith, length_columns P))

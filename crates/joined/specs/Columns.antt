@@ -1,7 +1,8 @@
 -- Document 02, (vi): the columns of the joined problem, and where those of the second part come.
 --   goal_by a b both       of two goals, where 0 is none: the other one, or `both` where both are set; goal_of f a b, where that is made by f
+--   set_first a b          of two marks, where 0 is none: the first one that is set
 --   shared c d             the column that c of the first and d of the second become
---   absorb L R C           the columns L joined with the second's columns C, whose partners are R (a number for each, as `pair_up` leaves them): a
+--   absorb L R C           the columns L joined with the second's columns C, whose partners are R, as `pair_up` leaves them: a
 --                          shared one is put together with its partner, an unshared one comes behind
 --   places_from k R        the place of each of these columns among the joined ones, counted from 0, where the next unshared one comes to place k
 --   places P R             those of all columns of the second
@@ -9,7 +10,7 @@
 --   joined_count P R       how many columns there are then
 --   joined_columns P Q R   all of them
 -- Assumes nothing.
-use Rattle.std.specs.Prelude.{cond, List, [], ◌∷◌, ◌++◌, ℕ, zero, suc, ◌+◌, ℤ, set}
+use Rattle.std.specs.Prelude.{cond, List, [], ◌∷◌, ◌++◌, ℕ, suc, ◌+◌, ℤ, set, count_by, Option, Some, None, is_none}
 use Rattle.whole.specs.Tests.{is_zero}
 use Rattle.pairing.specs.Parts.{Part, PartColumn, columns, at}
 use Rattle.pairing.specs.Pairs.{larger, smaller}
@@ -21,6 +22,9 @@ goal_by a b both = cond (is_zero a) b (cond (is_zero b) a both)
 abbrev pub goal_of : (ℤ → ℤ → ℤ) → ℤ → ℤ → ℤ
 goal_of f a b = goal_by a b (f a b)
 
+abbrev pub set_first : ℤ → ℤ → ℤ
+set_first a b = cond (is_zero a) b a
+
 -- "A shared column takes the larger lower and the smaller upper bound, the lowest low and the highest high goal; [..] A set ideal comes along with
 -- its column, the first's where both have one." Where the first's mark is 0, the second's mark and number are taken as they are.
 abbrev pub shared : PartColumn → PartColumn → PartColumn
@@ -29,32 +33,30 @@ shared c d = record {
   upper = smaller c.upper d.upper;
   low = goal_of smaller c.low d.low;
   high = goal_of larger c.high d.high;
-  given = cond (is_zero c.given) d.given c.given;
+  given = set_first c.given d.given;
   ideal = cond (is_zero c.given) d.ideal c.ideal;
 }
 
 -- "the first's columns, then the second's unshared ones in order"
-unfoldable pub absorb : List PartColumn → List ℕ → List PartColumn → List PartColumn
+unfoldable pub absorb : List PartColumn → List (Option ℕ) → List PartColumn → List PartColumn
 absorb L [] C = L
 absorb L (p ∷ R) [] = L
-absorb L (zero ∷ R) (c ∷ C) = absorb (L ++ (c ∷ [])) R C
-absorb L (suc i ∷ R) (c ∷ C) = absorb (set L i (shared (at L i) c)) R C
+absorb L (None ∷ R) (c ∷ C) = absorb (L ++ (c ∷ [])) R C
+absorb L (Some i ∷ R) (c ∷ C) = absorb (set L i (shared (at L i) c)) R C
 
-unfoldable pub places_from : ℕ → List ℕ → List ℕ
+unfoldable pub places_from : ℕ → List (Option ℕ) → List ℕ
 places_from k [] = []
-places_from k (zero ∷ R) = k ∷ places_from (suc k) R
-places_from k (suc i ∷ R) = i ∷ places_from k R
+places_from k (None ∷ R) = k ∷ places_from (suc k) R
+places_from k (Some i ∷ R) = i ∷ places_from k R
 
-abbrev pub places : Part → List ℕ → List ℕ
+abbrev pub places : Part → List (Option ℕ) → List ℕ
 places P R = places_from P.columns R
 
-unfoldable pub unshared : List ℕ → ℕ
-unshared [] = 0
-unshared (zero ∷ R) = suc (unshared R)
-unshared (suc i ∷ R) = unshared R
+abbrev pub unshared : List (Option ℕ) → ℕ
+unshared R = count_by is_none R
 
-abbrev pub joined_count : Part → List ℕ → ℕ
+abbrev pub joined_count : Part → List (Option ℕ) → ℕ
 joined_count P R = P.columns + unshared R
 
-abbrev pub joined_columns : Part → Part → List ℕ → List PartColumn
+abbrev pub joined_columns : Part → Part → List (Option ℕ) → List PartColumn
 joined_columns P Q R = absorb (columns P) R (columns Q)

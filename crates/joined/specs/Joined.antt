@@ -7,7 +7,7 @@
 --   joined P Q R          the joined problem, with the partners R
 --   first_share, second_share   "its two shares": the first n1 numbers; the numbers at the places of the second's columns
 -- Assumes nothing.
-use Rattle.std.specs.Prelude.{List, [], ◌∷◌, ◌++◌, map, ℕ, ◌+◌, ℤ, set, take}
+use Rattle.std.specs.Prelude.{List, [], ◌∷◌, ◌++◌, map, ℕ, ◌+◌, ℤ, set, take, Option}
 use Rattle.whole.specs.Lists.{entry, zeros}
 use Rattle.lattice.specs.Rows.{flat}
 use Rattle.pairing.specs.Parts.{Lists, Part, PartColumn, matrix}
@@ -26,7 +26,7 @@ abbrev pub spread : ℕ → List ℕ → List ℤ → List ℤ
 spread n S a = spread_from (zeros n) S a
 
 -- "the rows of both, the first's first"
-abbrev pub joined_matrix : Part → Part → List ℕ → List (List ℤ)
+abbrev pub joined_matrix : Part → Part → List (Option ℕ) → List (List ℤ)
 joined_matrix P Q R = map (padded (unshared R)) (matrix P) ++ map (spread (joined_count P R) (places P R)) (matrix Q)
 
 -- ---- the problem
@@ -42,7 +42,7 @@ lists_of A b C = record {
   ideals = map (λ c. c.ideal) C;
 }
 
-unfoldable pub joined : Part → Part → List ℕ → Part
+unfoldable pub joined : Part → Part → List (Option ℕ) → Part
 joined P Q R = record {
   columns = joined_count P R;
   rows = P.rows + Q.rows;

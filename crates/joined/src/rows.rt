@@ -1,12 +1,12 @@
 // The rows of the joined problem: the first's, then the second's.
-ghost use Rattle.std.specs.Prelude.{◌≡◌, ◌++◌, map, ◌≤◌, ◌+◌, ◌*◌, ◌-◌, length};
+ghost use Rattle.std.specs.Prelude.{◌≡◌, ◌++◌, map, ◌≤◌, ◌+◌, ◌*◌, ◌-◌, List, ℤ, length};
 ghost use Rattle.lattice.specs.Rows.{flat, chop};
 ghost use Rattle.joined.specs.Joined.{padded, spread_from};
 ghost use Rattle.joined.specs.Joined as Joined;
-ghost use Rattle.joined.specs.Filling.{AllBelow};
+ghost use Rattle.joined.specs.Filling.{TakesRows, LaysRows};
 
-use pairing::Sizes;
-use whole::buffers::{copy, wipe};
+use crate::columns::Seats;
+use pairing::Part;
 
 // A row of the first part over the joined columns.
 fn pad_row(out: &mut [i64], row: &[i64])
@@ -14,92 +14,66 @@ fn pad_row(out: &mut [i64], row: &[i64])
     ensures { out.new ≡ padded (length out.old - length row.now) row.now }
 {
     let n = row.len();
-    copy(&mut out[..n], row);
-    wipe(&mut out[n..]);
+    out[..n].copy_from_slice(row);
+    out[n..].fill(0);
 }
 
 // The coefficients of a row put in at their columns' places.
-fn spread_into(out: &mut [i64], row: &[i64], places: &[usize])
-    requires row_len { length row.now ≡ length places.now }
-    requires all_below { AllBelow (length out.old) places.now }
-    ensures { out.new ≡ spread_from out.old places.now row.now }
+fn spread_into(out: &mut [i64], row: &[i64], seats: Seats<'_>)
+    requires row_len { length row.now ≡ length seats.places.now }
+    requires columns_in_bounds { seats.columns ≤ length out.old }
+    ensures { out.new ≡ spread_from out.old seats.entry.places.now row.now }
 {
-    let mut j = 0;
-    while j < row.len() {
-        let p = places[j];
-        let x = row[j];
-        out[p] = x;
-        j += 1;
+    for (p, x) in seats.places.iter().zip(row) {
+        out[*p] = *x;
     }
 }
 
 // A row of the second part over the joined columns.
-fn spread_row(out: &mut [i64], row: &[i64], places: &[usize])
-    requires row_len { length row.now ≡ length places.now }
-    requires all_below { AllBelow (length out.old) places.now }
-    ensures { out.new ≡ Joined.spread (length out.old) places.now row.now }
+fn spread_row(out: &mut [i64], row: &[i64], seats: Seats<'_>)
+    requires row_len { length row.now ≡ length seats.places.now }
+    requires columns_in_bounds { seats.columns ≤ length out.old }
+    ensures { out.new ≡ Joined.spread (length out.old) seats.entry.places.now row.now }
 {
-    wipe(out);
-    spread_into(out, row, places);
+    out.fill(0);
+    spread_into(out, row, seats);
 }
 
-// The first's rows, n to a row of the joined problem.
-fn pad_rows(out: &mut [i64], n: usize, coefficients: &[i64], s: Sizes)
-    requires { (length coefficients.now ≡ s.rows * s.columns) × (length out.old ≡ s.rows * n) × (s.columns ≤ n) }
-    ensures { out.new ≡ flat (map (padded (n - s.columns)) (chop s.rows s.columns coefficients.now)) }
+// The rows of a part, each laid into n numbers by `lay`. A part's columns, and n with them, may be none here, which `chunks_exact` does not take.
+fn lay_rows<F: Fn(&mut [i64], &[i64])>(out: &mut [i64], n: usize, part: Part<'_>, lay: F)
+    requires lengths { (length part.lists.coefficients.now ≡ part.sizes.rows * part.sizes.columns) × (length out.old ≡ part.sizes.rows * n) }
+    requires callable { TakesRows n part.sizes.columns (F.pre lay) }
+    ensures { (f : List ℤ → List ℤ) → LaysRows n part.entry.sizes.columns (F.post lay) f
+        → out.new ≡ flat (map f (chop part.entry.sizes.rows part.entry.sizes.columns part.entry.lists.coefficients.now)) }
 {
-    let m = s.rows;
-    let w = s.columns;
-    let mut i = 0;
-    while i < m {
+    let coefficients = part.lists.coefficients;
+    let w = part.sizes.columns;
+    for i in 0..part.sizes.rows {
         let a = i * w;
-        let e = a + w;
         let at = i * n;
-        let next = at + n;
-        pad_row(&mut out[at..next], &coefficients[a..e]);
-        i += 1;
+        lay(&mut out[at..at + n], &coefficients[a..a + w]);
     }
 }
 
-// The second's rows, n to a row of the joined problem.
-fn spread_rows(out: &mut [i64], n: usize, coefficients: &[i64], s: Sizes, places: &[usize])
-    requires coefficients_len { (length coefficients.now ≡ s.rows * s.columns) × (length out.old ≡ s.rows * n) × (length places.now ≡ s.columns) }
-    requires all_below { AllBelow n places.now }
-    ensures { out.new ≡ flat (map (Joined.spread n places.now)
-        (chop s.rows s.columns coefficients.now)) }
+// All rows over the joined columns: the first's, then the second's, whose columns come to the places.
+pub fn join_rows(out: &mut [i64], first: Part<'_>, second: Part<'_>, seats: Seats<'_>)
+    requires coefficients_len { (length first.lists.coefficients.now ≡ first.sizes.rows * first.sizes.columns)
+        × (length second.lists.coefficients.now ≡ second.sizes.rows * second.sizes.columns) × (length seats.places.now ≡ second.sizes.columns) }
+    requires out_len { (length out.old ≡ (first.sizes.rows + second.sizes.rows) * seats.columns) × (first.sizes.columns ≤ seats.columns) }
+    ensures { out.new ≡ flat (map (padded (seats.entry.columns - first.entry.sizes.columns))
+        (chop first.entry.sizes.rows first.entry.sizes.columns first.entry.lists.coefficients.now)
+        ++ map (Joined.spread seats.entry.columns seats.entry.places.now)
+        (chop second.entry.sizes.rows second.entry.sizes.columns second.entry.lists.coefficients.now)) }
 {
-    let m = s.rows;
-    let w = s.columns;
-    let mut i = 0;
-    while i < m {
-        let a = i * w;
-        let e = a + w;
-        let at = i * n;
-        let next = at + n;
-        spread_row(&mut out[at..next], &coefficients[a..e], places);
-        i += 1;
-    }
-}
-
-// All rows, n to a row: the first's, then the second's, whose columns come to the places.
-pub fn join_rows(
-    out: &mut [i64],
-    n: usize,
-    coefficients: &[i64],
-    first: Sizes,
-    coefficients2: &[i64],
-    second: Sizes,
-    places: &[usize],
-)
-    requires coefficients_len { (length coefficients.now ≡ first.rows * first.columns) × (length coefficients2.now ≡ second.rows * second.columns)
-        × (length places.now ≡ second.columns) }
-    requires out_len { (length out.old ≡ (first.rows + second.rows) * n) × (first.columns ≤ n) × AllBelow n places.now }
-    ensures { out.new ≡ flat (map (padded (n - first.columns)) (chop first.rows first.columns coefficients.now)
-        ++ map (Joined.spread n places.now) (chop second.rows second.columns coefficients2.now)) }
-{
-    let at = first.rows * n;
-    pad_rows(&mut out[..at], n, coefficients, first);
-    spread_rows(&mut out[at..], n, coefficients2, second, places);
+    let n = seats.columns;
+    let at = first.sizes.rows * n;
+    lay_rows(&mut out[..at], n, first, pad_row);
+    lay_rows(
+        &mut out[at..],
+        n,
+        second,
+        |out, row| spread_row(out, row, seats),
+    );
 }
 
 // The right sides: the first's, then the second's.
@@ -108,6 +82,6 @@ pub fn join_rights(out: &mut [i64], rights: &[i64], rights2: &[i64])
     ensures { out.new ≡ rights.now ++ rights2.now }
 {
     let m = rights.len();
-    copy(&mut out[..m], rights);
-    copy(&mut out[m..], rights2);
+    out[..m].copy_from_slice(rights);
+    out[m..].copy_from_slice(rights2);
 }

@@ -1,4 +1,4 @@
--- Cases of a join that the checker computes. Columns of pairs are counted from 1.
+-- Cases of a join that the checker computes. Columns of pairs are counted from 1, and partners from 0.
 --   first, second, part, o and the lists of three joins are those of joined's cases
 --   lent a b n     lists of a coefficients, b right sides, and n numbers of the columns each; nothing, none of any
 --   column_lists .. lists for two rows and three columns, but of these numbers of the columns
@@ -17,15 +17,14 @@ use Rattle.whole.specs.Lists.{zeros}
 use Rattle.whole.specs.Tests.{every}
 use Rattle.problem.specs.Checks.{first_cause}
 use Rattle.problem.specs.declared.Refusal.TheVariants.{Size, Length, Coefficient, Bound, Goal, Pair, PairBounds}
-use Rattle.problem.specs.declared.Check.{Check}
-use Rattle.problem.specs.declared.Check.TheVariants.{Passed, Failed}
+use Rattle.problem.specs.Checks.{Check}
+use Rattle.std.specs.Prelude.{Ok, Err, Some, None}
 use Rattle.pairing.specs.Parts.{Lists, Part, lists, columns_from, part_cause}
-use Rattle.pairing.specs.Pairs.{uses, pair_check, pair_up}
-use Rattle.joined.specs.Columns.{absorb, places_from, places, unshared}
+use Rattle.pairing.specs.Pairs.{pair_check, pair_up}
+use Rattle.joined.specs.Columns.{absorb, places_from, places}
 use Rattle.joined.specs.Joined.{spread_from, joined, first_share, second_share}
 use Rattle.joined.proofs.Cases.{o, part, first, second, whole_lists, crossed_lists, behind_lists}
 use Rattle.joining.specs.Join.{pairing, partners, join_cause, left, join}
-use Rattle.joining.specs.declared.Joining.TheVariants.{Refused, Made}
 
 abbrev lent : ℕ → ℕ → ℕ → Lists
 lent a b n = lists (zeros a) (zeros b) (zeros n) (zeros n) (zeros n) (zeros n) (zeros n) (zeros n)
@@ -53,14 +52,14 @@ cause P Q ps = join_cause P Q ps nothing
 
 pub record JoiningCases : Type 0 where
   -- three joins that are made: column 1 is column 1 and 2 is 2; crossed; and the second's columns 1 and 2 behind
-  whole : join first second (1 ∷ 1 ∷ 2 ∷ 2 ∷ []) (lent 6 2 3) ≡ left (Made (record { columns = 3; rows = 2 })) whole_lists
-  crossed : join first second (1 ∷ 2 ∷ 2 ∷ 1 ∷ []) (lent 6 2 3) ≡ left (Made (record { columns = 3; rows = 2 })) crossed_lists
-  behind : join first second (1 ∷ 3 ∷ []) (lent 8 2 4) ≡ left (Made (record { columns = 4; rows = 2 })) behind_lists
+  whole : join first second (1 ∷ 1 ∷ 2 ∷ 2 ∷ []) (lent 6 2 3) ≡ left (Ok (record { columns = 3; rows = 2 })) whole_lists
+  crossed : join first second (1 ∷ 2 ∷ 2 ∷ 1 ∷ []) (lent 6 2 3) ≡ left (Ok (record { columns = 3; rows = 2 })) crossed_lists
+  behind : join first second (1 ∷ 3 ∷ []) (lent 8 2 4) ≡ left (Ok (record { columns = 4; rows = 2 })) behind_lists
   -- no pair at all
-  apart : (join first second [] (lent 10 2 5)).answer ≡ Made (record { columns = 5; rows = 2 })
+  apart : (join first second [] (lent 10 2 5)).answer ≡ Ok (record { columns = 5; rows = 2 })
   -- the shares of a list, by the partners and the places: all shared and crossed, and two behind
-  crossed_partners : partners first second (1 ∷ 2 ∷ 2 ∷ 1 ∷ []) ≡ 2 ∷ 1 ∷ 0 ∷ []
-  crossed_places : places first (2 ∷ 1 ∷ 0 ∷ []) ≡ 1 ∷ 0 ∷ 2 ∷ []
+  crossed_partners : partners first second (1 ∷ 2 ∷ 2 ∷ 1 ∷ []) ≡ Some 1 ∷ Some 0 ∷ None ∷ []
+  crossed_places : places first (Some 1 ∷ Some 0 ∷ None ∷ []) ≡ 1 ∷ 0 ∷ 2 ∷ []
   crossed_first : first_share first (pos 10 ∷ pos 20 ∷ pos 30 ∷ []) ≡ pos 10 ∷ pos 20 ∷ []
   crossed_second : second_share (1 ∷ 0 ∷ 2 ∷ []) (pos 10 ∷ pos 20 ∷ pos 30 ∷ []) ≡ pos 20 ∷ pos 10 ∷ pos 30 ∷ []
   behind_places : places first (partners first second (1 ∷ 3 ∷ [])) ≡ 2 ∷ 3 ∷ 0 ∷ []
@@ -72,59 +71,59 @@ pub record JoiningCases : Type 0 where
   no_mark : (join (part 1 0 (lists [] [] (o ∷ []) (o ∷ []) (o ∷ []) (o ∷ []) (o ∷ []) (pos 3 ∷ []))) (plain 1) (1 ∷ 1 ∷ []) (lent 0 0 1)).lists
       ≡ lent 0 0 1
   -- 1 to 5 of the first, before the second's 1, an odd list and short lent lists; with a refusal the lent lists are as before
-  first_size : join (plain 0) (plain 0) (7 ∷ []) (lent 1 2 3) ≡ left (Refused Size) (lent 1 2 3)
-  first_length : cause (part 2 1 (lent 2 1 1)) (plain 0) (7 ∷ []) ≡ Failed Length
-  first_coefficient : cause steep (plain 0) (7 ∷ []) ≡ Failed Coefficient
-  first_bound : cause (single (pos 1) o o o) (plain 0) (7 ∷ []) ≡ Failed Bound
-  first_goal : cause (single o (pos 2) (pos 3) (pos 4)) (plain 0) (7 ∷ []) ≡ Failed Goal
+  first_size : join (plain 0) (plain 0) (7 ∷ []) (lent 1 2 3) ≡ left (Err Size) (lent 1 2 3)
+  first_length : cause (part 2 1 (lent 2 1 1)) (plain 0) (7 ∷ []) ≡ Err Length
+  first_coefficient : cause steep (plain 0) (7 ∷ []) ≡ Err Coefficient
+  first_bound : cause (single (pos 1) o o o) (plain 0) (7 ∷ []) ≡ Err Bound
+  first_goal : cause (single o (pos 2) (pos 3) (pos 4)) (plain 0) (7 ∷ []) ≡ Err Goal
   -- 1 to 5 of the second, before an odd list and short lent lists
-  second_size : cause first (plain 49) (7 ∷ []) ≡ Failed Size
-  second_length : cause first (part 2 1 (lent 3 1 2)) (7 ∷ []) ≡ Failed Length
-  second_coefficient : cause first steep (7 ∷ []) ≡ Failed Coefficient
-  second_bound : cause first (single (pos 1) o o o) (7 ∷ []) ≡ Failed Bound
+  second_size : cause first (plain 49) (7 ∷ []) ≡ Err Size
+  second_length : cause first (part 2 1 (lent 3 1 2)) (7 ∷ []) ≡ Err Length
+  second_coefficient : cause first steep (7 ∷ []) ≡ Err Coefficient
+  second_bound : cause first (single (pos 1) o o o) (7 ∷ []) ≡ Err Bound
   -- "both 0 or both set, low at most high"
-  second_goal : cause first (single (pos 1) (pos 2) (pos 5) (pos 4)) (7 ∷ []) ≡ Failed Goal
-  half_goal : part_cause (single (pos 1) (pos 2) o (pos 4)) ≡ Failed Goal
+  second_goal : cause first (single (pos 1) (pos 2) (pos 5) (pos 4)) (7 ∷ []) ≡ Err Goal
+  half_goal : part_cause (single (pos 1) (pos 2) o (pos 4)) ≡ Err Goal
   -- 2 for an odd list, before its pairs
-  odd : cause first second (9 ∷ 9 ∷ 1 ∷ []) ≡ Failed Length
-  odd_alone : cause first second (1 ∷ []) ≡ Failed Length
+  odd : cause first second (9 ∷ 9 ∷ 1 ∷ []) ≡ Err Length
+  odd_alone : cause first second (1 ∷ []) ≡ Err Length
   -- 14, a column outside, of the first and of the second
-  outside_first : cause first second (3 ∷ 1 ∷ []) ≡ Failed Pair
-  outside_second : cause first second (1 ∷ 4 ∷ []) ≡ Failed Pair
-  none_first : cause first second (0 ∷ 1 ∷ []) ≡ Failed Pair
-  none_second : cause first second (1 ∷ 0 ∷ []) ≡ Failed Pair
+  outside_first : cause first second (3 ∷ 1 ∷ []) ≡ Err Pair
+  outside_second : cause first second (1 ∷ 4 ∷ []) ≡ Err Pair
+  none_first : cause first second (0 ∷ 1 ∷ []) ≡ Err Pair
+  none_second : cause first second (1 ∷ 0 ∷ []) ≡ Err Pair
   -- 14, a column used before, of the first and of the second
-  again_first : cause first second (1 ∷ 1 ∷ 1 ∷ 2 ∷ []) ≡ Failed Pair
-  again_second : cause first second (1 ∷ 1 ∷ 2 ∷ 1 ∷ []) ≡ Failed Pair
+  again_first : cause first second (1 ∷ 1 ∷ 1 ∷ 2 ∷ []) ≡ Err Pair
+  again_second : cause first second (1 ∷ 1 ∷ 2 ∷ 1 ∷ []) ≡ Err Pair
   -- 15: 1 to 9 and 0 to 0 leave nothing, in either order, and 1 to 9 and −1 to 1 leave 1
-  none_left : join first (plain 2) (1 ∷ 1 ∷ []) (lent 6 2 3) ≡ left (Refused PairBounds) (lent 6 2 3)
-  none_left_second : cause (plain 2) first (1 ∷ 1 ∷ []) ≡ Failed PairBounds
-  one_left : (pairing first second (1 ∷ 3 ∷ [])).found ≡ Passed
+  none_left : join first (plain 2) (1 ∷ 1 ∷ []) (lent 6 2 3) ≡ left (Err PairBounds) (lent 6 2 3)
+  none_left_second : cause (plain 2) first (1 ∷ 1 ∷ []) ≡ Err PairBounds
+  one_left : (pairing first second (1 ∷ 3 ∷ [])).found ≡ Ok tt
   -- 14 before 15 within a pair: the second's column 1 is used before, and the bounds leave nothing
-  taken_before_bounds : cause first (plain 2) (2 ∷ 1 ∷ 1 ∷ 1 ∷ []) ≡ Failed Pair
+  taken_before_bounds : cause first (plain 2) (2 ∷ 1 ∷ 1 ∷ 1 ∷ []) ≡ Err Pair
   -- in pair order, an earlier pair's 15 before a later one's 14, and the other way round
-  bounds_then_pair : cause first (plain 2) (1 ∷ 1 ∷ 9 ∷ 9 ∷ []) ≡ Failed PairBounds
-  pair_then_bounds : cause first (plain 2) (9 ∷ 9 ∷ 1 ∷ 1 ∷ []) ≡ Failed Pair
+  bounds_then_pair : cause first (plain 2) (1 ∷ 1 ∷ 9 ∷ 9 ∷ []) ≡ Err PairBounds
+  pair_then_bounds : cause first (plain 2) (9 ∷ 9 ∷ 1 ∷ 1 ∷ []) ≡ Err Pair
   -- pairs before the joined size, 14 and 15
-  pair_before_size : cause (plain 30) (plain 30) (31 ∷ 1 ∷ []) ≡ Failed Pair
-  bounds_before_size : cause (plain 48) (single (pos 1) (pos 1) o o) (1 ∷ 1 ∷ []) ≡ Failed PairBounds
+  pair_before_size : cause (plain 30) (plain 30) (31 ∷ 1 ∷ []) ≡ Err Pair
+  bounds_before_size : cause (plain 48) (single (pos 1) (pos 1) o o) (1 ∷ 1 ∷ []) ≡ Err PairBounds
   -- 1 for a joined size beyond 48, before the lent lists: 49 columns, or 49 rows; a shared column is counted once
-  columns_49 : join (plain 30) (plain 19) [] nothing ≡ left (Refused Size) nothing
-  columns_48 : (join (plain 30) (plain 19) (30 ∷ 19 ∷ []) (lent 0 0 48)).answer ≡ Made (record { columns = 48; rows = 0 })
-  rows_49 : cause (stack 25) (stack 24) (1 ∷ 1 ∷ []) ≡ Failed Size
-  rows_48 : (join (stack 24) (stack 24) (1 ∷ 1 ∷ []) (lent 48 48 1)).answer ≡ Made (record { columns = 1; rows = 48 })
+  columns_49 : join (plain 30) (plain 19) [] nothing ≡ left (Err Size) nothing
+  columns_48 : (join (plain 30) (plain 19) (30 ∷ 19 ∷ []) (lent 0 0 48)).answer ≡ Ok (record { columns = 48; rows = 0 })
+  rows_49 : cause (stack 25) (stack 24) (1 ∷ 1 ∷ []) ≡ Err Size
+  rows_48 : (join (stack 24) (stack 24) (1 ∷ 1 ∷ []) (lent 48 48 1)).answer ≡ Ok (record { columns = 1; rows = 48 })
   -- last 2 for the lent lists, each of the eight
-  lent_coefficients : join_cause first second (1 ∷ 1 ∷ 2 ∷ 2 ∷ []) (lent 5 2 3) ≡ Failed Length
-  lent_rights : join_cause first second (1 ∷ 1 ∷ 2 ∷ 2 ∷ []) (lent 6 3 3) ≡ Failed Length
-  lent_lower : join_cause first second (1 ∷ 1 ∷ 2 ∷ 2 ∷ []) (column_lists 4 3 3 3 3 3) ≡ Failed Length
-  lent_upper : join_cause first second (1 ∷ 1 ∷ 2 ∷ 2 ∷ []) (column_lists 3 2 3 3 3 3) ≡ Failed Length
-  lent_low : join_cause first second (1 ∷ 1 ∷ 2 ∷ 2 ∷ []) (column_lists 3 3 4 3 3 3) ≡ Failed Length
-  lent_high : join_cause first second (1 ∷ 1 ∷ 2 ∷ 2 ∷ []) (column_lists 3 3 3 2 3 3) ≡ Failed Length
-  lent_given : join_cause first second (1 ∷ 1 ∷ 2 ∷ 2 ∷ []) (column_lists 3 3 3 3 4 3) ≡ Failed Length
-  lent_ideals : join_cause first second (1 ∷ 1 ∷ 2 ∷ 2 ∷ []) (column_lists 3 3 3 3 3 2) ≡ Failed Length
+  lent_coefficients : join_cause first second (1 ∷ 1 ∷ 2 ∷ 2 ∷ []) (lent 5 2 3) ≡ Err Length
+  lent_rights : join_cause first second (1 ∷ 1 ∷ 2 ∷ 2 ∷ []) (lent 6 3 3) ≡ Err Length
+  lent_lower : join_cause first second (1 ∷ 1 ∷ 2 ∷ 2 ∷ []) (column_lists 4 3 3 3 3 3) ≡ Err Length
+  lent_upper : join_cause first second (1 ∷ 1 ∷ 2 ∷ 2 ∷ []) (column_lists 3 2 3 3 3 3) ≡ Err Length
+  lent_low : join_cause first second (1 ∷ 1 ∷ 2 ∷ 2 ∷ []) (column_lists 3 3 4 3 3 3) ≡ Err Length
+  lent_high : join_cause first second (1 ∷ 1 ∷ 2 ∷ 2 ∷ []) (column_lists 3 3 3 2 3 3) ≡ Err Length
+  lent_given : join_cause first second (1 ∷ 1 ∷ 2 ∷ 2 ∷ []) (column_lists 3 3 3 3 4 3) ≡ Err Length
+  lent_ideals : join_cause first second (1 ∷ 1 ∷ 2 ∷ 2 ∷ []) (column_lists 3 3 3 3 3 2) ≡ Err Length
 
 pub joining_cases : JoiningCases
-unfolding every first_cause columns_from part_cause uses pair_check pair_up absorb places_from unshared spread_from joined pairing join_cause join
+unfolding every first_cause columns_from part_cause pair_check pair_up absorb places_from spread_from joined pairing join_cause join
 joining_cases = record {
   whole = refl;
   crossed = refl;

@@ -2,6 +2,7 @@
 pub mod Causes
 pub mod Made
 pub mod Filled
+pub mod Paired
 pub mod Shares
 pub mod Meeting
 pub mod Counts

@@ -17,44 +17,42 @@ use Rattle.problem.specs.Limits.{max_columns, max_rows}
 use Rattle.problem.specs.Checks.{sizes_fit, or_next}
 use Rattle.problem.specs.declared.Problem.{Problem}
 use Rattle.problem.specs.declared.Refusal.TheVariants.{Size, Length}
-use Rattle.problem.specs.declared.Check.{Check}
-use Rattle.problem.specs.declared.Check.TheVariants.{Passed, Failed}
+use Rattle.problem.specs.Checks.{Check}
+use Rattle.std.specs.Prelude.{Ok, Err}
 use Rattle.pairing.specs.declared.Sizes.{Sizes}
 use Rattle.pairing.specs.Parts.{Lists, Part, part_of, lists_fit, part_cause}
 use Rattle.pairing.specs.Pairs.{matched}
 use Rattle.pairing.proofs.Partners.{Partners, passed_next, pairs_ready}
 use Rattle.joined.specs.Joined.{joined}
 use Rattle.joined.proofs.Passing.{PartPasses, part_passes, part_fits}
-use Rattle.joining.specs.Join.{on_passed, pairing, partners, joined_sizes, room_cause, join_cause, left_by, join, outcome}
-use Rattle.joining.specs.declared.Joining.{Joining}
-use Rattle.joining.specs.declared.Joining.TheVariants.{Refused, Made}
+use Rattle.joining.specs.Join.{Joining, on_passed, pairing, partners, joined_sizes, room_cause, join_cause, left_by, join, outcome}
 
 -- ---- the checks
-on_passed_lem : (c next : Check) → on_passed c next ≡ Passed → (c ≡ Passed) × (next ≡ Passed)
-on_passed_lem Passed next e = (refl, e)
-on_passed_lem (Failed why) next e = never (cc)
+on_passed_lem : (c next : Check) → on_passed c next ≡ Ok tt → (c ≡ Ok tt) × (next ≡ Ok tt)
+on_passed_lem (Ok u) next e = (refl, e)
+on_passed_lem (Err why) next e = never (cc)
 
-pub pairs_found : (P Q : Part) (ps : List ℕ) → PartPasses P → PartPasses Q → (pairing P Q ps).found ≡ Passed → Partners P Q (partners P Q ps)
+pub pairs_found : (P Q : Part) (ps : List ℕ) → PartPasses P → PartPasses Q → (pairing P Q ps).found ≡ Ok tt → Partners P Q (partners P Q ps)
 unfolding pairing
 pairs_found P Q ps p q e =
     pairs_ready P Q (part_fits P p).lower_long (part_fits Q q).lower_long ps (partners P Q ps) (λ i. matched (e i) (partners P Q ps))
 
-pub room_fits : (p : Problem) (B : Lists) → room_cause p B ≡ Passed → (sizes_fit max_columns max_rows p ≡ true) × (lists_fit p B ≡ true)
+pub room_fits : (p : Problem) (B : Lists) → room_cause p B ≡ Ok tt → (sizes_fit max_columns max_rows p ≡ true) × (lists_fit p B ≡ true)
 room_fits p B e =
-    let a = passed_next (sizes_fit max_columns max_rows p) Size (or_next (lists_fit p B) Length Passed) e in
-    (a.0, (passed_next (lists_fit p B) Length Passed a.1).0)
+    let a = passed_next (sizes_fit max_columns max_rows p) Size (or_next (lists_fit p B) Length (Ok tt)) e in
+    (a.0, (passed_next (lists_fit p B) Length (Ok tt) a.1).0)
 
 -- ---- the join
 pub record Makes (P Q : Part) (ps : List ℕ) (B : Lists) : Type 0 where
   pub first : PartPasses P
   pub second : PartPasses Q
   pub even : eqb (length ps % 2) 0 ≡ true
-  pub found : (pairing P Q ps).found ≡ Passed
+  pub found : (pairing P Q ps).found ≡ Ok tt
   pub ready : Partners P Q (partners P Q ps)
   pub sizes : sizes_fit max_columns max_rows (joined_sizes P Q (partners P Q ps)) ≡ true
   pub lent : lists_fit (joined_sizes P Q (partners P Q ps)) B ≡ true
 
-pub cause_makes : (P Q : Part) (ps : List ℕ) (B : Lists) → join_cause P Q ps B ≡ Passed → Makes P Q ps B
+pub cause_makes : (P Q : Part) (ps : List ℕ) (B : Lists) → join_cause P Q ps B ≡ Ok tt → Makes P Q ps B
 unfolding join_cause
 cause_makes P Q ps B e =
     let a = on_passed_lem (part_cause P) _ e in
@@ -78,7 +76,7 @@ pub record MadeOf (P Q : Part) (ps : List ℕ) (B : Lists) (s : Sizes) : Type 0 
   pub makes : Makes P Q ps B
   pub left : outcome P Q ps B s ≡ joined P Q (partners P Q ps)
 
-pub join_makes : (P Q : Part) (ps : List ℕ) (B : Lists) (s : Sizes) → (join P Q ps B).answer ≡ Made s → MadeOf P Q ps B s
+pub join_makes : (P Q : Part) (ps : List ℕ) (B : Lists) (s : Sizes) → (join P Q ps B).answer ≡ Ok s → MadeOf P Q ps B s
 unfolding join
 join_makes P Q ps B s = go (join_cause P Q ps B) refl
   where
@@ -86,12 +84,12 @@ join_makes P Q ps B s = go (join_cause P Q ps B) refl
     J = joined P Q (partners P Q ps)
 
     sizes_of : Joining → Sizes
-    sizes_of (Refused why) = record { columns = 0; rows = 0 }
-    sizes_of (Made z) = z
+    sizes_of (Err why) = record { columns = 0; rows = 0 }
+    sizes_of (Ok z) = z
 
-    go : (c : Check) → join_cause P Q ps B ≡ c → (left_by c J B).answer ≡ Made s → MadeOf P Q ps B s
-    go (Failed why) e h = never (cc)
-    go Passed e h = record {
+    go : (c : Check) → join_cause P Q ps B ≡ c → (left_by c J B).answer ≡ Ok s → MadeOf P Q ps B s
+    go (Err why) e h = never (cc)
+    go (Ok u) e h = record {
       makes = cause_makes P Q ps B e;
       left = λ i. part_of (sizes_of (sym h i)) (left_by (e i) J B).lists;
     }

@@ -8,7 +8,7 @@ use Prim.Native.Nat.{ℕ}
 use Rattle.problem.specs.Checks.{lent_fit, limit_fits, or_next, first_cause}
 use Rattle.problem.specs.declared.Lent.{Lent}
 use Rattle.problem.specs.declared.Refusal.TheVariants.{Length, Limit}
-use Rattle.problem.specs.declared.Check.TheVariants.{Passed}
+use Rattle.std.specs.Prelude.{Ok}
 use Rattle.pairing.specs.Parts.{Part, sized, as_posed, part_cause}
 use Rattle.joined.specs.Joined.{joined}
 use Rattle.joined.proofs.Passing.{PartPasses, room_right}
@@ -25,7 +25,7 @@ part_causes P limit L e f = rw (e, f, room_right (sized P.columns P.rows 0))
 -- a part that passes, as a call takes it
 passes_call : (P : Part) → PartPasses P → (limit : ℕ) (L : Lent)
     → first_cause (as_posed P limit) L
-    ≡ or_next (lent_fit (sized P.columns P.rows limit) L) Length (or_next (limit_fits (sized P.columns P.rows limit)) Limit Passed)
+    ≡ or_next (lent_fit (sized P.columns P.rows limit) L) Length (or_next (limit_fits (sized P.columns P.rows limit)) Limit (Ok tt))
 unfolding first_cause
 passes_call P f limit L = rw (f.sizes, f.row_lengths, f.column_lengths, f.ideal_lengths, f.rows, f.bounds, f.goals)
 

@@ -1,103 +1,131 @@
 #![tactic(auto)]
 
 // Joining two problems over a list of pairs: document 02, (vi).
-ghost use Rattle.std.specs.Prelude.{◌≡◌};
-ghost use Rattle.pairing.specs.Parts.{lists, part_of};
+ghost use Rattle.std.specs.Prelude.{◌≡◌, ◌≤◌, ◌+◌, length};
+ghost use Rattle.problem.specs.References.{SameReferences};
+ghost use Rattle.pairing.specs.Parts.{lent_lists, mut_lists, part_of, sized};
+ghost use Rattle.problem.specs.Limits.{max_columns, max_rows};
+ghost use Rattle.joined.specs.Columns.{unshared, places_from};
+ghost use Rattle.joined.specs.Filling.{AllBelow};
+ghost use Rattle.joining.specs.Filled.{Long, filling, left_paired};
 ghost use Rattle.joining.specs.Join.{left};
 ghost use Rattle.joining.specs.Join as Join;
 
-use joined::columns::{Rule, fill_places, join_ideals, join_list, unshared};
+use joined::columns::{Seats, fill_places, high_goal, join_ideals, join_list, low_goal, unshared};
 use joined::rows::{join_rights, join_rows};
-use pairing::Sizes;
 use pairing::pairs::pair_up;
-use pairing::parts::{as_problem, lists_fit, part_cause};
+use pairing::parts::{lists_fit, part_cause};
+use pairing::{Part, Sizes};
 use problem::checks::sizes_fit;
-use problem::{Check, Problem, Refusal};
+use problem::{Lists, ListsMut, Problem, Refusal};
 
-// What a join answers.
-#[derive(Clone, Copy)]
-pub enum Joining {
-    Refused(Refusal),
-    Made(Sizes),
+// The lists lent to be filled, to be read.
+fn read_lists<'a>(out: &'a ListsMut<'_>) -> Lists<'a>
+    ensures { lent_lists result ≡ mut_lists out.now }
+{
+    Lists {
+        coefficients: out.coefficients,
+        rights: out.rights,
+        lower: out.lower,
+        upper: out.upper,
+        low: out.low,
+        high: out.high,
+        given: out.given,
+        ideals: out.ideals,
+    }
 }
 
-// One problem of two parts and the pairs of their columns, in the lent lists. Every test comes before the first number is written. Of the lists a are
-// the coefficients, b the right sides, lo and hi the bounds.
-pub fn join(
-    first: Sizes,
-    a1: &[i64],
-    b1: &[i64],
-    lo1: &[i64],
-    hi1: &[i64],
-    low1: &[i64],
-    high1: &[i64],
-    given1: &[i64],
-    ideals1: &[i64],
-    second: Sizes,
-    a2: &[i64],
-    b2: &[i64],
-    lo2: &[i64],
-    hi2: &[i64],
-    low2: &[i64],
-    high2: &[i64],
-    given2: &[i64],
-    ideals2: &[i64],
-    pairs: &[usize],
-    a: &mut [i64],
-    b: &mut [i64],
-    lo: &mut [i64],
-    hi: &mut [i64],
-    low: &mut [i64],
-    high: &mut [i64],
-    given: &mut [i64],
-    ideals: &mut [i64],
-) -> Joining
-    ensures { left result (lists a.new b.new lo.new hi.new
-        low.new high.new given.new ideals.new)
-        ≡ Join.join
-        (part_of first (lists a1.now b1.now lo1.now hi1.now
-        low1.now high1.now given1.now ideals1.now))
-        (part_of second (lists a2.now b2.now lo2.now hi2.now
-        low2.now high2.now given2.now ideals2.now))
-        pairs.now
-        (lists a.old b.old lo.old hi.old
-        low.old high.old given.old ideals.old) }
+// 1 and 2 of the joined problem, of these sizes, and the lent lists.
+fn room_cause(s: Sizes, out: &ListsMut<'_>) -> Result<(), Refusal>
+    ensures { result ≡ Join.room_cause (sized s.columns s.rows 0) (mut_lists out.now) }
 {
-    if let Check::Failed(why) = part_cause(first, a1, b1, lo1, hi1, low1, high1, given1, ideals1) {
-        return Joining::Refused(why);
-    }
-    if let Check::Failed(why) = part_cause(second, a2, b2, lo2, hi2, low2, high2, given2, ideals2) {
-        return Joining::Refused(why);
-    }
-    if pairs.len() % 2 != 0 {
-        return Joining::Refused(Refusal::Length);
-    }
-    let n = second.columns;
-    let mut partners = [0usize; Problem::MAX_COLUMNS];
-    if let Check::Failed(why) = pair_up(lo1, hi1, lo2, hi2, pairs, &mut partners[..n]) {
-        return Joining::Refused(why);
-    }
-    let s = Sizes {
-        columns: first.columns + unshared(&partners[..n]),
-        rows: first.rows + second.rows,
-    };
-    let p = as_problem(s);
+    let p = Problem::from(s);
     if !sizes_fit(p, Problem::MAX_COLUMNS, Problem::MAX_ROWS) {
-        return Joining::Refused(Refusal::Size);
+        return Err(Refusal::Size);
     }
-    if !lists_fit(p, a, b, lo, hi, low, high, given, ideals) {
-        return Joining::Refused(Refusal::Length);
+    if !lists_fit(p, read_lists(out)) {
+        return Err(Refusal::Length);
     }
-    let mut places = [0usize; Problem::MAX_COLUMNS];
-    fill_places(&mut places[..n], &partners[..n], first.columns);
-    let r = &partners[..n];
-    let t = &places[..n];
-    join_rows(a, s.columns, a1, first, a2, second, t);
-    join_rights(b, b1, b2);
-    join_list(Rule::Lower, lo, lo1, lo2, r, t);
-    join_list(Rule::Upper, hi, hi1, hi2, r, t);
-    join_list(Rule::Low, low, low1, low2, r, t);
-    join_list(Rule::High, high, high1, high2, r, t);
-    join_ideals(given, ideals, given1, ideals1, given2, ideals2, r, t);
-    Joining::Made(s)
+    Ok(())
+}
+
+// The eight lists of the joined columns, where the second's come to the places.
+fn fill(first: Part<'_>, second: Part<'_>, seats: Seats<'_>, out: &mut ListsMut<'_>)
+    requires first_long { Long first.sizes.columns first.sizes.rows (lent_lists first.lists) }
+    requires second_long { Long second.sizes.columns second.sizes.rows (lent_lists second.lists) }
+    requires out_long { Long seats.columns (first.sizes.rows + second.sizes.rows) (mut_lists out.old) }
+    requires partners_len { length seats.partners.now ≡ second.sizes.columns }
+    requires first_in { first.sizes.columns ≤ seats.columns }
+    ensures same_references { SameReferences out.old out.new }
+    ensures filled { mut_lists out.new ≡ filling (part_of first.entry.sizes (lent_lists first.entry.lists))
+        (part_of second.entry.sizes (lent_lists second.entry.lists)) (mut_lists out.old)
+        seats.entry.columns seats.entry.partners.now seats.entry.places.now }
+{
+    let a = first.lists;
+    let b = second.lists;
+    join_rows(out.coefficients, first, second, seats);
+    join_rights(out.rights, a.rights, b.rights);
+    join_list(i64::max, out.lower, a.lower, b.lower, seats);
+    join_list(i64::min, out.upper, a.upper, b.upper, seats);
+    join_list(low_goal, out.low, a.low, b.low, seats);
+    join_list(high_goal, out.high, a.high, b.high, seats);
+    join_ideals(
+        out.given, out.ideals, a.given, a.ideals, b.given, b.ideals, seats,
+    );
+}
+
+// The joined problem of parts that pass, with the partners that their pairs leave: its own causes, 1 and 2, come before the first number is written.
+fn join_paired(
+    first: Part<'_>,
+    second: Part<'_>,
+    partners: &[Option<usize>],
+    out: &mut ListsMut<'_>,
+) -> Result<Sizes, Refusal>
+    requires first_long { Long first.sizes.columns first.sizes.rows (lent_lists first.lists) }
+    requires second_long { Long second.sizes.columns second.sizes.rows (lent_lists second.lists) }
+    requires few { (first.sizes.columns ≤ max_columns) × (second.sizes.columns ≤ max_columns)
+        × (first.sizes.rows ≤ max_rows) × (second.sizes.rows ≤ max_rows) }
+    requires partners_len { length partners.now ≡ second.sizes.columns }
+    requires all_below { AllBelow (first.sizes.columns + unshared partners.now) (places_from first.sizes.columns partners.now) }
+    ensures same_references { SameReferences out.old out.new }
+    ensures left { left result (mut_lists out.new) ≡ left_paired (part_of first.entry.sizes (lent_lists first.entry.lists))
+        (part_of second.entry.sizes (lent_lists second.entry.lists)) partners.now (mut_lists out.old) }
+{
+    let s = Sizes {
+        columns: first.sizes.columns + unshared(partners),
+        rows: first.sizes.rows + second.sizes.rows,
+    };
+    room_cause(s, out)?;
+    let mut places = [0; Problem::MAX_COLUMNS];
+    let places = &mut places[..partners.len()];
+    fill_places(places, partners, first.sizes.columns);
+    let seats = Seats {
+        partners,
+        places,
+        columns: s.columns,
+    };
+    fill(first, second, seats, out);
+    Ok(s)
+}
+
+// One problem of two parts and the pairs of their columns, in the lent lists. Every test comes before the first number is written.
+pub fn join(
+    first: Part<'_>,
+    second: Part<'_>,
+    pairs: &[usize],
+    out: &mut ListsMut<'_>,
+) -> Result<Sizes, Refusal>
+    ensures same_references { SameReferences out.old out.new }
+    ensures left { left result (mut_lists out.new) ≡ Join.join (part_of first.entry.sizes (lent_lists first.entry.lists))
+        (part_of second.entry.sizes (lent_lists second.entry.lists)) pairs.now (mut_lists out.old) }
+{
+    part_cause(first)?;
+    part_cause(second)?;
+    if pairs.len() % 2 != 0 {
+        return Err(Refusal::Length);
+    }
+    let mut partners = [None; Problem::MAX_COLUMNS];
+    let partners = &mut partners[..second.sizes.columns];
+    pair_up(first.lists, second.lists, pairs, partners)?;
+    join_paired(first, second, partners, out)
 }

@@ -1,20 +1,24 @@
 -- What a call for C comes to by the length of the report.
---   called_told, called_untold   the call's own answer, or refusal 2
+--   is_told     what is returned and left after a whole assignment or a Continue, and the report of its answer
+--   is_untold   what is returned and left where the report has a wrong length and nothing was done
 -- Assumes nothing.
-use mathlib.Core.Path.{◌≡◌}
-use mathlib.Core.List.{List}
-use Prim.Native.Nat.{ℕ}
-use lib.ListN.{length}
+use Rattle.std.proofs.Common.{◌≡◌, List, ℕ, length, Result, ap, ◌∙◌}
 use borrow.Author.Tests.{eq-eqb, ne_eqb}
+use Rattle.problem.specs.Answers.{refusal_number}
 use Rattle.problem.specs.Checks.{Posed}
+use Rattle.problem.specs.declared.Refusal.{Refusal}
+use Rattle.problem.specs.declared.Refusal.TheVariants.{Length}
 use Rattle.engine.specs.Assign.{Buffers, Done}
-use Rattle.koralimbu.specs.Calls.{called, report_length, told, untold}
+use Rattle.engine.specs.Replies.{done_by}
+use Rattle.engine.specs.declared.Assigned.{Assigned}
+use Rattle.koralimbu.specs.Calls.{report_length, returned, told, called}
 
 module _ (f : Posed → Buffers → Done) (P : Posed) (B : Buffers) (r : List ℕ) where
-  pub called_told : length r ≡ report_length → called f P B r ≡ told (f P B)
+  pub is_told : (x : Result Assigned Refusal) (n : ℕ) (C : Buffers) (p : List ℕ) → length r ≡ report_length → done_by x C ≡ f P B
+      → returned n C p ≡ told (done_by x C) → returned n C p ≡ called f P B r
   unfolding called
-  called_told e = rw (eq-eqb (length r) report_length e)
+  is_told x n C p l e t = t ∙ ap told e ∙ rw (eq-eqb (length r) report_length l)
 
-  pub called_untold : (length r ≡ report_length → ⊥) → called f P B r ≡ untold B r
+  pub is_untold : (n : ℕ) → (length r ≡ report_length → ⊥) → n ≡ refusal_number Length → returned n B r ≡ called f P B r
   unfolding called
-  called_untold e = rw (ne_eqb (length r) report_length e)
+  is_untold n l e = rw (e, ne_eqb (length r) report_length l)

@@ -6,22 +6,24 @@
 -- Assumes nothing.
 use mathlib.Core.Path.{◌≡◌, refl}
 use mathlib.Core.List.{[], ◌∷◌}
+use Rattle.std.specs.Prelude.{Ok, Err, Some, None}
 use lib.IntN.{pos, negsuc}
 use Rattle.problem.specs.declared.Refusal.TheVariants.{Seating}
-use Rattle.problem.specs.declared.Answer.TheVariants.{Fitted, Refused}
+use Rattle.problem.specs.declared.Verdict.TheVariants.{Fitted}
 use Rattle.settling.specs.declared.Part.TheVariants.{Goals}
-use Rattle.engine.specs.declared.preview.Seen.TheVariants.{Rest, Next}
 use Rattle.koralimbu.specs.Calls.{report_of}
 use Rattle.koralimbu.specs.Previews.{step_of}
 
-fitted : report_of (Fitted (record { bounds = 4; goals = 1 })) 7 ≡ 1 ∷ 4 ∷ 1 ∷ 7 ∷ []
+fitted : report_of (Ok (Fitted (record { bounds = 4; goals = 1 }))) 7 ≡ 1 ∷ 4 ∷ 1 ∷ 7 ∷ []
 fitted = refl
 
-refused : report_of (Refused Seating) 0 ≡ 0 ∷ 0 ∷ 0 ∷ 0 ∷ []
+refused : report_of (Err Seating) 0 ≡ 0 ∷ 0 ∷ 0 ∷ 0 ∷ []
 refused = refl
 
-rest : step_of Rest 5 ≡ 0 ∷ 0 ∷ 0 ∷ 0 ∷ 0 ∷ 0 ∷ 5 ∷ []
+rest : step_of (Ok None) 5 ≡ 0 ∷ 0 ∷ 0 ∷ 0 ∷ 0 ∷ 0 ∷ 5 ∷ []
 rest = refl
 
-next : step_of (Next Goals 1 (record { s = 0; a = pos 1; t = 2; b = negsuc 0 })) 6 ≡ 2 ∷ 2 ∷ 1 ∷ 1 ∷ 3 ∷ 2 ∷ 6 ∷ []
+next :
+    step_of (Ok (Some (record { part = Goals; column = 1; o = record { s = 0; a = pos 1; t = 2; b = negsuc 0 } }))) 6
+    ≡ 2 ∷ 2 ∷ 1 ∷ 1 ∷ 3 ∷ 2 ∷ 6 ∷ []
 next = refl

@@ -1,6 +1,4 @@
 -- The root of the laws that the proofs cite.
-pub mod Telling
-pub mod Sizes
 pub mod CallLaws
 pub mod ReadLaws
 pub mod PreviewLaws

@@ -7,23 +7,22 @@
 --   untold B r         where the report r has a wrong length: refusal 2, "nothing changed"
 --   called f P B r     either, by the length of r; f is `assign` or `continue`
 -- Assumes nothing.
-use Rattle.std.specs.Prelude.{cond, List, [], ◌∷◌, ℕ, eqb, length}
-use Rattle.problem.specs.Answers.{refusal_number, answer_number, answer_counts}
+use Rattle.std.specs.Prelude.{cond, List, [], ◌∷◌, ℕ, eqb, length, Ok, Err}
+use Rattle.problem.specs.Answers.{Answer, refusal_number, answer_number, answer_counts}
 use Rattle.problem.specs.Checks.{Posed}
 use Rattle.problem.specs.declared.Problem.{Problem}
 use Rattle.problem.specs.declared.Refusal.TheVariants.{Length}
-use Rattle.problem.specs.declared.Answer.{Answer}
-use Rattle.problem.specs.declared.Answer.TheVariants.{Fitted, Outside, Spent, Refused}
+use Rattle.problem.specs.declared.Verdict.TheVariants.{Fitted, Outside, Spent}
 use Rattle.engine.specs.Assign.{Buffers, buffers, Done}
 
 abbrev pub problem_of : ℕ → ℕ → ℕ → Problem
 problem_of n m limit = record { columns = n; rows = m; limit = limit }
 
 abbrev pub verdict_number : Answer → ℕ
-verdict_number (Fitted c) = 1
-verdict_number (Outside c) = 2
-verdict_number (Spent c) = 3
-verdict_number (Refused why) = 0
+verdict_number (Ok (Fitted c)) = 1
+verdict_number (Ok (Outside c)) = 2
+verdict_number (Ok (Spent c)) = 3
+verdict_number (Err why) = 0
 
 abbrev pub report_length : ℕ
 report_length = 4

@@ -7,28 +7,26 @@
 --   join_untold B z    where the sizes z have a wrong length: refusal 2, and nothing is changed
 --   join_called P Q ps B z   either, by the length of z; P and Q are the parts, ps the pairs, B the lent lists
 -- Assumes nothing.
-use Rattle.std.specs.Prelude.{cond, List, [], ◌∷◌, ℕ, eqb, length}
+use Rattle.std.specs.Prelude.{cond, List, [], ◌∷◌, ℕ, eqb, length, Ok, Err}
 use Rattle.problem.specs.Answers.{refusal_number}
 use Rattle.problem.specs.declared.Refusal.TheVariants.{Length}
 use Rattle.pairing.specs.declared.Sizes.{Sizes}
 use Rattle.pairing.specs.Parts.{Lists, Part}
-use Rattle.joining.specs.Join.{Left, join}
-use Rattle.joining.specs.declared.Joining.{Joining}
-use Rattle.joining.specs.declared.Joining.TheVariants.{Refused, Made}
+use Rattle.joining.specs.Join.{Joining, Left, join}
 
 abbrev pub part_sizes : ℕ → ℕ → Sizes
 part_sizes n m = record { columns = n; rows = m }
 
 abbrev pub joining_number : Joining → ℕ
-joining_number (Refused why) = refusal_number why
-joining_number (Made s) = 0
+joining_number (Err why) = refusal_number why
+joining_number (Ok s) = 0
 
 abbrev pub joined_length : ℕ
 joined_length = 2
 
 abbrev pub joined_of : Joining → List ℕ
-joined_of (Refused why) = 0 ∷ 0 ∷ []
-joined_of (Made s) = s.columns ∷ s.rows ∷ []
+joined_of (Err why) = 0 ∷ 0 ∷ []
+joined_of (Ok s) = s.columns ∷ s.rows ∷ []
 
 pub record JoinCalled : Type 0 where
   pub number : ℕ

@@ -7,26 +7,24 @@
 --                       with their signs, 0s where no move improves, and with a refusal; then the rounds
 --   preview_told x      what is returned and left of a preview that has shown x; in the buffers the interval list is the list after
 --   preview_called P v B r   that of P and the standing list v, by the length of the report r
---   SmallStep x         column and move of a step are such as a problem can have
+--   SmallStep x         column and vectors of a step are such as a problem can have
 -- Assumes nothing.
-use Rattle.std.specs.Prelude.{◌≡◌, cond, List, [], ◌∷◌, ℕ, zero, suc, ◌<◌, eqb, ℤ, pos, negsuc, length}
+use Rattle.std.specs.Prelude.{◌≡◌, cond, List, [], ◌∷◌, ℕ, zero, suc, ◌<◌, eqb, ℤ, pos, negsuc, length, Some, None, Result, Ok, Err}
 use Rattle.problem.specs.Answers.{refusal_number}
 use Rattle.problem.specs.Checks.{Posed}
 use Rattle.problem.specs.Limits.{max_columns}
-use Rattle.settling.specs.declared.Move.{Move}
+use Rattle.problem.specs.declared.Refusal.{Refusal}
 use Rattle.settling.specs.declared.Part.{Part}
 use Rattle.settling.specs.declared.Part.TheVariants.{Bounds, Goals}
-use Rattle.settling.specs.Views.{OfBasis}
 use Rattle.engine.specs.Assign.{Buffers, buffers}
-use Rattle.engine.specs.Preview.{Shown, preview}
-use Rattle.engine.specs.declared.preview.Seen.{Seen}
-use Rattle.engine.specs.declared.preview.Seen.TheVariants.{Refused, Rest, Next}
+use Rattle.engine.specs.Preview.{Seen, Shown, preview}
+use Rattle.engine.specs.declared.preview.Next.{Next}
+use Rattle.engine.specs.declared.preview.Sight.{Sight}
 use Rattle.koralimbu.specs.Calls.{Called, returned, untold}
 
 abbrev pub seen_number : Seen → ℕ
-seen_number (Refused why) = refusal_number why
-seen_number Rest = 0
-seen_number (Next p i o) = 0
+seen_number (Ok step) = 0
+seen_number (Err why) = refusal_number why
 
 abbrev pub part_number : Part → ℕ
 part_number Bounds = 1
@@ -46,10 +44,11 @@ abbrev pub preview_length : ℕ
 preview_length = 7
 
 abbrev pub step_of : Seen → ℕ → List ℕ
-step_of (Refused why) k = 0 ∷ 0 ∷ 0 ∷ 0 ∷ 0 ∷ 0 ∷ k ∷ []
-step_of Rest k = 0 ∷ 0 ∷ 0 ∷ 0 ∷ 0 ∷ 0 ∷ k ∷ []
-step_of (Next p i o) k =
-    part_number p ∷ suc i ∷ vector_number o.s o.a ∷ sign_number o.a ∷ vector_number o.t o.b ∷ sign_number o.b ∷ k ∷ []
+step_of (Ok (Some x)) k =
+    part_number x.part ∷ suc x.column
+    ∷ vector_number x.o.s x.o.a ∷ sign_number x.o.a ∷ vector_number x.o.t x.o.b ∷ sign_number x.o.b ∷ k ∷ []
+step_of (Ok None) k = 0 ∷ 0 ∷ 0 ∷ 0 ∷ 0 ∷ 0 ∷ k ∷ []
+step_of (Err why) k = 0 ∷ 0 ∷ 0 ∷ 0 ∷ 0 ∷ 0 ∷ k ∷ []
 
 abbrev pub preview_told : Shown → Called
 preview_told x = returned (seen_number x.seen) (buffers x.tableau x.after x.strides) (step_of x.seen x.rounds)
@@ -58,6 +57,7 @@ unfoldable pub preview_called : Posed → List ℤ → Buffers → List ℕ → 
 preview_called P v B r = cond (eqb (length r) preview_length) (preview_told (preview P v B)) (untold B r)
 
 -- so that they fit the report's numbers
-pub record SmallStep (x : Seen) : Type 0 where
-  pub column : (p : Part) (i : ℕ) (o : Move) → x ≡ Next p i o → i < max_columns
-  pub move : (p : Part) (i : ℕ) (o : Move) → x ≡ Next p i o → OfBasis max_columns o
+pub record SmallStep (x : Result Sight Refusal) : Type 0 where
+  pub column : (s : Sight) (k : Next) → x ≡ Ok s → s.next ≡ Some k → k.column < max_columns
+  pub first : (s : Sight) (k : Next) → x ≡ Ok s → s.next ≡ Some k → k.o.s < max_columns
+  pub second : (s : Sight) (k : Next) → x ≡ Ok s → s.next ≡ Some k → k.o.t < max_columns

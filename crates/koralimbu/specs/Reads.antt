@@ -6,23 +6,21 @@
 --   read_untold B z     where the sizes z have a wrong length: refusal 2, "nothing changed"
 --   read_called s B z   either, by the length of z; s is the text
 -- Assumes nothing.
-use Rattle.std.specs.Prelude.{cond, List, [], ◌∷◌, ℕ, eqb, length}
+use Rattle.std.specs.Prelude.{cond, List, [], ◌∷◌, ℕ, eqb, length, Ok, Err}
 use Rattle.problem.specs.Answers.{refusal_number}
 use Rattle.problem.specs.declared.Refusal.TheVariants.{Length}
-use Rattle.deck.specs.Reader.{DeckBuffers, ReadDone, read}
-use Rattle.deck.specs.declared.Reading.{Reading}
-use Rattle.deck.specs.declared.Reading.TheVariants.{Read, Refused}
+use Rattle.deck.specs.Reader.{DeckBuffers, Reading, ReadDone, read}
 
 abbrev pub reading_number : Reading → ℕ
-reading_number (Read n m i) = 0
-reading_number (Refused why) = refusal_number why
+reading_number (Ok shape) = 0
+reading_number (Err why) = refusal_number why
 
 abbrev pub sizes_length : ℕ
 sizes_length = 3
 
 abbrev pub sizes_of : Reading → List ℕ
-sizes_of (Read n m i) = n ∷ m ∷ i ∷ []
-sizes_of (Refused why) = 0 ∷ 0 ∷ 0 ∷ []
+sizes_of (Ok shape) = shape.columns ∷ shape.rows ∷ shape.intervals ∷ []
+sizes_of (Err why) = 0 ∷ 0 ∷ 0 ∷ []
 
 pub record ReadCalled : Type 0 where
   pub number : ℕ

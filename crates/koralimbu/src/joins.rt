@@ -1,49 +1,88 @@
 // The call for C that joins two parts, which has no `requires` either. Of the lists a are the coefficients, b the right sides, lo and hi the bounds.
 ghost use Rattle.std.specs.Prelude.{◌≡◌, length};
-ghost use Rattle.pairing.specs.Parts.{lists, part_of};
+ghost use Rattle.problem.specs.References.{SameReferences};
+ghost use Rattle.pairing.specs.Parts.{lists, lent_lists, mut_lists, part_of};
 ghost use Rattle.koralimbu.specs.Joins.{joining_number, joined_of, joined_length, part_sizes, join_returned, join_called};
 
-use joining::Joining;
-use pairing::Sizes;
-use problem::Refusal;
+use pairing::{Part, Sizes};
+use problem::{Lists, ListsMut, Refusal};
 
 // How many numbers tell the sizes of a joined problem: n and m.
 const JOINED: usize = 2;
 
-fn part_sizes(n: usize, m: usize) -> Sizes
-    ensures { result ≡ part_sizes n m }
+// A part of n columns and m rows.
+fn part<'a>(
+    n: usize,
+    m: usize,
+    coefficients: &'a [i64],
+    rights: &'a [i64],
+    lower: &'a [i64],
+    upper: &'a [i64],
+    low: &'a [i64],
+    high: &'a [i64],
+    given: &'a [i64],
+    ideals: &'a [i64],
+) -> Part<'a>
+    ensures { part_of result.sizes (lent_lists result.lists) ≡ part_of (part_sizes n m)
+        (lists coefficients.now rights.now lower.now upper.now low.now high.now given.now ideals.now) }
 {
-    Sizes {
-        columns: n,
-        rows: m,
+    Part {
+        sizes: Sizes {
+            columns: n,
+            rows: m,
+        },
+        lists: Lists {
+            coefficients,
+            rights,
+            lower,
+            upper,
+            low,
+            high,
+            given,
+            ideals,
+        },
     }
 }
 
-fn joining_number(joining: Joining) -> u32
+fn joining_number(joining: Result<Sizes, Refusal>) -> u32
     ensures { result ≡ joining_number joining }
 {
     match joining {
-        Joining::Refused(why) => why.number(),
-        Joining::Made(_) => 0,
+        Ok(_) => 0,
+        Err(why) => u32::from(why),
     }
 }
 
-fn tell_joined(joining: Joining, sizes: &mut [usize])
+fn tell_joined(joining: Result<Sizes, Refusal>, sizes: &mut [usize])
     requires { length sizes.old ≡ joined_length }
     ensures { sizes.new ≡ joined_of joining }
 {
     match joining {
-        Joining::Refused(_) => {
-            sizes[0] = 0;
-            sizes[1] = 0;
-        }
-        Joining::Made(s) => {
-            let n = s.columns;
-            let m = s.rows;
-            sizes[0] = n;
-            sizes[1] = m;
-        }
+        Ok(s) => sizes.copy_from_slice(&[s.columns, s.rows]),
+        Err(_) => sizes.fill(0),
     }
+}
+
+// A join, in lent lists; the sizes come last.
+#[tactic(auto, unfolding(crate::specs::Joins::join_called))]
+fn join_parts(
+    first: Part<'_>,
+    second: Part<'_>,
+    pairs: &[usize],
+    out: &mut ListsMut<'_>,
+    sizes: &mut [usize],
+) -> u32
+    ensures same_references { SameReferences out.old out.new }
+    ensures returned { join_returned result (mut_lists out.new) sizes.new
+        ≡ join_called (part_of first.entry.sizes (lent_lists first.entry.lists))
+        (part_of second.entry.sizes (lent_lists second.entry.lists)) pairs.now (mut_lists out.old) sizes.old }
+{
+    if sizes.len() != JOINED {
+        return u32::from(Refusal::Length);
+    }
+    let joining = joining::join(first, second, pairs, out);
+    tell_joined(joining, sizes);
+    joining_number(joining)
 }
 
 // One problem of two parts of n1 and n2 columns and m1 and m2 rows.
@@ -93,15 +132,17 @@ pub fn koralimbu_join(
         ideals.old)
         sizes.old }
 {
-    if sizes.len() != JOINED {
-        return Refusal::Length.number();
-    }
-    let first = part_sizes(n1, m1);
-    let second = part_sizes(n2, m2);
-    let joining = joining::join(
-        first, a1, b1, lo1, hi1, low1, high1, given1, ideals1, second, a2, b2, lo2, hi2, low2,
-        high2, given2, ideals2, pairs, a, b, lo, hi, low, high, given, ideals,
-    );
-    tell_joined(joining, sizes);
-    joining_number(joining)
+    let first = part(n1, m1, a1, b1, lo1, hi1, low1, high1, given1, ideals1);
+    let second = part(n2, m2, a2, b2, lo2, hi2, low2, high2, given2, ideals2);
+    let mut out = ListsMut {
+        coefficients: a,
+        rights: b,
+        lower: lo,
+        upper: hi,
+        low,
+        high,
+        given,
+        ideals,
+    };
+    join_parts(first, second, pairs, &mut out, sizes)
 }

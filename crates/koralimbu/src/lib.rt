@@ -8,41 +8,49 @@ pub mod previewing;
 pub mod reading;
 pub mod version;
 
-ghost use Rattle.std.specs.Prelude.{◌≡◌, length};
-ghost use Rattle.engine.specs.Assign.{posed_by, buffers, assign, continue};
-ghost use Rattle.koralimbu.specs.Calls.{problem_of, verdict_number, report_of, report_length, returned, called};
+ghost use Rattle.std.specs.Prelude.{◌≡◌, length, Ok};
+ghost use Rattle.engine.specs.Assign.{Buffers as Held, posed_by, buffers, assign, continue};
+ghost use Rattle.engine.specs.Replies.{done_by};
+ghost use Rattle.koralimbu.specs.Calls.{problem_of, verdict_number, report_length, told, returned, called};
 
-use problem::{Answer, Problem, Refusal};
+use engine::{Assigned, Buffers};
+use problem::{Lists, Problem, Refusal, Verdict};
 
 // How many numbers a report has: the verdict's, the steps of the two parts, and the rounds.
 const REPORT: usize = 4;
 
-fn verdict_number(answer: Answer) -> u32
-    ensures { result ≡ verdict_number answer }
+// `From` could stand only beside `Verdict`, in crate problem, which knows nothing of C's numbers.
+fn verdict_number(verdict: Verdict) -> u32
+    ensures { result ≡ verdict_number (Ok verdict) }
 {
-    match answer {
-        Answer::Fitted(_) => 1,
-        Answer::Outside(_) => 2,
-        Answer::Spent(_) => 3,
-        Answer::Refused(_) => 0,
+    match verdict {
+        Verdict::Fitted(_) => 1,
+        Verdict::Outside(_) => 2,
+        Verdict::Spent(_) => 3,
     }
 }
 
-fn tell(answer: Answer, rounds: u32, report: &mut [u32])
+// Writes the report of what a call has returned, and returns the refusal's number, 0 for a verdict. `tell_step`, `tell_sizes` and `tell_joined`
+// are of the same shape. One for all would need the numbers of each as an array first, and so four functions beside it, two of them over `usize`.
+fn tell(reply: Result<Assigned, Refusal>, report: &mut [u32]) -> u32
     requires { length report.old ≡ report_length }
-    ensures { report.new ≡ report_of answer rounds }
+    ensures { (B : Held) → returned result B report.new ≡ told (done_by reply B) }
 {
-    let verdict = verdict_number(answer);
-    let counts = answer.counts();
-    let bounds = counts.bounds;
-    let goals = counts.goals;
-    report[0] = verdict;
-    report[1] = bounds;
-    report[2] = goals;
-    report[3] = rounds;
+    match reply {
+        Ok(Assigned { verdict, rounds }) => {
+            let counts = verdict.counts();
+            report.copy_from_slice(&[verdict_number(verdict), counts.bounds, counts.goals, rounds]);
+            0
+        }
+        Err(why) => {
+            report.fill(0);
+            u32::from(why)
+        }
+    }
 }
 
 // A whole assignment.
+#[tactic(auto, using(crate::proofs::CallLaws::is_untold))]
 pub fn koralimbu_assign(
     n: usize,
     m: usize,
@@ -67,15 +75,14 @@ pub fn koralimbu_assign(
         (buffers tableau.old values.old strides.old) report.old }
 {
     if report.len() != REPORT {
-        return Refusal::Length.number();
+        return u32::from(Refusal::Length);
     }
     let p = Problem {
         columns: n,
         rows: m,
-        limit: limit,
+        limit,
     };
-    let reply = engine::assign(
-        p,
+    let lists = Lists {
         coefficients,
         rights,
         lower,
@@ -84,16 +91,18 @@ pub fn koralimbu_assign(
         high,
         given,
         ideals,
+    };
+    let lent = Buffers {
         tableau,
         values,
         strides,
-    );
-    let answer = reply.answer;
-    tell(answer, reply.rounds, report);
-    answer.number()
+    };
+    tell(engine::assign(p, lists, lent), report)
 }
 
-// Continue, from the lent values.
+// Continue, from the lent values. It differs from a whole assignment in the engine's call alone: what both can share is `tell`, and one function that
+// takes the call would be longer than the two lines that it saves, since the parameters are C's.
+#[tactic(auto, using(crate::proofs::CallLaws::is_untold))]
 pub fn koralimbu_continue(
     n: usize,
     m: usize,
@@ -118,15 +127,14 @@ pub fn koralimbu_continue(
         (buffers tableau.old values.old strides.old) report.old }
 {
     if report.len() != REPORT {
-        return Refusal::Length.number();
+        return u32::from(Refusal::Length);
     }
     let p = Problem {
         columns: n,
         rows: m,
-        limit: limit,
+        limit,
     };
-    let reply = engine::continue_from(
-        p,
+    let lists = Lists {
         coefficients,
         rights,
         lower,
@@ -135,11 +143,11 @@ pub fn koralimbu_continue(
         high,
         given,
         ideals,
+    };
+    let lent = Buffers {
         tableau,
         values,
         strides,
-    );
-    let answer = reply.answer;
-    tell(answer, reply.rounds, report);
-    answer.number()
+    };
+    tell(engine::continue_from(p, lists, lent), report)
 }

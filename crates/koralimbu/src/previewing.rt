@@ -1,27 +1,19 @@
 // The preview's call for C, which has no `requires` either.
-ghost use Rattle.std.specs.Prelude.{◌≡◌, [], ◌∷◌, suc, ◌<◌, length};
+ghost use Rattle.std.specs.Prelude.{◌≡◌, suc, ◌<◌, length};
 ghost use Rattle.problem.specs.Limits.{max_columns};
-ghost use Rattle.engine.specs.Assign.{posed_by, buffers};
+ghost use Rattle.engine.specs.Assign.{Buffers as Held, posed_by, buffers};
+ghost use Rattle.engine.specs.Replies.{shown_by};
 ghost use Rattle.koralimbu.specs.Calls.{problem_of, returned};
-ghost use Rattle.koralimbu.specs.Previews.{seen_number, part_number, sign_number, vector_number, preview_length, step_of, preview_called, SmallStep};
+ghost use Rattle.koralimbu.specs.Previews.{part_number, sign_number, vector_number, preview_length, preview_told, preview_called, SmallStep};
 
-use engine::preview::Seen;
-use problem::{Problem, Refusal};
+use engine::Buffers;
+use engine::preview::{Sight, preview};
+use problem::{Lists, Problem, Refusal};
 use settling::Part;
-use whole::{less, magnitude};
+use std::cmp::Ordering;
 
 // How many numbers tell of a step: the part, the column, two vectors with their signs, and the rounds.
 const STEP: usize = 7;
-
-fn seen_number(seen: Seen) -> u32
-    ensures { result ≡ seen_number seen }
-{
-    match seen {
-        Seen::Refused(why) => why.number(),
-        Seen::Rest => 0,
-        Seen::Next(_, _, _) => 0,
-    }
-}
 
 fn part_number(part: Part) -> u32
     ensures { result ≡ part_number part }
@@ -35,13 +27,11 @@ fn part_number(part: Part) -> u32
 fn sign_number(x: i64) -> u32
     ensures { result ≡ sign_number x }
 {
-    if less(x, 0) {
-        return 2;
+    match x.cmp(&0) {
+        Ordering::Less => 2,
+        Ordering::Equal => 0,
+        Ordering::Greater => 1,
     }
-    if magnitude(x) == 0 {
-        return 0;
-    }
-    1
 }
 
 // A column or a vector, counted from 1.
@@ -49,53 +39,48 @@ fn from_one(i: usize) -> u32
     requires { i < max_columns }
     ensures { result ≡ suc i }
 {
-    (i + 1) as u32
+    i as u32 + 1
 }
 
 fn vector_number(s: usize, x: i64) -> u32
     requires { s < max_columns }
     ensures { result ≡ vector_number s x }
 {
-    if magnitude(x) == 0 {
-        return 0;
-    }
-    from_one(s)
+    if x == 0 { 0 } else { from_one(s) }
 }
 
-// Writes the numbers of a step.
-fn write(report: &mut [u32], part: u32, column: u32, s: u32, a: u32, t: u32, b: u32, rounds: u32)
-    requires { length report.old ≡ preview_length }
-    ensures { report.new ≡ part ∷ column ∷ s ∷ a ∷ t ∷ b ∷ rounds ∷ [] }
+// Writes the numbers of what a preview has returned, and returns the refusal's number, 0 where there is none.
+fn tell_step(reply: Result<Sight, Refusal>, report: &mut [u32]) -> u32
+    requires { (length report.old ≡ preview_length) × SmallStep reply }
+    ensures { (B : Held) → returned result B report.new ≡ preview_told (shown_by reply B) }
 {
-    report[0] = part;
-    report[1] = column;
-    report[2] = s;
-    report[3] = a;
-    report[4] = t;
-    report[5] = b;
-    report[6] = rounds;
-}
-
-fn tell_step(seen: Seen, rounds: u32, report: &mut [u32])
-    requires { (length report.old ≡ preview_length) × SmallStep seen }
-    ensures { report.new ≡ step_of seen rounds }
-{
-    match seen {
-        Seen::Refused(_) => write(report, 0, 0, 0, 0, 0, 0, rounds),
-        Seen::Rest => write(report, 0, 0, 0, 0, 0, 0, rounds),
-        Seen::Next(part, i, o) => {
-            let number = part_number(part);
-            let s = vector_number(o.s, o.a);
-            let a = sign_number(o.a);
-            let t = vector_number(o.t, o.b);
-            let b = sign_number(o.b);
-            let column = from_one(i);
-            write(report, number, column, s, a, t, b, rounds);
+    let Sight { next, rounds } = match reply {
+        Ok(sight) => sight,
+        Err(why) => {
+            report.fill(0);
+            return u32::from(why);
+        }
+    };
+    match next {
+        None => report.copy_from_slice(&[0, 0, 0, 0, 0, 0, rounds]),
+        Some(step) => {
+            let o = step.o;
+            report.copy_from_slice(&[
+                part_number(step.part),
+                from_one(step.column),
+                vector_number(o.s, o.a),
+                sign_number(o.a),
+                vector_number(o.t, o.b),
+                sign_number(o.b),
+                rounds,
+            ]);
         }
     }
+    0
 }
 
 // The next step of the standing list. There is no limit: it is that of one step.
+#[tactic(auto, using(crate::proofs::PreviewLaws::small_step, crate::proofs::PreviewLaws::is_unseen))]
 pub fn koralimbu_preview(
     n: usize,
     m: usize,
@@ -120,15 +105,14 @@ pub fn koralimbu_preview(
         standing.now (buffers tableau.old after.old strides.old) report.old }
 {
     if report.len() != STEP {
-        return Refusal::Length.number();
+        return u32::from(Refusal::Length);
     }
     let p = Problem {
         columns: n,
         rows: m,
         limit: 1,
     };
-    let sight = engine::preview::preview(
-        p,
+    let lists = Lists {
         coefficients,
         rights,
         lower,
@@ -137,12 +121,11 @@ pub fn koralimbu_preview(
         high,
         given,
         ideals,
-        standing,
+    };
+    let lent = Buffers {
         tableau,
-        after,
+        values: after,
         strides,
-    );
-    let seen = sight.seen;
-    tell_step(seen, sight.rounds, report);
-    seen_number(seen)
+    };
+    tell_step(preview(p, lists, standing, lent), report)
 }

@@ -1,42 +1,33 @@
 // The reader's call for C, which has no `requires` either.
 ghost use Rattle.std.specs.Prelude.{◌≡◌, length};
-ghost use Rattle.deck.specs.Reader.{deck_buffers};
-ghost use Rattle.koralimbu.specs.Reads.{reading_number, sizes_of, sizes_length, read_returned, read_called};
+ghost use Rattle.deck.specs.Reader.{DeckBuffers, deck_buffers, read_done};
+ghost use Rattle.koralimbu.specs.Reads.{sizes_length, read_returned, read_told, read_called};
 
-use deck::Reading;
-use problem::Refusal;
+use deck::{Shape, read_deck};
+use problem::{ListsMut, Refusal};
 
 // How many numbers tell the sizes of a text's problem: n, m, and how many of the n columns are intervals.
 const SIZES: usize = 3;
 
-fn reading_number(reading: Reading) -> u32
-    ensures { result ≡ reading_number reading }
-{
-    match reading {
-        Reading::Read(_, _, _) => 0,
-        Reading::Refused(why) => why.number(),
-    }
-}
-
-fn tell_sizes(reading: Reading, sizes: &mut [usize])
+// Writes the sizes of what was read, and returns the refusal's number, 0 for a text that is read.
+fn tell_sizes(reading: Result<Shape, Refusal>, sizes: &mut [usize]) -> u32
     requires { length sizes.old ≡ sizes_length }
-    ensures { sizes.new ≡ sizes_of reading }
+    ensures { (B : DeckBuffers) → read_returned result B sizes.new ≡ read_told (read_done reading B) }
 {
     match reading {
-        Reading::Read(n, m, intervals) => {
-            sizes[0] = n;
-            sizes[1] = m;
-            sizes[2] = intervals;
+        Ok(shape) => {
+            sizes.copy_from_slice(&[shape.columns, shape.rows, shape.intervals]);
+            0
         }
-        Reading::Refused(_) => {
-            sizes[0] = 0;
-            sizes[1] = 0;
-            sizes[2] = 0;
+        Err(why) => {
+            sizes.fill(0);
+            u32::from(why)
         }
     }
 }
 
 // Reads a text into buffers of the largest size.
+#[tactic(auto, using(crate::proofs::ReadLaws::is_unread))]
 pub fn koralimbu_read(
     text: &[u8],
     coefficients: &mut [i64],
@@ -59,10 +50,9 @@ pub fn koralimbu_read(
         sizes.old }
 {
     if sizes.len() != SIZES {
-        return Refusal::Length.number();
+        return u32::from(Refusal::Length);
     }
-    let reading = deck::read_deck(
-        text,
+    let lists = &mut ListsMut {
         coefficients,
         rights,
         lower,
@@ -71,7 +61,6 @@ pub fn koralimbu_read(
         high,
         given,
         ideals,
-    );
-    tell_sizes(reading, sizes);
-    reading_number(reading)
+    };
+    tell_sizes(read_deck(text, lists), sizes)
 }

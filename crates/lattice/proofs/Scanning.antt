@@ -1,19 +1,19 @@
--- Laws of `lead` and `all_zero` for a loop that has come to the number at i.
---   lead_on, lead_at_lem, lead_end   the number there is 0; it is not; there is none left
---   zero_on, zero_at, zero_end       the same of `all_zero`
+-- Laws of `lead` for a loop that has come to the number at i.
+--   lead_on, lead_at_lem, lead_end, lead_past   the number there is 0; it is not; there is none left
 -- Assumes nothing.
-use mathlib.Core.Path.{◌≡◌, refl, ◌∙◌, ap}
-use mathlib.Core.Bool.{true, false}
+use mathlib.Core.Path.{◌≡◌, refl, ap}
 use mathlib.Core.List.{List, ◌∷◌}
+use mathlib.Core.Logic.{⊎_elim}
 use Prim.Native.Nat.{ℕ, zero, suc, ◌+◌, ◌<◌, ◌≤◌}
 use native.Mathlib.Numerals.{add-one}
 use native.Mathlib.Omega.{arith}
-use borrow.Author.Tests.{ne_eqb}
+use Rattle.std.specs.Prelude.{max}
+use Rattle.std.proofs.lemmas.Bool.{cases_lt}
 use lib.IntN.{ℤ, pos, negsuc, nat_abs}
 use lib.ListN.{length, drop, drop_of_length-le}
 use lib.Seq.{drop-cons}
 use Rattle.whole.specs.Lists.{entry}
-use Rattle.lattice.specs.Rows.{lead, all_zero}
+use Rattle.lattice.specs.Rows.{lead}
 
 lead_zero : (x : ℤ) (r : List ℤ) → nat_abs x ≡ 0 → lead (x ∷ r) ≡ suc (lead r)
 unfolding lead
@@ -26,16 +26,6 @@ unfolding lead
 lead_other (pos zero) r e = absurd (e refl)
 lead_other (pos (suc n)) r e = refl
 lead_other (negsuc n) r e = refl
-
-zero_zero : (x : ℤ) (r : List ℤ) → nat_abs x ≡ 0 → all_zero (x ∷ r) ≡ all_zero r
-unfolding all_zero
-zero_zero (pos zero) r e = refl
-zero_zero (pos (suc n)) r e = absurd (omega arith)
-zero_zero (negsuc n) r e = absurd (omega arith)
-
-zero_other : (x : ℤ) (r : List ℤ) → (nat_abs x ≡ 0 → ⊥) → all_zero (x ∷ r) ≡ false
-unfolding all_zero
-zero_other x r e = rw (ne_eqb (nat_abs x) 0 e)
 
 module _ (row : List ℤ) (i : ℕ) where
   split : i < length row → drop i row ≡ entry i row ∷ drop (i + 1) row
@@ -51,12 +41,11 @@ module _ (row : List ℤ) (i : ℕ) where
   unfolding lead
   lead_end l = rw (drop_of_length-le row {i = i} l) (omega arith)
 
-  pub zero_on : i < length row → nat_abs (entry i row) ≡ 0 → all_zero (drop i row) ≡ all_zero (drop (i + 1) row)
-  zero_on l e = ap all_zero (split l) ∙ zero_zero (entry i row) (drop (i + 1) row) e
-
-  pub zero_at : i < length row → (nat_abs (entry i row) ≡ 0 → ⊥) → all_zero (drop i row) ≡ false
-  zero_at l e = ap all_zero (split l) ∙ zero_other (entry i row) (drop (i + 1) row) e
-
-  pub zero_end : length row ≤ i → all_zero (drop i row) ≡ true
-  unfolding all_zero
-  zero_end l = rw (drop_of_length-le row {i = i} l)
+-- past the last number, also where the loop began behind it
+pub lead_past : (row : List ℤ) (i from : ℕ) → length row ≤ i → (from ≤ length row → i ≤ length row)
+    → i + lead (drop i row) ≡ from + lead (drop from row)
+    → max from (length row) ≡ from + lead (drop from row)
+lead_past row i from l b e =
+    let z : i ≡ i + lead (drop i row) = lead_end row i l in
+    ⊎_elim (λ (h : from < length row). omega (arith, b (omega arith))) (λ (h : length row ≤ from). omega (arith, lead_end row from h))
+    (cases_lt from (length row))

@@ -1,12 +1,10 @@
 #![tactic(auto)]
 
 // The listing program: a text from standard input, its listing to standard output. What goes wrong with either is told on standard error.
-ghost use Rattle.std.specs.Prelude.{◌≡◌, ◌+◌, ◌≤◌, length, take, IfOk};
+ghost use Rattle.std.specs.Prelude.{◌≡◌, ◌+◌, ◌≤◌, length, take, IfOk, Ok};
 ghost use Rattle.report.specs.Listing.{listing_done};
-ghost use Rattle.report.specs.declared.Written.TheVariants.{Bytes};
 ghost use Rattle.solve.specs.Program.{print_into, listing_room};
 
-use report::Written;
 use sections::Sizes;
 use std::env::{Env, FillError};
 use std::io;
@@ -40,17 +38,12 @@ fn read_text(input: Stdin, text: &mut [u8]) -> io::Result<usize>
 }
 
 // Puts the listing of a text at the front of a buffer that has room for any, and returns its length. By the theorem `every_text_is_listed` of
-// solve/proofs/Listed.antt the other two answers are never given.
+// solve/proofs/Listed.antt there is one.
 fn fill(text: &[u8], out: &mut [u8]) -> usize
     requires { listing_room ≤ length out.old }
-    ensures { listing_done (Bytes result) out.new ≡ print_into out.old text.now }
+    ensures { listing_done (Ok result) out.new ≡ print_into out.old text.now }
 {
-    let written = solve::list_text(text, out);
-    match written {
-        Written::Bytes(n) => n,
-        Written::Uneven => 0,
-        Written::NoRoom => 0,
-    }
+    solve::list_text(text, out).unwrap()
 }
 
 // The system's words for an error, without the number that is printed behind them.

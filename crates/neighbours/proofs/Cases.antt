@@ -7,12 +7,12 @@
 --   v5            a slack, none, although it shares a row with v3
 --   marks, ideals the two lists
 -- Assumes nothing.
+use Rattle.std.specs.Prelude.{None, Some}
 use mathlib.Core.Path.{◌≡◌, refl}
 use mathlib.Core.List.{List, [], ◌∷◌}
 use lib.IntN.{ℤ, pos, negsuc}
 use Rattle.whole.specs.Tests.{every}
 use Rattle.goals.specs.Ideals.{root_bits, whole_root, goal_ideal}
-use Rattle.goals.specs.declared.Wish.TheVariants.{Unset, Set}
 use Rattle.neighbours.specs.Neighbours.{Stated, stated_by, chosen, total, neighbour_wish, numbers_from, given_of, ideals_of}
 
 abbrev five : ℤ → ℤ → ℤ → ℤ → ℤ → List ℤ → List ℤ
@@ -29,23 +29,23 @@ stated =
     (five (pos 0) (pos 4500) (pos 20000) (pos 0) (pos 0) [])
     (five (pos 0) (pos 18000) (pos 20000) (pos 0) (pos 0) [])
 
-pub v1 : neighbour_wish stated 0 ≡ Set (pos 5)
+pub v1 : neighbour_wish stated 0 ≡ Some (pos 5)
 unfolding every root_bits whole_root goal_ideal chosen total neighbour_wish
 v1 = refl
 
-pub v2 : neighbour_wish stated 1 ≡ Unset
+pub v2 : neighbour_wish stated 1 ≡ None
 unfolding neighbour_wish
 v2 = refl
 
-pub v3 : neighbour_wish stated 2 ≡ Unset
+pub v3 : neighbour_wish stated 2 ≡ None
 unfolding neighbour_wish
 v3 = refl
 
-pub v4 : neighbour_wish stated 3 ≡ Unset
+pub v4 : neighbour_wish stated 3 ≡ None
 unfolding every root_bits whole_root goal_ideal chosen total neighbour_wish
 v4 = refl
 
-pub v5 : neighbour_wish stated 4 ≡ Unset
+pub v5 : neighbour_wish stated 4 ≡ None
 unfolding neighbour_wish
 v5 = refl
 

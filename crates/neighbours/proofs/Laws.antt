@@ -1,35 +1,56 @@
 -- Laws of the reader's ideals.
+--   any_row              a row passes a test, where not every one fails it
 --   Summed t x k h s c   s is the sum of the numbers x of the columns from h to k that the test t admits, and c is how many they are; what is
 --                        admitted lies within the limit of bounds, so the sum is small
 --   summed_none          past the last column both are 0
 --   summed_skip, -more   one column further up: it is not admitted, or it is
 --   summed_all           from the first column on it is the whole mean
 --   ideal_within         an ideal lies within the limit of bounds where the column's bounds do
---   numbers_length, -at how many numbers there are, and which stands at a place
+--   numbers_length, -at how many numbers there are, and which stands at a place; numbers_all, a list that has them at each is that list
 --   numbers_past        where the numbers are 0 from some column on, they are those before it and zeros
 --   wish_past, -goal     nothing is handed in for a column past the intervals, nor for one with a goal
 --   wish_plain           for a plain interval it is the mean
 -- Assumes nothing.
+use Rattle.std.specs.List.{list_any, list_all, range_with_len}
+use Rattle.std.proofs.lemmas.List.FromFn.{length-range_with_len, get_or-range_with_len}
+use Rattle.std.specs.Prelude.{None}
 use mathlib.Core.Path.{◌≡◌, refl, sym, ◌∙◌, ap, subst}
-use mathlib.Core.Bool.{Bool, true, false, cond, ◌&&◌, and-false}
+use mathlib.Core.Bool.{Bool, true, false, not, cond, ◌||◌, ◌&&◌, and-false, true≢false}
 use mathlib.Core.List.{List, [], ◌∷◌, ◌++◌}
 use Prim.Native.Nat.{ℕ, zero, suc, ◌+◌, ◌*◌, ◌-◌, ◌<◌, ◌≤◌}
+use native.Mathlib.Nat.{zero-add}
 use native.Mathlib.Omega.{arith}
-use borrow.Author.Tests.{lt-ltb, le-ltb}
+use borrow.Author.Tests.{lt-ltb, le-ltb, ltb-false}
 use lib.Dec.{ltb}
-use lib.IntN.{ℤ, pos, nat_abs, ◌+ℤ◌}
-use lib.ListN.{length}
+use lib.IntN.{ℤ, pos, negsuc, nat_abs, ◌+ℤ◌}
+use lib.Signed.{lt_z}
+use lib.ListN.{length, get_or}
+use lib.Seq.{ext_get_or}
 use Rattle.whole.specs.Lists.{entry, zeros}
-use Rattle.whole.specs.Tests.{is_zero}
+use Rattle.whole.specs.Tests.{is_zero, every}
+use Rattle.whole.proofs.Counted.{every_list, every_same}
 use Rattle.whole.proofs.Integers.{rep, diff_rel}
 use Rattle.whole.proofs.Signed.{abs_add}
 use Rattle.problem.specs.Limits.{max_bound}
-use Rattle.goals.specs.Ideals.{goal_ideal}
-use Rattle.goals.specs.declared.Wish.TheVariants.{Unset, Set}
-use Rattle.goals.specs.Wishes.{ideal}
-use Rattle.settling.proofs.Seats.{ideal_small}
+use Rattle.goals.specs.Wishes.{into}
 use Rattle.neighbours.specs.Neighbours.{Stated, ideal_of, chosen, total, mean, mean_by}
 use Rattle.neighbours.specs.Neighbours.{neighbour_ideals, is_plain_interval, neighbour_wish, numbers_from}
+
+-- ---- the rows, one after the other
+any_all : (t : ℕ → Bool) (l : List ℕ) → list_any t l ≡ not (list_all (λ i. not (t i)) l)
+any_all t [] = refl
+any_all t (i ∷ l) = go (t i) (any_all t l)
+  where
+    go : (b : Bool) → list_any t l ≡ not (list_all (λ i. not (t i)) l) → b || list_any t l ≡ not (not b && list_all (λ i. not (t i)) l)
+    go true e = refl
+    go false e = e
+
+pub any_row : (n : ℕ) (t : ℕ → Bool) → list_any t (range_with_len 0 n) ≡ not (every n (λ i. not (t i)))
+any_row n t =
+    any_all t (range_with_len 0 n)
+    ∙ ap not (sym (every_list (λ i. not (t i)) 0 (range_with_len 0 n))
+    ∙ ap (λ k. every k (λ i. not (t (get_or (range_with_len 0 n) i 0)))) (length-range_with_len 0 n)
+    ∙ every_same n _ _ (λ i h. ap (λ k. not (t k)) (get_or-range_with_len 0 n i 0 h ∙ zero-add i)))
 
 -- ---- the sum over the neighbours, from the last column up
 pub record Summed (t : ℕ → Bool) (x : ℕ → ℤ) (k h : ℕ) (s : ℤ) (c : ℕ) : Type 0 where
@@ -106,25 +127,38 @@ module _ (t : ℕ → Bool) (x : ℕ → ℤ) where
       (λ i. mean_by ((z.sum ∙ ap total l) i) ((z.count ∙ ap length l) i))
 
 -- ---- an ideal
+upper_small : (k y : ℕ) (hi : ℤ) → nat_abs hi ≤ k → lt_z hi (pos y) ≡ false → y ≤ k
+upper_small k y (pos h) b e = omega (arith, ltb-false h y e)
+upper_small k y (negsuc h) b e = absurd (true≢false e)
+
+into_small : (k y : ℕ) (lo hi : ℤ) → nat_abs lo ≤ k → nat_abs hi ≤ k → nat_abs (into lo hi (pos y)) ≤ k
+into_small k y lo hi a b = pick (lt_z (pos y) lo) (lt_z hi (pos y)) refl
+  where
+    pick : (s t : Bool) → lt_z hi (pos y) ≡ t → nat_abs (cond s lo (cond t hi (pos y))) ≤ k
+    pick true t e = a
+    pick false true e = b
+    pick false false e = upper_small k y hi b e
+
 pub ideal_within : (S : Stated) (h : ℕ) → nat_abs (S.lower h) ≤ max_bound → nat_abs (S.upper h) ≤ max_bound → nat_abs (ideal_of S h) ≤ max_bound
-unfolding ideal
-ideal_within S h a b = ideal_small (S.lower h) (S.upper h) (Set (pos (goal_ideal (nat_abs (S.low h)) (nat_abs (S.high h))))) (pos 0) a b
+ideal_within S h a b = into_small max_bound _ (S.lower h) (S.upper h) a b
+
+pub ruleset mean_loop = (summed_none, summed_skip, summed_more, summed_all, ideal_within)
 
 -- ---- what is handed in
 module _ (S : Stated) (j : ℕ) where
-  nothing : is_plain_interval S j ≡ false → neighbour_wish S j ≡ Unset
+  nothing : is_plain_interval S j ≡ false → neighbour_wish S j ≡ None
   unfolding neighbour_wish
-  nothing e = ap (λ (b : Bool). cond b (mean (neighbour_ideals S j)) Unset) e
+  nothing e = ap (λ (b : Bool). cond b (mean (neighbour_ideals S j)) None) e
 
-  pub wish_past : S.intervals ≤ j → neighbour_wish S j ≡ Unset
+  pub wish_past : S.intervals ≤ j → neighbour_wish S j ≡ None
   wish_past h = nothing (ap (λ (b : Bool). b && is_zero (S.low j)) (le-ltb j S.intervals h))
 
-  pub wish_goal : is_zero (S.low j) ≡ false → neighbour_wish S j ≡ Unset
+  pub wish_goal : is_zero (S.low j) ≡ false → neighbour_wish S j ≡ None
   wish_goal e = nothing (ap (λ (b : Bool). ltb j S.intervals && b) e ∙ and-false (ltb j S.intervals))
 
   pub wish_plain : j < S.intervals → is_zero (S.low j) ≡ true → neighbour_wish S j ≡ mean (neighbour_ideals S j)
   unfolding neighbour_wish
-  wish_plain h e = (λ i. cond (lt-ltb j S.intervals h i && e i) (mean (neighbour_ideals S j)) Unset)
+  wish_plain h e = (λ i. cond (lt-ltb j S.intervals h i && e i) (mean (neighbour_ideals S j)) None)
 
 -- ---- numbers by column
 pub numbers_length : (f : ℕ → ℤ) (k j : ℕ) → length (numbers_from f k j) ≡ k
@@ -137,6 +171,12 @@ unfolding numbers_from
 numbers_at f zero j i s h e = absurd (omega (arith, h))
 numbers_at f (suc k) j zero s h e = ap f (omega (arith, e))
 numbers_at f (suc k) j (suc i) s h e = numbers_at f k (suc j) i s (omega (arith, h)) (omega (arith, e))
+
+-- a list that has them at each place is that list
+pub numbers_all : (f : ℕ → ℤ) (k : ℕ) (l : List ℤ) → length l ≡ k → ((i : ℕ) → i < k → entry i l ≡ f i) → l ≡ numbers_from f k 0
+numbers_all f k l h e =
+    ext_get_or (pos 0) l (numbers_from f k 0) (h ∙ sym (numbers_length f k 0))
+    (λ i m. e i (omega arith) ∙ sym (numbers_at f k 0 i i (omega arith) (omega arith)))
 
 numbers_zeros : (f : ℕ → ℤ) (r j : ℕ) → ((i : ℕ) → j ≤ i → f i ≡ pos 0) → numbers_from f r j ≡ zeros r
 unfolding numbers_from

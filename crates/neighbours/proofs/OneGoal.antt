@@ -1,4 +1,5 @@
 -- Where both goals are the same, the reader's ideals are made of document 01's. Assumes nothing.
+use Rattle.std.specs.Prelude.{None}
 use mathlib.Core.Path.{◌≡◌, sym, ◌∙◌}
 use mathlib.Core.Bool.{cond}
 use Prim.Native.Nat.{ℕ, ◌≤◌}
@@ -6,7 +7,6 @@ use lib.IntN.{pos, nat_abs}
 use Rattle.problem.specs.Limits.{max_goal}
 use Rattle.goals.specs.Ideals.{goal_ideal}
 use Rattle.goals.specs.Wishes.{into}
-use Rattle.goals.specs.declared.Wish.TheVariants.{Unset}
 use Rattle.goals.proofs.OneGoal.{ideal_kept}
 use Rattle.neighbours.specs.Neighbours.{Stated, ideal_of, is_neighbour, chosen, mean, is_plain_interval, neighbour_wish}
 use Rattle.neighbours.specs.OneGoal.{one_goal_ideal_of, OneGoalWishes}
@@ -20,4 +20,4 @@ module _ (S : Stated) (e : S.low ≡ S.high) (b : (h : ℕ) → nat_abs (S.low h
 pub one_goal_wishes : OneGoalWishes
 unfolding neighbour_wish
 one_goal_wishes S e b j = λ i.
-    cond (is_plain_interval S j) (mean (chosen (is_neighbour S j) (λ h. same S e b h i) S.intervals 0)) Unset
+    cond (is_plain_interval S j) (mean (chosen (is_neighbour S j) (λ h. same S e b h i) S.intervals 0)) None

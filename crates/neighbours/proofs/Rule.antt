@@ -4,6 +4,7 @@
 --   columns t k h    the columns that a test admits, of k from h on: their numbers are those chosen, each stands once, and they are all
 --   readers_rule     the rule
 -- Assumes nothing.
+use Rattle.std.specs.Prelude.{None, Some}
 use mathlib.Core.Path.{◌≡◌, refl, sym, ◌∙◌, ap, subst}
 use mathlib.Core.Logic.{◌↔◌, inl, inr, ⊎_elim}
 use mathlib.Core.Bool.{Bool, true, false, not, cond, ◌&&◌, true≢false}
@@ -19,7 +20,6 @@ use Rattle.whole.specs.Tests.{is_zero, every, positive}
 use Rattle.whole.proofs.Counted.{every_not}
 use Rattle.whole.proofs.Integers.{is_zero_true, floor_quotient_low, floor_quotient_high}
 use Rattle.whole.proofs.Tests.{both_true}
-use Rattle.goals.specs.declared.Wish.TheVariants.{Unset, Set}
 use Rattle.neighbours.specs.Neighbours.{Stated, in_row, shares, is_neighbour, ideal_of, chosen, neighbour_ideals}
 use Rattle.neighbours.specs.Neighbours.{total, mean_by, mean, is_plain_interval, neighbour_wish}
 use Rattle.neighbours.specs.Rule.{SharedRow, Neighbour, Plain, Apart, Among, HandsMean, ReadersRule}
@@ -168,7 +168,7 @@ module _ (S : Stated) (j : ℕ) where
   hands p [] e h a = absurd a
   hands p (k ∷ l) e h a =
       let x : ℤ = floor_quotient (total (map (ideal_of S) (k ∷ l))) (pos (length (k ∷ l))) in
-      let w : neighbour_wish S j ≡ Set x =
+      let w : neighbour_wish S j ≡ Some x =
       rw p (mean_is ∙ ap (λ (u : List ℕ). mean_by (total (map (ideal_of S) u)) (length u)) e) in
       record {
         number = x;
@@ -182,12 +182,12 @@ module _ (S : Stated) (j : ℕ) where
         };
       }
 
-  none_beside : (l : List ℕ) → beside ≡ l → ((h : ℕ) → Among h l → ⊥) → mean (neighbour_ideals S j) ≡ Unset
+  none_beside : (l : List ℕ) → beside ≡ l → ((h : ℕ) → Among h l → ⊥) → mean (neighbour_ideals S j) ≡ None
   none_beside [] e f = mean_is ∙ ap (λ (u : List ℕ). mean_by (total (map (ideal_of S) u)) (length u)) e
   none_beside (k ∷ l) e f = absurd (f k (inl refl))
 
   -- where nothing is asked of it, or there is nothing to take the mean of
-  unset : (t : Bool) → is_plain_interval S j ≡ t → (is_plain_interval S j ≡ true → mean (neighbour_ideals S j) ≡ Unset) → neighbour_wish S j ≡ Unset
+  unset : (t : Bool) → is_plain_interval S j ≡ t → (is_plain_interval S j ≡ true → mean (neighbour_ideals S j) ≡ None) → neighbour_wish S j ≡ None
   unfolding neighbour_wish
   unset true p f = rw p (f p)
   unset false p f = rw p refl

@@ -1,12 +1,10 @@
 -- What the reader's ideals need of the lists that they are made from.
 --   LongEnough n m k c lo hi gs hs   lists with a number for each column, and coefficients for each row; the intervals are columns
 --   SmallColumns k lo hi gs hs   bounds and goals of the first k columns lie within the limits
---   rows_by n m c             what the coefficients alone state
 -- Assumes nothing.
-use Rattle.std.specs.Prelude.{List, [], ℕ, ◌*◌, ◌<◌, ◌≤◌, ℤ, nat_abs, length}
+use Rattle.std.specs.Prelude.{List, ℕ, ◌*◌, ◌<◌, ◌≤◌, ℤ, nat_abs, length}
 use Rattle.whole.specs.Lists.{entry}
 use Rattle.problem.specs.Limits.{max_columns, max_rows, max_bound, max_goal}
-use Rattle.neighbours.specs.Neighbours.{Stated, stated_by}
 
 pub record LongEnough (n m k : ℕ) (c lo hi gs hs : List ℤ) : Type 0 where
   pub few : n ≤ max_columns
@@ -23,6 +21,3 @@ pub record SmallColumns (k : ℕ) (lo hi gs hs : List ℤ) : Type 0 where
   pub upper : (j : ℕ) → j < k → nat_abs (entry j hi) ≤ max_bound
   pub low : (j : ℕ) → j < k → nat_abs (entry j gs) ≤ max_goal
   pub high : (j : ℕ) → j < k → nat_abs (entry j hs) ≤ max_goal
-
-abbrev pub rows_by : ℕ → ℕ → List ℤ → Stated
-rows_by n m c = stated_by n m 0 c [] [] [] []

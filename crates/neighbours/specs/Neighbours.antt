@@ -16,14 +16,12 @@
 --   given_of, ideals_of S k   the two lists of k columns: whether an ideal is set, and the number
 -- "neighbour" is document 02's own term.
 -- Assumes nothing.
-use Rattle.std.specs.Prelude.{Bool, not, cond, ◌&&◌, List, [], ◌∷◌, ℕ, zero, suc, ◌+◌, ◌*◌, ltb, ℤ, pos, nat_abs, ◌+ℤ◌, length}
+use Rattle.std.specs.Prelude.{Bool, not, cond, ◌&&◌, List, [], ◌∷◌, ℕ, zero, suc, ◌+◌, ◌*◌, ltb, ℤ, pos, nat_abs, ◌+ℤ◌, length, None, Some}
 use Rattle.whole.specs.Lists.{entry}
 use Rattle.whole.specs.Quotient.{floor_quotient}
 use Rattle.whole.specs.Tests.{is_zero, every}
 use Rattle.goals.specs.Ideals.{goal_ideal}
-use Rattle.goals.specs.declared.Wish.{Wish}
-use Rattle.goals.specs.declared.Wish.TheVariants.{Unset, Set}
-use Rattle.goals.specs.Wishes.{into, wish_mark, wish_number}
+use Rattle.goals.specs.Wishes.{Wish, into, wish_mark, wish_number}
 
 pub record Stated : Type 0 where
   pub rows : ℕ
@@ -78,8 +76,8 @@ total (x ∷ l) = x +ℤ total l
 
 -- "It is unset if there are none"
 abbrev pub mean_by : ℤ → ℕ → Wish
-mean_by s zero = Unset
-mean_by s (suc c) = Set (floor_quotient s (pos (suc c)))
+mean_by s zero = None
+mean_by s (suc c) = Some (floor_quotient s (pos (suc c)))
 
 abbrev pub mean : List ℤ → Wish
 mean l = mean_by (total l) (length l)
@@ -89,7 +87,7 @@ abbrev pub is_plain_interval : Stated → ℕ → Bool
 is_plain_interval S j = ltb j S.intervals && is_zero (S.low j)
 
 unfoldable pub neighbour_wish : Stated → ℕ → Wish
-neighbour_wish S j = cond (is_plain_interval S j) (mean (neighbour_ideals S j)) Unset
+neighbour_wish S j = cond (is_plain_interval S j) (mean (neighbour_ideals S j)) None
 
 unfoldable pub numbers_from : (ℕ → ℤ) → ℕ → ℕ → List ℤ
 numbers_from f zero j = []

@@ -11,8 +11,7 @@
 --   ReadersRule       so it is for every column of whatever a text states
 -- The theorem is `readers_rule`, in proofs/Rule.
 -- Assumes nothing.
-use Rattle.std.specs.Prelude.{◌≡◌, ◌↔◌, ◌⊎◌, List, [], ◌∷◌, map, ℕ, suc, ◌<◌, ◌≤◌, ℤ, pos, neg_ℤ, ◌+ℤ◌, ◌*ℤ◌, length, ◌≤ℤ◌, ◌<ℤ◌}
-use Rattle.goals.specs.declared.Wish.TheVariants.{Unset, Set}
+use Rattle.std.specs.Prelude.{◌≡◌, ◌↔◌, ◌⊎◌, List, [], ◌∷◌, map, ℕ, suc, ◌<◌, ◌≤◌, ℤ, pos, neg_ℤ, ◌+ℤ◌, ◌*ℤ◌, length, ◌≤ℤ◌, ◌<ℤ◌, None, Some}
 use Rattle.neighbours.specs.Neighbours.{Stated, ideal_of, total, neighbour_wish}
 
 pub record SharedRow (S : Stated) (j h : ℕ) : Type 0 where
@@ -53,7 +52,7 @@ pub record Mean (S : Stated) (j : ℕ) (x : ℤ) : Type 0 where
 
 pub record HandsMean (S : Stated) (j : ℕ) : Type 0 where
   pub number : ℤ
-  pub is : neighbour_wish S j ≡ Set number
+  pub is : neighbour_wish S j ≡ Some number
   pub mean : Mean S j number
 
 -- ---- the rule
@@ -61,9 +60,9 @@ pub record ReaderRule (S : Stated) (j : ℕ) : Type 0 where
   -- "the reader gives such an interval an ideal: the mean .."
   pub mean : Plain S j → (h : ℕ) → Neighbour S j h → HandsMean S j
   -- "It is unset if there are none"
-  pub none : ((h : ℕ) → Neighbour S j h → ⊥) → neighbour_wish S j ≡ Unset
+  pub none : ((h : ℕ) → Neighbour S j h → ⊥) → neighbour_wish S j ≡ None
   -- "and for slacks"; nor is one given where there is a goal
-  pub other : (Plain S j → ⊥) → neighbour_wish S j ≡ Unset
+  pub other : (Plain S j → ⊥) → neighbour_wish S j ≡ None
 
 abbrev pub ReadersRule : Type 0
 ReadersRule = (S : Stated) (j : ℕ) → ReaderRule S j

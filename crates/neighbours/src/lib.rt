@@ -1,63 +1,71 @@
 #![tactic(auto)]
 
 // Document 02, (ii): the ideals that the reader hands in for plain intervals, made from those of their neighbours.
-ghost use Rattle.std.specs.Prelude.{◌≡◌, not, ◌&&◌, ◌*◌, ◌<◌, ◌≤◌, pos, nat_abs, length};
+mod sheet;
+
+ghost use Rattle.std.specs.Prelude.{◌≡◌, ◌<◌, ◌≤◌, length};
 ghost use Rattle.whole.specs.Lists.{entry};
-ghost use Rattle.whole.specs.Tests.{is_zero};
-ghost use Rattle.problem.specs.Limits.{max_columns, max_rows, max_goal};
-ghost use Rattle.goals.specs.Ideals.{goal_ideal};
-ghost use Rattle.goals.specs.Wishes.{into};
-ghost use Rattle.neighbours.specs.Beside.{LongEnough, SmallColumns, rows_by};
-ghost use Rattle.neighbours.specs.Neighbours.{stated_by, shares, neighbour_ideals, mean_by, mean, neighbour_wish, given_of, ideals_of};
+ghost use Rattle.problem.specs.Limits.{max_columns};
+ghost use Rattle.neighbours.specs.Sheets.{stated};
+ghost use Rattle.neighbours.specs.Neighbours.{ideal_of, shares, neighbour_ideals, mean_by, mean, neighbour_wish, given_of, ideals_of};
 
 use goals::{Wish, goal_ideal, into_bounds, wish_mark, wish_number};
-use settling::measures::is_zero;
+pub use sheet::Sheet;
 use whole::floor_quotient;
 
-// How many columns and rows a problem has, and how many of its columns are intervals.
-#[derive(Clone, Copy)]
-pub struct Shape {
-    pub columns: usize,
-    pub rows: usize,
-    pub intervals: usize,
-}
-
-// Whether two coefficients are both other than 0.
-fn both_nonzero(x: i64, y: i64) -> bool
-    ensures { result ≡ (not (is_zero x) && not (is_zero y)) }
-{
-    if is_zero(x) {
-        return false;
+impl<'a> Sheet<'a> {
+    // The coefficient of row i at column j.
+    fn coefficient(self, i: usize, j: usize) -> i64
+        requires { (i < self.rows) × (j < self.columns) }
+        ensures { result ≡ (stated self.entry).coefficient i j }
+    {
+        self.coefficients[i * self.columns + j]
     }
-    !is_zero(y)
-}
 
-// Whether columns j and h have a nonzero coefficient in the same row.
-fn share_row(shape: Shape, coefficients: &[i64], j: usize, h: usize) -> bool
-    requires { (shape.columns ≤ max_columns) × (shape.rows ≤ max_rows) × (shape.rows * shape.columns ≤ length coefficients.now)
-        × (j < shape.columns) × (h < shape.columns) }
-    ensures { result ≡ shares (rows_by shape.columns shape.rows coefficients.now) j h }
-{
-    let n = shape.columns;
-    let m = shape.rows;
-    let mut i = 0;
-    while i < m {
-        let at = i * n;
-        if both_nonzero(coefficients[at + j], coefficients[at + h]) {
-            return true;
+    // Whether columns j and h have a nonzero coefficient in the same row.
+    fn share_row(self, j: usize, h: usize) -> bool
+        requires { (j < self.columns) × (h < self.columns) }
+        ensures { result ≡ shares (stated self.entry) j h }
+    {
+        (0..self.rows).any(|i| self.coefficient(i, j) != 0 && self.coefficient(i, h) != 0)
+    }
+
+    // The ideal of interval h, where it has a goal.
+    fn ideal(self, h: usize) -> i64
+        requires { h < self.intervals }
+        ensures { result ≡ ideal_of (stated self.entry) h }
+    {
+        let wanted = goal_ideal(self.low[h], self.high[h]);
+        into_bounds(self.lower[h], self.upper[h], wanted)
+    }
+
+    // The mean of the ideals of the neighbours of column j, from the last one. Each column is looked at once, and so counted once.
+    #[tactic(auto, using(crate::proofs::Laws::mean_loop))]
+    fn mean_beside(self, j: usize) -> Wish
+        requires { j < self.columns }
+        ensures { result ≡ mean (neighbour_ideals (stated self.entry) j) }
+    {
+        let mut sum = 0;
+        let mut count = 0;
+        for h in (0..self.intervals).rev() {
+            if self.low[h] != 0 && self.share_row(j, h) {
+                sum += self.ideal(h);
+                count += 1;
+            }
         }
-        i += 1;
+        mean_by(sum, count)
     }
-    false
-}
 
-// The ideal of a column with a goal.
-fn ideal_of(lower: i64, upper: i64, low: i64, high: i64) -> i64
-    requires { (nat_abs low ≤ max_goal) × (nat_abs high ≤ max_goal) }
-    ensures { result ≡ into lower upper (pos (goal_ideal (nat_abs low) (nat_abs high))) }
-{
-    let wanted = goal_ideal(low, high);
-    into_bounds(lower, upper, wanted)
+    // What is handed in for column j: nothing for a slack, nor where there is a goal.
+    #[tactic(auto, using(crate::proofs::Laws::wish_past, crate::proofs::Laws::wish_goal, crate::proofs::Laws::wish_plain))]
+    fn neighbour_wish(self, j: usize) -> Wish
+        ensures { result ≡ neighbour_wish (stated self.entry) j }
+    {
+        if self.intervals <= j || self.low[j] != 0 {
+            return None;
+        }
+        self.mean_beside(j)
+    }
 }
 
 // A sum over a count, rounded down; nothing where there is nothing to count.
@@ -66,89 +74,20 @@ fn mean_by(sum: i64, count: usize) -> Wish
     ensures { result ≡ mean_by sum count }
 {
     if count == 0 {
-        return Wish::Unset;
+        return None;
     }
-    Wish::Set(floor_quotient(sum, count as i64))
-}
-
-// The mean of the ideals of the neighbours of column j, from the last one. Each column is looked at once, and so counted once.
-fn mean_beside(
-    shape: Shape,
-    coefficients: &[i64],
-    lower: &[i64],
-    upper: &[i64],
-    low: &[i64],
-    high: &[i64],
-    j: usize,
-) -> Wish
-    requires { LongEnough shape.columns shape.rows shape.intervals coefficients.now lower.now upper.now low.now high.now
-        × SmallColumns shape.intervals lower.now upper.now low.now high.now × (j < shape.columns) }
-    ensures { result ≡ mean (neighbour_ideals (stated_by shape.columns shape.rows shape.intervals coefficients.now
-        lower.now upper.now low.now high.now) j) }
-{
-    let mut sum = 0;
-    let mut count = 0;
-    let mut h = shape.intervals;
-    while 0 < h {
-        h -= 1;
-        let goal = low[h];
-        if !is_zero(goal) {
-            if share_row(shape, coefficients, j, h) {
-                sum += ideal_of(lower[h], upper[h], goal, high[h]);
-                count += 1;
-            }
-        }
-    }
-    mean_by(sum, count)
-}
-
-// What is handed in for column j: nothing for a slack, nor where there is a goal.
-fn neighbour_wish(
-    shape: Shape,
-    coefficients: &[i64],
-    lower: &[i64],
-    upper: &[i64],
-    low: &[i64],
-    high: &[i64],
-    j: usize,
-) -> Wish
-    requires { LongEnough shape.columns shape.rows shape.intervals coefficients.now lower.now upper.now low.now high.now
-        × SmallColumns shape.intervals lower.now upper.now low.now high.now }
-    ensures { result ≡ neighbour_wish (stated_by shape.columns shape.rows shape.intervals coefficients.now
-        lower.now upper.now low.now high.now) j }
-{
-    if shape.intervals <= j {
-        return Wish::Unset;
-    }
-    if !is_zero(low[j]) {
-        return Wish::Unset;
-    }
-    mean_beside(shape, coefficients, lower, upper, low, high, j)
+    Some(floor_quotient(sum, count as i64))
 }
 
 // Fills the two lists of ideals, whether one is set and the number, for as many columns as they have room for.
-pub fn hand_in(
-    shape: Shape,
-    coefficients: &[i64],
-    lower: &[i64],
-    upper: &[i64],
-    low: &[i64],
-    high: &[i64],
-    given: &mut [i64],
-    ideals: &mut [i64],
-)
-    requires { LongEnough shape.columns shape.rows shape.intervals coefficients.now lower.now upper.now low.now high.now
-        × SmallColumns shape.intervals lower.now upper.now low.now high.now × (length ideals.old ≡ length given.old) }
-    ensures { (given.new ≡ given_of (stated_by shape.columns shape.rows shape.intervals coefficients.now
-        lower.now upper.now low.now high.now) (length given.old))
-        × (ideals.new ≡ ideals_of (stated_by shape.columns shape.rows shape.intervals coefficients.now
-        lower.now upper.now low.now high.now) (length given.old)) }
+#[tactic(auto, using(crate::proofs::Laws::numbers_all))]
+pub fn hand_in(sheet: Sheet<'_>, given: &mut [i64], ideals: &mut [i64])
+    requires { length ideals.old ≡ length given.old }
+    ensures { (given.new ≡ given_of (stated sheet.entry) (length given.old)) × (ideals.new ≡ ideals_of (stated sheet.entry) (length given.old)) }
 {
-    let mut j = 0;
-    while j < given.len() {
-        let wish = neighbour_wish(shape, coefficients, lower, upper, low, high, j);
+    for j in 0..given.len() {
+        let wish = sheet.neighbour_wish(j);
         given[j] = wish_mark(wish);
         ideals[j] = wish_number(wish);
-        j += 1;
     }
 }

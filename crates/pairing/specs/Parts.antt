@@ -3,6 +3,8 @@
 --                      the marks of the ideals that are set, 0 where none is, and their numbers
 --   Part               a problem without a step limit, its sizes and its lists: "Two blocks of a hull share curves."
 --   lists, part_of     the eight lists of a call's arguments, and a part of its sizes (Sizes is declared in src/) and its lists
+--   lent_lists         what the lists hold that are lent as one argument (declared in the problem's src/); mut_lists, those that are lent to be
+--                      filled
 --   sized n m limit    the sizes as a problem's numbers, with a step limit
 --   as_posed P limit   a part as a call takes it, with a step limit
 --   room_for p         the lengths of the buffers that a call on the problem p fills
@@ -23,7 +25,9 @@ use Rattle.lattice.specs.Sums.{Satisfies}
 use Rattle.problem.specs.Checks.{Posed, row_lengths_fit, column_lengths_fit, ideal_lengths_fit, first_cause}
 use Rattle.problem.specs.declared.Problem.{Problem}
 use Rattle.problem.specs.declared.Lent.{Lent}
-use Rattle.problem.specs.declared.Check.{Check}
+use Rattle.problem.specs.declared.Lists as Declared
+use Rattle.problem.specs.declared.ListsMut as DeclaredMut
+use Rattle.problem.specs.Checks.{Check}
 use Rattle.pairing.specs.declared.Sizes.{Sizes}
 
 pub record Lists : Type 0 where
@@ -52,6 +56,15 @@ lists coefficients rights lower upper low high given ideals = record {
   given = given;
   ideals = ideals;
 }
+
+-- of lists that are lent (declared in the problem's src/), what they hold
+abbrev pub lent_lists : Declared.Lists → Lists
+lent_lists l =
+    lists l.coefficients.now l.rights.now l.lower.now l.upper.now l.low.now l.high.now l.given.now l.ideals.now
+
+abbrev pub mut_lists : DeclaredMut.ListsMut → Lists
+mut_lists l =
+    lists l.coefficients.now l.rights.now l.lower.now l.upper.now l.low.now l.high.now l.given.now l.ideals.now
 
 abbrev pub part_of : Sizes → Lists → Part
 part_of s l = record { columns = s.columns; rows = s.rows; lists = l }

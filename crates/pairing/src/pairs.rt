@@ -3,107 +3,77 @@ ghost use Rattle.std.specs.Prelude.{◌≡◌, ◌<◌, length};
 ghost use Rattle.pairing.specs.Pairs as Pairs;
 ghost use Rattle.pairing.specs.Pairs.{bounds, is_column, matched, pair_up};
 
-use problem::{Check, Refusal};
-use whole::less;
-
-// The larger of two numbers.
-pub fn larger(a: i64, b: i64) -> i64
-    ensures { result ≡ Pairs.larger a b }
-{
-    if less(a, b) { b } else { a }
-}
-
-// The smaller of two numbers.
-pub fn smaller(a: i64, b: i64) -> i64
-    ensures { result ≡ Pairs.smaller a b }
-{
-    if less(b, a) { b } else { a }
-}
+use problem::{Lists, Refusal};
 
 // Whether two columns' bounds leave a number that lies in both.
 fn leave(lower: i64, upper: i64, lower2: i64, upper2: i64) -> bool
     ensures { result ≡ Pairs.leave lower upper lower2 upper2 }
 {
-    !less(smaller(upper, upper2), larger(lower, lower2))
+    lower.max(lower2) <= upper.min(upper2)
 }
 
 // Whether a, counted from 1, is one of n columns.
 fn is_column(n: usize, a: usize) -> bool
     ensures { result ≡ is_column n a }
 {
-    if a < 1 {
-        return false;
-    }
-    a <= n
+    (1..=n).contains(&a)
 }
 
-// Whether a column of the first part is some column's partner.
-fn uses(partners: &[usize], a: usize) -> bool
-    ensures { result ≡ Pairs.uses partners.now a }
+// Whether a column of the first part, counted from 0, is some column's partner.
+fn uses(partners: &[Option<usize>], i: usize) -> bool
+    ensures { result ≡ Pairs.uses partners.now i }
 {
-    let mut j = 0;
-    while j < partners.len() {
-        if partners[j] == a {
-            return true;
-        }
-        j += 1;
-    }
-    false
+    partners.contains(&Some(i))
 }
 
 // Whether none of 14 holds of the pair, for parts of n and k columns.
-fn is_free(n: usize, k: usize, partners: &[usize], a: usize, b: usize) -> bool
+fn is_free(n: usize, k: usize, partners: &[Option<usize>], a: usize, b: usize) -> bool
     requires { length partners.now ≡ k }
     ensures { result ≡ Pairs.is_free n k partners.now a b }
 {
-    if !is_column(n, a) {
-        return false;
-    }
-    if uses(partners, a) {
-        return false;
-    }
-    if !is_column(k, b) {
-        return false;
-    }
-    partners[b - 1] == 0
+    is_column(n, a) && !uses(partners, a - 1) && is_column(k, b) && partners[b - 1].is_none()
 }
 
 // Whether the bounds of the columns i and j, counted from 0, leave something.
-fn leaves(lower: &[i64], upper: &[i64], lower2: &[i64], upper2: &[i64], i: usize, j: usize) -> bool
-    requires upper_len { (length upper.now ≡ length lower.now) × (length upper2.now ≡ length lower2.now) }
-    requires i_in_bounds { (i < length lower.now) × (j < length lower2.now) }
-    ensures { result ≡ Pairs.leaves (bounds lower.now upper.now) (bounds lower2.now upper2.now) i j }
+fn leaves(first: Lists<'_>, second: Lists<'_>, i: usize, j: usize) -> bool
+    requires upper_len { (length first.upper.now ≡ length first.lower.now) × (length second.upper.now ≡ length second.lower.now) }
+    requires i_in_bounds { (i < length first.lower.now) × (j < length second.lower.now) }
+    ensures { result ≡ Pairs.leaves (bounds first.entry.lower.now first.entry.upper.now)
+        (bounds second.entry.lower.now second.entry.upper.now) i j }
 {
-    leave(lower[i], upper[i], lower2[j], upper2[j])
+    leave(
+        first.lower[i],
+        first.upper[i],
+        second.lower[j],
+        second.upper[j],
+    )
 }
 
-// All pairs in order, 14 first within a pair: each leaves its partner at the second's column. The first that is refused leaves those before it.
+// All pairs in order, 14 first within a pair: each leaves its partner at the second's column. The first that is refused leaves those before it. Of
+// the parts' lists only the bounds are read. Pairs are two numbers each, counted from 1: so `koralimbu_join` takes them from C.
+#[tactic(auto, unfolding(crate::specs::Pairs::pair_check, crate::specs::Pairs::pair_up))]
 pub fn pair_up(
-    lower: &[i64],
-    upper: &[i64],
-    lower2: &[i64],
-    upper2: &[i64],
+    first: Lists<'_>,
+    second: Lists<'_>,
     pairs: &[usize],
-    partners: &mut [usize],
-) -> Check
-    requires upper_len { (length upper.now ≡ length lower.now) × (length upper2.now ≡ length lower2.now) }
-    requires partners_len { length partners.old ≡ length lower2.now }
-    ensures { matched result partners.new ≡ pair_up (bounds lower.now upper.now)
-        (bounds lower2.now upper2.now) pairs.now partners.old }
+    partners: &mut [Option<usize>],
+) -> Result<(), Refusal>
+    requires upper_len { (length first.upper.now ≡ length first.lower.now) × (length second.upper.now ≡ length second.lower.now) }
+    requires partners_len { length partners.old ≡ length second.lower.now }
+    ensures { matched result partners.new ≡ pair_up (bounds first.entry.lower.now first.entry.upper.now)
+        (bounds second.entry.lower.now second.entry.upper.now) pairs.now partners.old }
 {
-    let half = pairs.len() / 2;
-    let mut k = 0;
-    while k < half {
-        let a = pairs[k * 2];
-        let b = pairs[k * 2 + 1];
-        if !is_free(lower.len(), lower2.len(), partners, a, b) {
-            return Check::Failed(Refusal::Pair);
+    let mut rest = pairs;
+    // Not in chunks of two: the definition takes a pair off the list, and the proof follows it word by word.
+    while let [a, b, tail @ ..] = rest {
+        if !is_free(first.lower.len(), second.lower.len(), partners, *a, *b) {
+            return Err(Refusal::Pair);
         }
-        if !leaves(lower, upper, lower2, upper2, a - 1, b - 1) {
-            return Check::Failed(Refusal::PairBounds);
+        if !leaves(first, second, *a - 1, *b - 1) {
+            return Err(Refusal::PairBounds);
         }
-        partners[b - 1] = a;
-        k += 1;
+        partners[*b - 1] = Some(*a - 1);
+        rest = tail;
     }
-    Check::Passed
+    Ok(())
 }

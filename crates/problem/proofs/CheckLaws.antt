@@ -29,13 +29,12 @@ use Rattle.whole.proofs.Signed.{back}
 use Rattle.whole.proofs.Counted.{every_at}
 use Rattle.problem.specs.Limits.{max_columns, max_rows, max_coefficient, max_right, max_bound, max_goal}
 use Rattle.problem.specs.Checks.{Posed, sizes_fit, row_lengths_fit, column_lengths_fit, ideal_lengths_fit, lent_fit, all_span, rows_fit}
-use Rattle.problem.specs.Checks.{bound_fits, bounds_fit, goal_inside, both_or_none, goal_fits, goals_fit, limit_fits, or_next, first_cause}
+use Rattle.problem.specs.Checks.{bound_fits, bounds_fit, goal_inside, both_or_none, goal_fits, goals_fit, limit_fits, or_next, Check, first_cause}
 use Rattle.problem.specs.declared.Problem.{Problem}
 use Rattle.problem.specs.declared.Lent.{Lent}
 use Rattle.problem.specs.declared.Refusal.{Refusal}
 use Rattle.problem.specs.declared.Refusal.TheVariants.{Size, Length, Coefficient, Bound, Goal, Limit}
-use Rattle.problem.specs.declared.Check.{Check}
-use Rattle.problem.specs.declared.Check.TheVariants.{Passed}
+use Rattle.std.specs.Prelude.{Ok}
 
 -- ---- the code's tests
 pub tested_at : (f : ℤ → ℤ → Bool) (l m : List ℤ) (j : ℕ) {r : Bool} → mag (entry j l) < 2 ^ 63 → mag (entry j m) < 2 ^ 63
@@ -105,11 +104,11 @@ pub record Fits (P : Posed) (L : Lent) : Type 0 where
   pub high_small : (j : ℕ) → nat_abs (entry j P.high) ≤ max_goal
   pub goal_above : (j : ℕ) → is_zero (entry j P.low) || le_z (pos 1) (entry j P.lower) ≡ true
 
-both : (t : Bool) (why : Refusal) (next : Check) → or_next t why next ≡ Passed → (t ≡ true) × (next ≡ Passed)
+both : (t : Bool) (why : Refusal) (next : Check) → or_next t why next ≡ Ok tt → (t ≡ true) × (next ≡ Ok tt)
 both true why next e = (refl, e)
 both false why next e = absurd (let z : ◌≡◌ {A = ℕ} 0 1 = cc in omega arith)
 
-pub passes : (P : Posed) (L : Lent) → first_cause P L ≡ Passed → Passes P L
+pub passes : (P : Posed) (L : Lent) → first_cause P L ≡ Ok tt → Passes P L
 unfolding first_cause
 passes P L e =
     let a = both (sizes_fit max_columns max_rows P.problem) Size _ e in
@@ -120,7 +119,7 @@ passes P L e =
     let f = both (rows_fit P.coefficients P.rights) Coefficient _ d.1 in
     let g = both (bounds_fit P.lower P.upper) Bound _ f.1 in
     let h = both (goals_fit P.lower P.low P.high) Goal _ g.1 in
-    let i = both (limit_fits P.problem) Limit Passed h.1 in
+    let i = both (limit_fits P.problem) Limit (Ok tt) h.1 in
     record {
       sizes = a.0;
       row_lengths = b.0;

@@ -1,17 +1,23 @@
 -- What calls answer, in document 01's numbers and those that document 02 adds.
 --   refusal_number r   the number of the table "Turned back"
+--   Answer             a verdict, or why a call is turned back
+--   verdict_counts x   the step counts of the two parts
 --   answer_number a    that of a refusal; 0 for a verdict
---   answer_counts a    the step counts of the two parts; with a refusal "number, counts 0"
+--   answer_counts a    those of its verdict; with a refusal "number, counts 0"
 --   no_steps           no step in either part
 --   is_verdict a       FITTED, OUTSIDE or SPENT
 -- Assumes nothing.
-use Rattle.std.specs.Prelude.{Bool, true, false, ℕ}
+use Rattle.std.specs.Prelude.{Bool, true, false, ℕ, Result, Ok, Err}
 use Rattle.problem.specs.declared.Refusal.{Refusal}
 use Rattle.problem.specs.declared.Refusal.TheVariants.{Size, Length, Coefficient, Bound, Goal, Limit}
 use Rattle.problem.specs.declared.Refusal.TheVariants.{Elimination, NoWholeNumbers, Seating, Standing, Layout, Term, Volume, Pair, PairBounds}
 use Rattle.problem.specs.declared.Counts.{Counts}
-use Rattle.problem.specs.declared.Answer.{Answer}
-use Rattle.problem.specs.declared.Answer.TheVariants.{Fitted, Outside, Spent, Refused}
+use Rattle.problem.specs.declared.Verdict.{Verdict}
+use Rattle.problem.specs.declared.Verdict.TheVariants.{Fitted, Outside, Spent}
+
+-- FITTED, OUTSIDE or SPENT with its step counts, or the refusal that turns the call back
+abbrev pub Answer : Type 0
+Answer = Result Verdict Refusal
 
 abbrev pub refusal_number : Refusal → ℕ
 -- "n or m outside"; document 02, (iii): "a count of paths that makes a 49th row"; (vi): "a joined size beyond 48"
@@ -48,20 +54,19 @@ refusal_number PairBounds = 15
 abbrev pub no_steps : Counts
 no_steps = record { bounds = 0; goals = 0 }
 
+abbrev pub verdict_counts : Verdict → Counts
+verdict_counts (Fitted c) = c
+verdict_counts (Outside c) = c
+verdict_counts (Spent c) = c
+
 abbrev pub answer_number : Answer → ℕ
-answer_number (Fitted c) = 0
-answer_number (Outside c) = 0
-answer_number (Spent c) = 0
-answer_number (Refused why) = refusal_number why
+answer_number (Ok verdict) = 0
+answer_number (Err why) = refusal_number why
 
 abbrev pub answer_counts : Answer → Counts
-answer_counts (Fitted c) = c
-answer_counts (Outside c) = c
-answer_counts (Spent c) = c
-answer_counts (Refused why) = no_steps
+answer_counts (Ok verdict) = verdict_counts verdict
+answer_counts (Err why) = no_steps
 
 abbrev pub is_verdict : Answer → Bool
-is_verdict (Fitted c) = true
-is_verdict (Outside c) = true
-is_verdict (Spent c) = true
-is_verdict (Refused why) = false
+is_verdict (Ok verdict) = true
+is_verdict (Err why) = false

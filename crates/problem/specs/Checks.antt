@@ -2,18 +2,20 @@
 --   empty_problem     no columns, no rows, no steps
 --   Posed             a problem with its lists: the coefficients, n to a row, and the right sides; the bounds of the columns; document 02, (v), their
 --                     low and high goals; and, document 02, (ii), the ideals handed in: whether there is one, 0 where there is none, and the number
+--   posed p l         the problem p with the lists l that are lent beside it; `Problem` and `Lists` are declared in src/
 --   sizes_fit columns rows p   cause 1 does not hold, with that many columns and rows allowed
 --   row_lengths_fit, column_lengths_fit, ideal_lengths_fit, lent_fit   nor cause 2, of the rows' lists, the columns' lists, the ideals' lists and the
 --                     buffers that the call fills
 --   all_span k l      every number of l lies in −k to k
 --   rows_fit, bound_fits, bounds_fit, goal_fits, goals_fit, limit_fits   nor the causes 3 to 6; at one column, and at all. goal_inside, of one goal;
 --                     both_or_none, of a low and a high one
+--   Check             what checks find: nothing, or a refusal
 --   or_next t why c   the refusal where the test t fails, else the next check c
 --   first_cause P L   the first cause of 1 to 6 that holds of the problem P and the lengths L of the buffers lent with it
 -- "Any number may be handed in as an ideal": no cause looks at what the marks and the ideals hold.
 -- The checks are pieces, put together by `or_next`, so that other calls can take the first three or the first five.
 -- Assumes nothing.
-use Rattle.std.specs.Prelude.{Bool, true, false, not, cond, ◌&&◌, ◌||◌, List, ℕ, ◌+◌, ◌*◌, leb, eqb, ℤ, pos, length}
+use Rattle.std.specs.Prelude.{Bool, true, false, not, cond, ◌&&◌, ◌||◌, List, ℕ, ◌+◌, ◌*◌, leb, eqb, ℤ, pos, length, Result, Ok, Err}
 use Rattle.std.specs.Int.Signed.{le_z}
 use Rattle.whole.specs.Lists.{entry}
 use Rattle.whole.specs.Tests.{is_zero, spans, in_range, every}
@@ -22,8 +24,11 @@ use Rattle.problem.specs.declared.Problem.{Problem}
 use Rattle.problem.specs.declared.Lent.{Lent}
 use Rattle.problem.specs.declared.Refusal.{Refusal}
 use Rattle.problem.specs.declared.Refusal.TheVariants.{Size, Length, Coefficient, Bound, Goal, Limit}
-use Rattle.problem.specs.declared.Check.{Check}
-use Rattle.problem.specs.declared.Check.TheVariants.{Passed, Failed}
+use Rattle.problem.specs.declared.Lists.{Lists}
+
+-- what checks find: nothing, or the refusal
+abbrev pub Check : Type 0
+Check = Result Unit Refusal
 
 abbrev pub empty_problem : Problem
 empty_problem = record { columns = 0; rows = 0; limit = 0 }
@@ -38,6 +43,20 @@ pub record Posed : Type 0 where
   pub high : List ℤ
   pub given : List ℤ
   pub ideals : List ℤ
+
+-- the problem p with the lists that are lent beside it
+abbrev pub posed : Problem → Lists → Posed
+posed p l = record {
+  problem = p;
+  coefficients = l.coefficients.now;
+  rights = l.rights.now;
+  lower = l.lower.now;
+  upper = l.upper.now;
+  low = l.low.now;
+  high = l.high.now;
+  given = l.given.now;
+  ideals = l.ideals.now;
+}
 
 -- 1: "n or m outside"
 abbrev pub sizes_fit : ℕ → ℕ → Problem → Bool
@@ -96,7 +115,7 @@ limit_fits p = leb p.limit max_steps
 
 abbrev pub or_next : Bool → Refusal → Check → Check
 or_next true why next = next
-or_next false why next = Failed why
+or_next false why next = Err why
 
 -- "each under just its stated condition", in the order of the table
 unfoldable pub first_cause : Posed → Lent → Check
@@ -110,4 +129,4 @@ first_cause P L =
     (or_next (rows_fit P.coefficients P.rights) Coefficient
     (or_next (bounds_fit P.lower P.upper) Bound
     (or_next (goals_fit P.lower P.low P.high) Goal
-    (or_next (limit_fits p) Limit Passed))))))))
+    (or_next (limit_fits p) Limit (Ok tt)))))))))

@@ -1,5 +1,6 @@
 -- The root of the definitions.
 pub mod Limits
+pub mod References
 pub mod Kinds
 pub mod Answers
 pub mod Checks

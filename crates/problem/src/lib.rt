@@ -3,18 +3,45 @@
 ghost use Rattle.std.specs.Prelude.{◌≡◌};
 ghost use Rattle.problem.specs.Limits.{limits};
 ghost use Rattle.problem.specs.Kinds.{slack_count};
-ghost use Rattle.problem.specs.Answers.{refusal_number, answer_number, answer_counts};
+ghost use Rattle.problem.specs.Answers.{refusal_number, verdict_counts, answer_number, answer_counts};
 ghost use Rattle.problem.specs.Checks.{empty_problem};
 
 pub mod checks;
 pub mod groups;
 
-// A problem's numbers: n columns, m rows and the step limit. Its lists are lent beside it, as slices.
+// A problem's numbers: n columns, m rows and the step limit. Its lists are lent beside it (`Lists`).
 #[derive(Clone, Copy)]
 pub struct Problem {
     pub columns: usize,
     pub rows: usize,
     pub limit: u32,
+}
+
+// The eight lists of a problem, as they are lent: the coefficients, n to a row, and the right sides; of the columns the bounds, the goals, 0 for
+// none, and the ideals handed in, whether there is one and the number. They lie side by side, and a mark beside a number, because C lends them so.
+#[derive(Clone, Copy)]
+pub struct Lists<'a> {
+    pub coefficients: &'a [i64],
+    pub rights: &'a [i64],
+    pub lower: &'a [i64],
+    pub upper: &'a [i64],
+    pub low: &'a [i64],
+    pub high: &'a [i64],
+    pub given: &'a [i64],
+    pub ideals: &'a [i64],
+}
+
+// The same lists, lent to be filled.
+#[derive(Drop)]
+pub struct ListsMut<'a> {
+    pub coefficients: &'a mut [i64],
+    pub rights: &'a mut [i64],
+    pub lower: &'a mut [i64],
+    pub upper: &'a mut [i64],
+    pub low: &'a mut [i64],
+    pub high: &'a mut [i64],
+    pub given: &'a mut [i64],
+    pub ideals: &'a mut [i64],
 }
 
 // The limits of document 01, "The problem", named once.
@@ -78,7 +105,7 @@ pub struct Limits {
 }
 
 // What a row asks of its sum. An even row carries its least half.
-#[derive(Clone, Copy)]
+#[derive(Clone, Copy, Debug, PartialEq, Eq)]
 pub enum Kind {
     Equal,
     AtLeast,
@@ -94,7 +121,7 @@ pub struct Row {
 }
 
 // Why a call is turned back: document 01's table with what document 02 adds, by number.
-#[derive(Clone, Copy)]
+#[derive(Clone, Copy, Debug, PartialEq, Eq)]
 pub enum Refusal {
     Size,
     Length,
@@ -114,27 +141,22 @@ pub enum Refusal {
 }
 
 // The steps of the bounds part and of the goals part.
-#[derive(Clone, Copy)]
+#[derive(Clone, Copy, Debug, PartialEq, Eq)]
 pub struct Counts {
     pub bounds: u32,
     pub goals: u32,
 }
 
-// What a whole assignment or a Continue answers.
-#[derive(Clone, Copy)]
-pub enum Answer {
+// How settling ended, with the steps of its parts.
+#[derive(Clone, Copy, Debug, PartialEq, Eq)]
+pub enum Verdict {
     Fitted(Counts),
     Outside(Counts),
     Spent(Counts),
-    Refused(Refusal),
 }
 
-// What checks find: those of causes 1 to 6, and those of a join's pairs.
-#[derive(Clone, Copy)]
-pub enum Check {
-    Passed,
-    Failed(Refusal),
-}
+// What a whole assignment or a Continue answers.
+pub type Answer = Result<Verdict, Refusal>;
 
 // The lengths of the buffers that a call fills.
 #[derive(Clone, Copy)]
@@ -158,12 +180,12 @@ impl Kind {
     }
 }
 
-impl Refusal {
-    // The refusal's number in document 01's table.
-    pub fn number(self) -> u32
-        ensures { result ≡ refusal_number self }
-    {
-        match self {
+// The refusal's number in document 01's table.
+impl From<Refusal> for u32 {
+    ghost from_gives = { λ why n. n ≡ refusal_number why };
+
+    fn from(why: Refusal) -> u32 {
+        match why {
             Refusal::Size => 1,
             Refusal::Length => 2,
             Refusal::Coefficient => 3,
@@ -183,31 +205,38 @@ impl Refusal {
     }
 }
 
-impl Answer {
-    // The refusal's number, 0 for a verdict.
-    pub fn number(self) -> u32
-        ensures { result ≡ answer_number self }
+impl Verdict {
+    // The steps of the two parts.
+    pub fn counts(self) -> Counts
+        ensures { result ≡ verdict_counts self }
     {
         match self {
-            Answer::Fitted(_) => 0,
-            Answer::Outside(_) => 0,
-            Answer::Spent(_) => 0,
-            Answer::Refused(why) => why.number(),
+            Verdict::Fitted(c) => c,
+            Verdict::Outside(c) => c,
+            Verdict::Spent(c) => c,
         }
     }
+}
 
-    // The counts that are returned: 0 and 0 with a refusal.
-    pub fn counts(self) -> Counts
-        ensures { result ≡ answer_counts self }
-    {
-        match self {
-            Answer::Fitted(c) => c,
-            Answer::Outside(c) => c,
-            Answer::Spent(c) => c,
-            Answer::Refused(_) => Counts {
-                bounds: 0,
-                goals: 0,
-            },
-        }
+// The refusal's number, 0 for a verdict.
+pub fn answer_number(answer: Answer) -> u32
+    ensures { result ≡ answer_number answer }
+{
+    match answer {
+        Ok(_) => 0,
+        Err(why) => u32::from(why),
+    }
+}
+
+// The counts that are returned: 0 and 0 with a refusal.
+pub fn answer_counts(answer: Answer) -> Counts
+    ensures { result ≡ answer_counts answer }
+{
+    match answer {
+        Ok(verdict) => verdict.counts(),
+        Err(_) => Counts {
+            bounds: 0,
+            goals: 0,
+        },
     }
 }

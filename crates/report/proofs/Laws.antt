@@ -1,32 +1,35 @@
 -- Laws of the listing: how long its lines are, its columns one at a time, and what the call leaves.
 --   length_line, -verdict, -refusal, abs_fits   a line is short, where its numbers are of 64 bits
---   refusal_none, -other               the line of a refusal's number
+--   wrote_field, -three, -four          the pieces of a line, one after the other
+--   refusal_other                      the line of a refusal that is not NONE
 --   lines_more, -end, length_more      the columns' lines, one at a time
 --   listing_is, -lines, -length, length_listed   the whole listing: the first line, and then those of the columns that are listed
 --   write_uneven, -short, -done        what the call leaves
 -- Assumes nothing.
 -- ---- lengths: a number of 64 bits has at most 20 digits
-use mathlib.Core.Path.{◌≡◌, sym, ap, ◌∙◌}
-use mathlib.Core.List.{List, [], ◌++◌, append-nil}
+use mathlib.Core.Path.{◌≡◌, refl, sym, ap, ◌∙◌}
+use mathlib.Core.List.{List, [], ◌∷◌, ◌++◌, append-nil}
 use Prim.Native.Nat.{ℕ, ◌+◌, ◌≤◌, ◌<◌, ◌^◌}
 use native.Mathlib.Numerals.{add-one}
 use native.Mathlib.Omega.{arith}
 use borrow.Author.Tests.{eq-eqb, ne_eqb, le-leb, lt-leb}
 use lib.IntN.{ℤ, pos, negsuc, nat_abs}
 use lib.ListN.{length, take, drop, get_or, length-append, drop_of_length-le}
-use lib.Seq.{drop-cons, take-length, take_all, length-take-le}
+use lib.Seq.{drop-cons, take-length, take_all, take_at}
 use mir.Syntax.{w64}
 use mir.Val.{SFits}
 use Rattle.text.specs.Overwriting.{Wrote}
-use Rattle.problem.specs.Answers.{refusal_number}
+use Rattle.text.proofs.Copying.{room_next, wrote_both}
+use Rattle.std.specs.Prelude.{Ok, Err}
+use Rattle.problem.specs.Answers.{Answer, refusal_number}
 use Rattle.problem.specs.declared.Counts.{Counts}
+use Rattle.problem.specs.declared.Refusal.{Refusal}
 use Rattle.problem.specs.declared.Refusal.TheVariants.{NoWholeNumbers}
-use Rattle.problem.specs.declared.Answer.{Answer}
-use Rattle.problem.specs.declared.Answer.TheVariants.{Fitted, Outside, Spent, Refused}
-use Rattle.report.specs.Listing.{NONE, line_end, verdict, line, lines_from, numbered, refusal}
-use Rattle.report.specs.Listing.{headline, listing, lines_of, listing_done, write_listing}
-use Rattle.report.specs.declared.Written.TheVariants.{Bytes, Uneven, NoRoom}
-use Rattle.report.proofs.Lengths.{line_most, verdict_most, refusal_most}
+use Rattle.problem.specs.declared.Verdict.TheVariants.{Fitted, Outside, Spent}
+use Rattle.report.specs.Listing.{field, verdict, line, lines_from, numbered, refusal}
+use Rattle.report.specs.Listing.{headline, listing, lines_of, placed_in, listing_done, write_listing}
+use Rattle.report.specs.declared.WriteError.TheVariants.{Uneven, NoRoom}
+use Rattle.report.proofs.Lengths.{line_most, verdict_most, refusal_most, refusal_short}
 
 pub length_line : (c : ℕ) (v : ℤ) (d : ℕ) → c < 2 ^ 64 → nat_abs v < 2 ^ 64 → d < 2 ^ 64 → length (line c v d) ≤ 64
 length_line c v d p q r = line_most 19 19 19 c v d (omega arith) (omega arith) (omega arith)
@@ -38,15 +41,26 @@ abs_fits (negsuc n) f = omega (arith, f.sfits)
 pub length_verdict : (w : List ℕ) (k : Counts) → length w ≤ 7 → k.bounds < 2 ^ 64 → k.goals < 2 ^ 64 → length (verdict w k) ≤ 64
 length_verdict w k h p q = omega (arith, verdict_most 19 w k (omega arith) (omega arith))
 
--- ---- the line of a refusal's number
-pub refusal_none : (k : ℕ) → k ≡ refusal_number NoWholeNumbers → refusal k ≡ NONE ++ line_end
-refusal_none k h = rw (eq-eqb k (refusal_number NoWholeNumbers) h)
+pub length_refusal : (why : Refusal) → length (refusal (refusal_number why)) ≤ 64
+length_refusal why = omega (arith, refusal_most 1 (refusal_number why) (refusal_short why))
 
-pub refusal_other : (k : ℕ) → (k ≡ refusal_number NoWholeNumbers → ⊥) → refusal k ≡ numbered k
-refusal_other k h = rw (ne_eqb k (refusal_number NoWholeNumbers) h)
+-- ---- the pieces of a line, one after the other
+pub wrote_field : {o p q : List ℕ} {at r e : ℕ} (w : List ℕ) → Wrote o at (32 ∷ []) r p → Wrote p r w e q → at + length (field w) ≤ length o
+    → Wrote o at (field w) e q
+wrote_field w a b h = wrote_both (32 ∷ []) w a b h
 
-pub length_refusal : (k : ℕ) → k < 2 ^ 64 → length (refusal k) ≤ 64
-length_refusal k h = omega (arith, refusal_most 19 k (omega arith))
+pub wrote_three : {o p q s : List ℕ} {at b c e : ℕ} (v w x : List ℕ) → Wrote o at v b p → Wrote p b w c q → Wrote q c x e s
+    → at + length (v ++ (w ++ x)) ≤ length o → Wrote o at (v ++ (w ++ x)) e s
+wrote_three v w x f g h room = wrote_both v (w ++ x) f (wrote_both w x g h (room_next v (w ++ x) f room)) room
+
+pub wrote_four : {o p q s t : List ℕ} {at b c d e : ℕ} (v w x y : List ℕ) → Wrote o at v b p → Wrote p b w c q → Wrote q c x d s → Wrote s d y e t
+    → at + length (v ++ (w ++ (x ++ y))) ≤ length o → Wrote o at (v ++ (w ++ (x ++ y))) e t
+wrote_four v w x y f g h k room = wrote_both v (w ++ (x ++ y)) f (wrote_three w x y g h k (room_next v (w ++ (x ++ y)) f room)) room
+
+-- ---- the line of a refusal
+pub refusal_other : (why : Refusal) → ¬ (why ≡ NoWholeNumbers) → refusal (refusal_number why) ≡ numbered (refusal_number why)
+refusal_other NoWholeNumbers h = absurd (h refl)
+refusal_other _ h = refl
 
 -- ---- the columns' lines, one at a time
 module _ (v : List ℤ) (d : List ℕ) (i : ℕ) where
@@ -66,46 +80,39 @@ module _ (v : List ℤ) (d : List ℕ) (i : ℕ) where
   lines_end h = rw (drop_of_length-le v h)
 
 -- ---- the whole listing
-pub listing_is : (a : Answer) (v : List ℤ) (d : List ℕ) → lines_of a (length d) ≡ lines_of a (length v)
+-- what a buffer holds in front, once a word is written there
+pub front : {o p : List ℕ} {r : ℕ} (w : List ℕ) → Wrote o 0 w r p → take r p ≡ w
+front {o} w a = rw (a.next, a.text) (take_at w (drop (0 + length w) o) (0 + length w) (omega arith))
+
+listing_is : (a : Answer) (v : List ℤ) (d : List ℕ) → lines_of a (length d) ≡ lines_of a (length v)
     → listing a v d ≡ headline a ++ lines_from 0 (take (lines_of a (length v)) v) (take (lines_of a (length v)) d)
 unfolding listing lines_from
-listing_is (Fitted k) v d h = rw (take-length v, take_all (length v) d (omega arith))
-listing_is (Outside k) v d h = rw (take-length v, take_all (length v) d (omega arith))
-listing_is (Spent k) v d h = rw (take-length v, take_all (length v) d (omega arith))
-listing_is (Refused why) v d h = sym (append-nil (refusal (refusal_number why)))
-
-lines_few : (a : Answer) (n : ℕ) → lines_of a n ≤ n
-lines_few (Fitted k) n = omega arith
-lines_few (Outside k) n = omega arith
-lines_few (Spent k) n = omega arith
-lines_few (Refused why) n = omega arith
-
--- the part of a list that is listed
-pub length_listed : {A : Type 0} (a : Answer) (l : List A) (n : ℕ) → n ≡ lines_of a (length l) → length (take n l) ≡ n
-length_listed a l n h = length-take-le n l (omega (arith, lines_few a (length l)))
-
--- the first line, and then the columns'
-pub listing_lines : (a : Answer) (v : List ℤ) (d : List ℕ) (n : ℕ) → n ≡ lines_of a (length v) → lines_of a (length d) ≡ n
-    → listing a v d ≡ headline a ++ lines_from 0 (take n v) (take n d)
-listing_lines a v d n p q = rw p (listing_is a v d (q ∙ p))
-
-pub listing_length : (a : Answer) (v : List ℤ) (d : List ℕ) (n : ℕ) → n ≡ lines_of a (length v) → lines_of a (length d) ≡ n
-    → length (listing a v d) ≡ length (headline a) + length (lines_from 0 (take n v) (take n d))
-listing_length a v d n p q = ap length (listing_lines a v d n p q) ∙ length-append (headline a) (lines_from 0 (take n v) (take n d))
+listing_is (Ok (Fitted k)) v d h = rw (take-length v, take_all (length v) d (omega arith))
+listing_is (Ok (Outside k)) v d h = rw (take-length v, take_all (length v) d (omega arith))
+listing_is (Ok (Spent k)) v d h = rw (take-length v, take_all (length v) d (omega arith))
+listing_is (Err why) v d h = sym (append-nil (refusal (refusal_number why)))
 
 module _ (o : List ℕ) (a : Answer) (v : List ℤ) (d : List ℕ) where
-  pub write_uneven : (lines_of a (length d) ≡ lines_of a (length v) → ⊥) → write_listing o a v d ≡ listing_done Uneven o
+  pub write_uneven : (lines_of a (length d) ≡ lines_of a (length v) → ⊥) → write_listing o a v d ≡ listing_done (Err Uneven) o
   unfolding write_listing
   write_uneven h = rw (ne_eqb (lines_of a (length d)) (lines_of a (length v)) h)
 
-  pub write_short : lines_of a (length d) ≡ lines_of a (length v) → length o < length (listing a v d) → write_listing o a v d ≡ listing_done NoRoom o
-  unfolding write_listing
-  write_short h l = rw (eq-eqb (lines_of a (length d)) (lines_of a (length v)) h, lt-leb (length (listing a v d)) (length o) l)
+  -- n columns are listed
+  module _ (n : ℕ) (p : n ≡ lines_of a (length v)) (q : lines_of a (length d) ≡ n) where
+    -- the first line, and then the columns'
+    abbrev pub pieces : List ℕ
+    pieces = headline a ++ lines_from 0 (take n v) (take n d)
 
-  pub write_done : (r : ℕ) (p : List ℕ) → lines_of a (length d) ≡ lines_of a (length v) → length (listing a v d) ≤ length o
-      → Wrote o 0 (listing a v d) r p
-      → write_listing o a v d ≡ listing_done (Bytes r) p
-  unfolding write_listing
-  write_done r p h l w =
-      let z : 0 + length (listing a v d) ≡ length (listing a v d) = omega arith in
-      rw (eq-eqb (lines_of a (length d)) (lines_of a (length v)) h, le-leb (length (listing a v d)) (length o) l, w.next, w.text, z)
+    pub write_is : write_listing o a v d ≡ placed_in o pieces
+    unfolding write_listing
+    write_is = rw (eq-eqb (lines_of a (length d)) (lines_of a (length v)) (q ∙ p), listing_is a v d (q ∙ p), ← p)
+
+    pub write_short : length o < length pieces → write_listing o a v d ≡ listing_done (Err NoRoom) o
+    write_short l = rw (write_is, lt-leb (length pieces) (length o) l)
+
+    pub write_done : {t u : List ℕ} {e r : ℕ} → length pieces ≤ length o → Wrote o 0 (headline a) e t
+        → Wrote t e (lines_from 0 (take n v) (take n d)) r u → write_listing o a v d ≡ listing_done (Ok r) u
+    write_done l f g =
+        let w = wrote_both (headline a) (lines_from 0 (take n v) (take n d)) f g (omega (arith, l)) in
+        let z : 0 + length pieces ≡ length pieces = omega arith in
+        rw (write_is, le-leb (length pieces) (length o) l, w.next, w.text, z)

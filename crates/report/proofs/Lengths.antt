@@ -11,13 +11,12 @@ use lib.Dec.{eqb}
 use lib.IntN.{ℤ, nat_abs}
 use lib.ListN.{length, get_or, length-append}
 use Rattle.whole.specs.Lists.{entry}
-use Rattle.problem.specs.Answers.{refusal_number, answer_counts}
+use Rattle.std.specs.Prelude.{Ok, Err}
+use Rattle.problem.specs.Answers.{Answer, refusal_number, answer_counts}
 use Rattle.problem.specs.declared.Counts.{Counts}
 use Rattle.problem.specs.declared.Refusal.{Refusal}
-use Rattle.problem.specs.declared.Refusal.TheVariants.{Size, Length, Coefficient, Bound, Goal, Limit}
-use Rattle.problem.specs.declared.Refusal.TheVariants.{Elimination, NoWholeNumbers, Seating, Standing, Layout, Term, Volume, Pair, PairBounds}
-use Rattle.problem.specs.declared.Answer.{Answer}
-use Rattle.problem.specs.declared.Answer.TheVariants.{Fitted, Outside, Spent, Refused}
+use Rattle.problem.specs.declared.Refusal.TheVariants.{Size, NoWholeNumbers}
+use Rattle.problem.specs.declared.Verdict.TheVariants.{Fitted, Outside, Spent}
 use Rattle.report.specs.Listing.{FITTED, OUTSIDE, SPENT, NONE, line_end, verdict, line, lines_from, numbered, refusal, listing}
 use Rattle.text.proofs.Digits.{length_natural, length_integer}
 
@@ -49,22 +48,9 @@ lines_most i j k at (y ∷ v) (e ∷ d) p q r =
     omega (arith, a, b, length-append (line (at + 1) y e) (lines_from (at + 1) v d))
 
 -- ---- the whole
-refusal_short : (why : Refusal) → refusal_number why < 100
+pub refusal_short : (why : Refusal) → refusal_number why < 100
 refusal_short Size = omega arith
-refusal_short Length = omega arith
-refusal_short Coefficient = omega arith
-refusal_short Bound = omega arith
-refusal_short Goal = omega arith
-refusal_short Limit = omega arith
-refusal_short Elimination = omega arith
-refusal_short NoWholeNumbers = omega arith
-refusal_short Seating = omega arith
-refusal_short Standing = omega arith
-refusal_short Layout = omega arith
-refusal_short Term = omega arith
-refusal_short Volume = omega arith
-refusal_short Pair = omega arith
-refusal_short PairBounds = omega arith
+refusal_short _ = omega arith
 
 module _ (b i j k : ℕ) (v : List ℤ) (d : List ℕ)
     (p : length v < 10 ^ suc i) (q : (x : ℕ) → nat_abs (entry x v) < 10 ^ suc j) (r : (x : ℕ) → get_or d x 0 < 10 ^ suc k) where
@@ -76,7 +62,7 @@ module _ (b i j k : ℕ) (v : List ℤ) (d : List ℕ)
   pub listing_most : (a : Answer) → (answer_counts a).bounds < 10 ^ suc b → (answer_counts a).goals < 10 ^ suc b
       → length (listing a v d) ≤ 2 * b + 12 + length v * (i + j + k + 7)
   unfolding listing
-  listing_most (Fitted n) g h = behind FITTED n (omega arith) g h
-  listing_most (Outside n) g h = behind OUTSIDE n (omega arith) g h
-  listing_most (Spent n) g h = behind SPENT n (omega arith) g h
-  listing_most (Refused why) g h = omega (arith, refusal_most 1 (refusal_number why) (refusal_short why))
+  listing_most (Ok (Fitted n)) g h = behind FITTED n (omega arith) g h
+  listing_most (Ok (Outside n)) g h = behind OUTSIDE n (omega arith) g h
+  listing_most (Ok (Spent n)) g h = behind SPENT n (omega arith) g h
+  listing_most (Err why) g h = omega (arith, refusal_most 1 (refusal_number why) (refusal_short why))

@@ -7,21 +7,20 @@
 --   headline a              the first line
 --   line c v d              a column's line; lines_from, those of the columns behind the first; lines_of, how many are listed
 --   listing a v d           the listing of the answer a, with the values v and the strides d where it is a verdict
---   Written                 what is returned: how many bytes were written, or that the lists are not of one length or the buffer has no room
---                           (declared in src/)
+--   Written                 what is returned: how many bytes were written, or why none is: Uneven, the lists are not of one length, or NoRoom, the
+--                           buffer has no room
 --   ListingDone             what is returned, and what the lent buffer then holds; `listing_done` makes one of both
 --   placed_in o w           the call that puts w at the front of the lent buffer o, where it fits
 --   write_listing o a v d   the call on the lent buffer o, which then holds the listing's bytes, and then what stood there
 -- Assumes nothing.
-use Rattle.std.specs.Prelude.{cond, List, [], ◌∷◌, ◌++◌, ℕ, ◌+◌, leb, eqb, ℤ, length, drop}
+use Rattle.std.specs.Prelude.{cond, List, [], ◌∷◌, ◌++◌, ℕ, ◌+◌, leb, eqb, ℤ, length, drop, Result, Ok, Err}
 use Rattle.text.specs.Decimals.{natural, integer}
-use Rattle.problem.specs.Answers.{refusal_number}
+use Rattle.problem.specs.Answers.{Answer, refusal_number}
 use Rattle.problem.specs.declared.Counts.{Counts}
 use Rattle.problem.specs.declared.Refusal.TheVariants.{NoWholeNumbers}
-use Rattle.problem.specs.declared.Answer.{Answer}
-use Rattle.problem.specs.declared.Answer.TheVariants.{Fitted, Outside, Spent, Refused}
-use Rattle.report.specs.declared.Written.{Written}
-use Rattle.report.specs.declared.Written.TheVariants.{Bytes, Uneven, NoRoom}
+use Rattle.problem.specs.declared.Verdict.TheVariants.{Fitted, Outside, Spent}
+use Rattle.report.specs.declared.WriteError.{WriteError}
+use Rattle.report.specs.declared.WriteError.TheVariants.{Uneven, NoRoom}
 
 -- "FITTED", "OUTSIDE", "SPENT", "NONE", "REFUSED"
 abbrev pub FITTED : List ℕ
@@ -69,23 +68,25 @@ abbrev pub refusal : ℕ → List ℕ
 refusal k = cond (eqb k (refusal_number NoWholeNumbers)) (NONE ++ line_end) (numbered k)
 
 abbrev pub headline : Answer → List ℕ
-headline (Fitted k) = verdict FITTED k
-headline (Outside k) = verdict OUTSIDE k
-headline (Spent k) = verdict SPENT k
-headline (Refused why) = refusal (refusal_number why)
+headline (Ok (Fitted k)) = verdict FITTED k
+headline (Ok (Outside k)) = verdict OUTSIDE k
+headline (Ok (Spent k)) = verdict SPENT k
+headline (Err why) = refusal (refusal_number why)
 
 unfoldable pub listing : Answer → List ℤ → List ℕ → List ℕ
-listing (Fitted k) v d = verdict FITTED k ++ lines_from 0 v d
-listing (Outside k) v d = verdict OUTSIDE k ++ lines_from 0 v d
-listing (Spent k) v d = verdict SPENT k ++ lines_from 0 v d
-listing (Refused why) v d = refusal (refusal_number why)
+listing (Ok (Fitted k)) v d = verdict FITTED k ++ lines_from 0 v d
+listing (Ok (Outside k)) v d = verdict OUTSIDE k ++ lines_from 0 v d
+listing (Ok (Spent k)) v d = verdict SPENT k ++ lines_from 0 v d
+listing (Err why) v d = refusal (refusal_number why)
 
 -- of n columns, how many are listed: all with a verdict, none with a refusal
 abbrev pub lines_of : Answer → ℕ → ℕ
-lines_of (Fitted k) n = n
-lines_of (Outside k) n = n
-lines_of (Spent k) n = n
-lines_of (Refused why) n = 0
+lines_of (Ok verdict) n = n
+lines_of (Err why) n = 0
+
+-- what is returned: how many bytes were written, or why none is
+abbrev pub Written : Type 0
+Written = Result ℕ WriteError
 
 pub record ListingDone : Type 0 where
   pub written : Written
@@ -96,7 +97,7 @@ listing_done w o = record { written = w; out = o }
 
 -- the bytes of w, where they fit into o
 abbrev pub placed_in : List ℕ → List ℕ → ListingDone
-placed_in o w = cond (leb (length w) (length o)) (listing_done (Bytes (length w)) (w ++ drop (length w) o)) (listing_done NoRoom o)
+placed_in o w = cond (leb (length w) (length o)) (listing_done (Ok (length w)) (w ++ drop (length w) o)) (listing_done (Err NoRoom) o)
 
 unfoldable pub write_listing : List ℕ → Answer → List ℤ → List ℕ → ListingDone
-write_listing o a v d = cond (eqb (lines_of a (length d)) (lines_of a (length v))) (placed_in o (listing a v d)) (listing_done Uneven o)
+write_listing o a v d = cond (eqb (lines_of a (length d)) (lines_of a (length v))) (placed_in o (listing a v d)) (listing_done (Err Uneven) o)

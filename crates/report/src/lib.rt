@@ -1,38 +1,58 @@
 #![tactic(auto)]
 
-// The listing: its length is found first, so that a buffer that is too short stays as it was.
-ghost use Rattle.std.specs.Prelude.{◌≡◌, ◌+◌, ◌≤◌, leb, length};
+// The listing: its length is found first, so that a buffer that is too short stays as it was. There is no heap, so no `String` that it could be
+// formatted into: each piece is written into the lent bytes from a place on.
+ghost use Rattle.std.specs.Prelude.{◌≡◌, List, ℕ, ◌+◌, ◌≤◌, leb, length};
 ghost use Rattle.text.specs.Overwriting.{Wrote};
 ghost use Rattle.text.specs.Decimals.{natural, integer};
-ghost use Rattle.report.specs.Listing.{field, verdict, refusal, line, lines_from, headline, lines_of, counts_of, listing_done, write_listing};
+ghost use Rattle.problem.specs.Answers.{refusal_number};
+ghost use Rattle.report.specs.Listing.{field, verdict, refusal, line, lines_from, headline, lines_of, listing_done, write_listing};
 
-use problem::{Answer, Counts, Refusal};
+use problem::{Answer, Counts, Refusal, Verdict};
 use text::decimals::{put, put_integer, put_natural};
 
-// What is written: how many bytes. Or nothing, where the lists are not of one length or the buffer is too short.
-#[derive(Clone, Copy)]
-pub enum Written {
-    Bytes(usize),
+// Why nothing is written: the lists are not of one length, or the buffer is too short.
+#[derive(Clone, Copy, Debug, PartialEq, Eq)]
+pub enum WriteError {
     Uneven,
     NoRoom,
 }
 
-// A number after one space.
-fn put_field(out: &mut [u8], at: usize, n: u64) -> usize
-    requires { at + length (field (natural n)) ≤ length out.old }
-    ensures { Wrote out.old at (field (natural n)) result out.new }
-{
-    let e = put(out, at, b" ");
-    put_natural(out, e, n)
+// The bytes of a line, of which none has more.
+const LINE: usize = 64;
+
+// A number in base ten.
+trait Number {
+    ghost digits: { Self → List ℕ };
+
+    fn put(self, out: &mut [u8], at: usize) -> usize
+        requires { at + length (digits self) ≤ length out.old }
+        ensures { Wrote out.old at (digits self) result out.new };
 }
 
-// A signed number after one space.
-fn put_signed(out: &mut [u8], at: usize, v: i64) -> usize
-    requires { at + length (field (integer v)) ≤ length out.old }
-    ensures { Wrote out.old at (field (integer v)) result out.new }
+impl Number for u64 {
+    ghost digits = { natural };
+
+    fn put(self, out: &mut [u8], at: usize) -> usize {
+        put_natural(out, at, self)
+    }
+}
+
+impl Number for i64 {
+    ghost digits = { integer };
+
+    fn put(self, out: &mut [u8], at: usize) -> usize {
+        put_integer(out, at, self)
+    }
+}
+
+// A number after one space.
+fn put_field<N: Number>(out: &mut [u8], at: usize, n: N) -> usize
+    requires { at + length (field (N.digits n)) ≤ length out.old }
+    ensures { Wrote out.old at (field (N.digits n)) result out.new }
 {
-    let start = put(out, at, b" ");
-    put_integer(out, start, v)
+    let e = put(out, at, b" ");
+    n.put(out, e)
 }
 
 // A verdict's word with its two counts.
@@ -41,35 +61,35 @@ fn put_verdict(out: &mut [u8], word: &[u8], counts: Counts) -> usize
     ensures { Wrote out.old 0 (verdict word.now counts) result out.new }
 {
     let a = put(out, 0, word);
-    let b = put_field(out, a, counts.bounds as u64);
-    let c = put_field(out, b, counts.goals as u64);
+    let b = put_field(out, a, u64::from(counts.bounds));
+    let c = put_field(out, b, u64::from(counts.goals));
     put(out, c, b"\n")
 }
 
-// The line of a refusal's number: NONE, or REFUSED with it.
-fn put_refusal(out: &mut [u8], number: u32) -> usize
-    requires { length (refusal number) ≤ length out.old }
-    ensures { Wrote out.old 0 (refusal number) result out.new }
+// The line of a refusal: NONE, or REFUSED with its number.
+fn put_refusal(out: &mut [u8], why: Refusal) -> usize
+    requires { length (refusal (refusal_number why)) ≤ length out.old }
+    ensures { Wrote out.old 0 (refusal (refusal_number why)) result out.new }
 {
-    let none = Refusal::NoWholeNumbers;
-    if number == none.number() {
-        return put(out, 0, b"NONE\n");
+    match why {
+        Refusal::NoWholeNumbers => put(out, 0, b"NONE\n"),
+        _ => {
+            let a = put(out, 0, b"REFUSED");
+            let b = put_field(out, a, u64::from(u32::from(why)));
+            put(out, b, b"\n")
+        }
     }
-    let a = put(out, 0, b"REFUSED");
-    let b = put_field(out, a, number as u64);
-    put(out, b, b"\n")
 }
 
-// The first line.
-fn put_headline(out: &mut [u8], answer: Answer) -> usize
-    requires { length (headline answer) ≤ length out.old }
-    ensures { Wrote out.old 0 (headline answer) result out.new }
+// The first line, in a buffer of its own.
+fn headline(line: &mut [u8; LINE], answer: Answer) -> usize
+    ensures { Wrote line.old 0 (headline answer) result line.new }
 {
     match answer {
-        Answer::Fitted(k) => put_verdict(out, b"FITTED", k),
-        Answer::Outside(k) => put_verdict(out, b"OUTSIDE", k),
-        Answer::Spent(k) => put_verdict(out, b"SPENT", k),
-        Answer::Refused(why) => put_refusal(out, why.number()),
+        Ok(Verdict::Fitted(k)) => put_verdict(line, b"FITTED", k),
+        Ok(Verdict::Outside(k)) => put_verdict(line, b"OUTSIDE", k),
+        Ok(Verdict::Spent(k)) => put_verdict(line, b"SPENT", k),
+        Err(why) => put_refusal(line, why),
     }
 }
 
@@ -79,69 +99,32 @@ fn put_line(out: &mut [u8], at: usize, column: u64, value: i64, stride: u64) -> 
     ensures { Wrote out.old at (line column value stride) result out.new }
 {
     let a = put_natural(out, at, column);
-    let b = put_signed(out, a, value);
+    let b = put_field(out, a, value);
     let c = put_field(out, b, stride);
     put(out, c, b"\n")
 }
 
-// A line for each column.
+// A line for each column. With the strides zipped to them, the values' range is lost to the proof.
 fn put_lines(out: &mut [u8], at: usize, values: &[i64], strides: &[u64]) -> usize
     requires values_len { length values.now ≡ length strides.now }
     requires strides_in_bounds { at + length (lines_from 0 values.now strides.now) ≤ length out.old }
     ensures { Wrote out.old at (lines_from 0 values.now strides.now) result out.new }
 {
     let mut p = at;
-    for i in 0..values.len() {
-        p = put_line(out, p, i as u64 + 1, values[i], strides[i]);
+    for (i, value) in values.iter().enumerate() {
+        p = put_line(out, p, i as u64 + 1, *value, strides[i]);
     }
     p
 }
 
-// The length of a verdict's line: a word and two counts.
-fn verdict_length(word: &[u8], bounds: u32, goals: u32) -> usize
-    requires { length word.now ≤ 7 }
-    ensures { result ≡ length (verdict word.now (counts_of bounds goals)) }
-{
-    let mut line = [0u8; 64];
-    put_verdict(&mut line, word, Counts { bounds, goals })
-}
-
-// The length of the line of a refusal's number.
-fn refusal_length(number: u32) -> usize
-    ensures { result ≡ length (refusal number) }
-{
-    let mut line = [0u8; 64];
-    put_refusal(&mut line, number)
-}
-
-// The length of the first line.
-fn headline_length(answer: Answer) -> usize
-    ensures { result ≡ length (headline answer) }
-{
-    match answer {
-        Answer::Fitted(k) => verdict_length(b"FITTED", k.bounds, k.goals),
-        Answer::Outside(k) => verdict_length(b"OUTSIDE", k.bounds, k.goals),
-        Answer::Spent(k) => verdict_length(b"SPENT", k.bounds, k.goals),
-        Answer::Refused(why) => refusal_length(why.number()),
-    }
-}
-
-// The length of a column's line: it has three numbers of at most 20 bytes.
-fn line_length(column: u64, value: i64, stride: u64) -> usize
-    ensures { result ≡ length (line column value stride) }
-{
-    let mut line = [0u8; 64];
-    put_line(&mut line, 0, column, value, stride)
-}
-
-// Whether the columns' lines need no more than room bytes.
+// Whether the columns' lines need no more than room bytes: each is written for its length alone. The strides are not zipped here either.
 fn lines_fit(room: usize, values: &[i64], strides: &[u64]) -> bool
     requires { length values.now ≡ length strides.now }
     ensures { result ≡ leb (length (lines_from 0 values.now strides.now)) room }
 {
     let mut left = room;
-    for i in 0..values.len() {
-        let k = line_length(i as u64 + 1, values[i], strides[i]);
+    for (i, value) in values.iter().enumerate() {
+        let k = put_line(&mut [0u8; LINE], 0, i as u64 + 1, *value, strides[i]);
         if left < k {
             return false;
         }
@@ -154,29 +137,27 @@ fn lines_fit(room: usize, values: &[i64], strides: &[u64]) -> bool
 fn lines_of(answer: Answer, n: usize) -> usize
     ensures { result ≡ lines_of answer n }
 {
-    match answer {
-        Answer::Fitted(_) => n,
-        Answer::Outside(_) => n,
-        Answer::Spent(_) => n,
-        Answer::Refused(_) => 0,
-    }
+    if answer.is_ok() { n } else { 0 }
 }
 
-// Writes the listing of an answer at the front of a buffer. The values and the strides are listed with a verdict only.
-pub fn write_listing(out: &mut [u8], answer: Answer, values: &[i64], strides: &[u64]) -> Written
+// Writes the listing of an answer at the front of a buffer and answers how many bytes. The values and the strides are listed with a verdict only.
+pub fn write_listing(
+    out: &mut [u8],
+    answer: Answer,
+    values: &[i64],
+    strides: &[u64],
+) -> Result<usize, WriteError>
     ensures { listing_done result out.new ≡ write_listing out.old answer values.now strides.now }
 {
     let n = lines_of(answer, values.len());
     if lines_of(answer, strides.len()) != n {
-        return Written::Uneven;
+        return Err(WriteError::Uneven);
     }
-    let first = headline_length(answer);
-    if out.len() < first {
-        return Written::NoRoom;
+    let mut line = [0u8; LINE];
+    let first = headline(&mut line, answer);
+    if out.len() < first || !lines_fit(out.len() - first, &values[..n], &strides[..n]) {
+        return Err(WriteError::NoRoom);
     }
-    if !lines_fit(out.len() - first, &values[..n], &strides[..n]) {
-        return Written::NoRoom;
-    }
-    let e = put_headline(out, answer);
-    Written::Bytes(put_lines(out, e, &values[..n], &strides[..n]))
+    let e = put(out, 0, &line[..first]);
+    Ok(put_lines(out, e, &values[..n], &strides[..n]))
 }

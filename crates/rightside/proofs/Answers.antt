@@ -2,7 +2,7 @@
 --   righted_over, -none, -late, -found   a number beyond ±M in the first half; the first m numbers not all 0; one in the second half; none
 --   righted_starts                       where a starting list is found, it is the left list's numbers from m on
 --   solution-.., start-..                what an answer says of the mark, and of the buffer of the starting list
---   work_wide, list-.., found_is         the list (−b, then zeros) that the right side starts with
+--   list-.., found_is                    the list (−b, then zeros) that the right side starts with
 -- Assumes nothing.
 use mathlib.Core.Path.{◌≡◌, refl, sym, ◌∙◌, ap, ap₂, subst}
 use mathlib.Core.Bool.{Bool, true, false, cond, ◌||◌}
@@ -23,17 +23,27 @@ use Rattle.rightside.specs.Solutions.{answer_of, solution_of, start_of, start_af
 use Rattle.tableau.specs.Within.{Within}
 use Rattle.tableau.proofs.Within.{within_append, within_neg, within_zeros}
 use Rattle.rightside.specs.Sweeps.{Findable, found_of}
-use Rattle.rightside.specs.declared.Solution.{Solution}
-use Rattle.rightside.specs.declared.Solution.TheVariants.{Over, None, Found}
+use Rattle.std.specs.Prelude.{Result, Ok, Err, IsErrAnd}
+use Rattle.problem.specs.declared.Refusal.{Refusal}
+use Rattle.problem.specs.declared.Refusal.TheVariants.{Elimination, NoWholeNumbers}
 
-over_found : Over ≡ Found → ⊥
-over_found e = let z : ◌≡◌ {A = ℕ} 0 1 = cc in omega arith
+-- a list is found, or there is a refusal
+refused : {A : Type 0} (a : A) (why : Refusal) → Ok a ≡ Err why → ⊥
+refused a why e = let z : ◌≡◌ {A = ℕ} 0 1 = cc in omega arith
 
-none_found : None ≡ Found → ⊥
-none_found e = let z : ◌≡◌ {A = ℕ} 0 1 = cc in omega arith
+apart : {A : Type 0} → ◌≡◌ {A = Result A Refusal} (Err Elimination) (Err NoWholeNumbers) → ⊥
+apart e = let z : ◌≡◌ {A = ℕ} 0 1 = cc in omega arith
 
-abbrev pub told : Solution → List ℤ → Righted
+abbrev pub Told : Type 0
+Told = Result (Unit {0}) Refusal
+
+abbrev pub told : Told → List ℤ → Righted
 told r u = record { answer = r; list = u }
+
+-- an error that is handed on by `?`
+pub handed : {A : Type 0} {why : Refusal} (r : Result A Refusal) → IsErrAnd r (λ (e : Refusal). e ≡ why) → r ≡ Err why
+handed (Ok a) h = absurd h
+handed (Err e) h = ap Err h
 
 module _ (m : ℕ) (T : List (List ℤ)) (v : List ℤ) where
   abbrev first : Left
@@ -54,7 +64,7 @@ module _ (m : ℕ) (T : List (List ℤ)) (v : List ℤ) where
 
   abbrev all : Bool → Bool → Bool → Righted
   all z o p = record {
-    answer = solution_of (by z o p);
+    answer = solution_of (by z o p) tt;
     list = cond (by z o p).over (zeros (length v)) (left_of (by z o p).found first.row second.row);
   }
 
@@ -62,82 +72,97 @@ module _ (m : ℕ) (T : List (List ℤ)) (v : List ℤ) where
   unfolding right_side list_left
   is_all = refl
 
-  pub righted_over : {u : List ℤ} → first.over ≡ true → u ≡ zeros (length v) → told Over u ≡ righted m T v
+  pub righted_over : {u : List ℤ} → first.over ≡ true → u ≡ zeros (length v) → told (Err Elimination) u ≡ righted m T v
   righted_over e l =
       let z : Bool = all_zero (take m first.row) in
-      ap (told Over) l ∙ sym (is_all ∙ ap (λ (o : Bool). all z o second.over) e ∙ go z)
+      ap (told (Err Elimination)) l ∙ sym (is_all ∙ ap (λ (o : Bool). all z o second.over) e ∙ go z)
     where
-      go : (z : Bool) → all z true second.over ≡ told Over (zeros (length v))
+      go : (z : Bool) → all z true second.over ≡ told (Err Elimination) (zeros (length v))
       go true = refl
       go false = refl
 
-  pub righted_none : {u : List ℤ} → first.over ≡ false → all_zero (take m first.row) ≡ false → u ≡ first.row → told None u ≡ righted m T v
-  righted_none e z l = ap (told None) l ∙ sym (is_all ∙ ap₂ (λ (a o : Bool). all a o second.over) z e)
+  pub righted_none : {u : List ℤ} → first.over ≡ false → all_zero (take m first.row) ≡ false → u ≡ first.row
+      → told (Err NoWholeNumbers) u ≡ righted m T v
+  righted_none e z l = ap (told (Err NoWholeNumbers)) l ∙ sym (is_all ∙ ap₂ (λ (a o : Bool). all a o second.over) z e)
 
   -- the first m numbers are 0
   module _ (e : first.over ≡ false) (z : all_zero (take m first.row) ≡ true) where
     is_late : {p : Bool} → second.over ≡ p → righted m T v ≡ all true false p
     is_late f = is_all ∙ ap₂ (λ (a o : Bool). all a o second.over) z e ∙ ap (all true false) f
 
-    pub righted_late : {u : List ℤ} → second.over ≡ true → u ≡ zeros (length v) → told Over u ≡ righted m T v
-    righted_late f l = ap (told Over) l ∙ sym (is_late f)
+    pub righted_late : {u : List ℤ} → second.over ≡ true → u ≡ zeros (length v) → told (Err Elimination) u ≡ righted m T v
+    righted_late f l = ap (told (Err Elimination)) l ∙ sym (is_late f)
 
-    pub righted_found : {u : List ℤ} → second.over ≡ false → u ≡ second.row → told Found u ≡ righted m T v
-    righted_found f l = ap (told Found) l ∙ sym (is_late f)
+    pub righted_found : {u : List ℤ} → second.over ≡ false → u ≡ second.row → told (Ok tt) u ≡ righted m T v
+    righted_found f l = ap (told (Ok tt)) l ∙ sym (is_late f)
 
-  starts_by : (z o p : Bool) (u : List ℤ) → told Found u ≡ all z o p → (by z o p).found ≡ some (drop m u) (basis m T)
-  starts_by true true p u e = absurd (over_found (ap (λ (x : Righted). x.answer) (sym e)))
-  starts_by true false true u e = absurd (over_found (ap (λ (x : Righted). x.answer) (sym e)))
+  starts_by : (z o p : Bool) (u : List ℤ) → told (Ok tt) u ≡ all z o p → (by z o p).found ≡ some (drop m u) (basis m T)
+  starts_by true true p u e = absurd (refused tt Elimination (ap (λ (x : Righted). x.answer) e))
+  starts_by true false true u e = absurd (refused tt Elimination (ap (λ (x : Righted). x.answer) e))
   starts_by true false false u e = ap (λ (x : Righted). some (drop m x.list) (basis m T)) (sym e)
-  starts_by false true p u e = absurd (over_found (ap (λ (x : Righted). x.answer) (sym e)))
-  starts_by false false p u e = absurd (none_found (ap (λ (x : Righted). x.answer) (sym e)))
+  starts_by false true p u e = absurd (refused tt Elimination (ap (λ (x : Righted). x.answer) e))
+  starts_by false false p u e = absurd (refused tt NoWholeNumbers (ap (λ (x : Righted). x.answer) e))
 
-  pub righted_starts : {u : List ℤ} → told Found u ≡ righted m T v → (right_side m T false v).found ≡ some (drop m u) (basis m T)
+  pub righted_starts : {u : List ℤ} → told (Ok tt) u ≡ righted m T v → (right_side m T false v).found ≡ some (drop m u) (basis m T)
   righted_starts {u} e =
       ap (λ (x : Solved). x.found) is_by
       ∙ starts_by (all_zero (take m first.row)) first.over second.over u (e ∙ is_all)
 
 -- ---- what an answer says of the solution
-over_none : None ≡ Over → ⊥
-over_none e = let z : ◌≡◌ {A = ℕ} 0 1 = cc in omega arith
+pub solution_found : {A : Type 0} (x : Solved) (a : A) → Ok a ≡ solution_of x a → x.over ≡ false
+solution_found x a e = go x.over x.found e
+  where
+    go : (o : Bool) (f : RightSide.Found) → Ok a ≡ cond o (Err Elimination) (answer_of f a) → o ≡ false
+    go true f e = absurd (refused a Elimination e)
+    go false f e = refl
 
-is_over : (o : Bool) (f : RightSide.Found) → cond o Over (answer_of f) ≡ Over → o ≡ true
-is_over true f e = refl
-is_over false none e = absurd (over_none e)
-is_over false (some v N) e = absurd (over_found (sym e))
+pub solution_over : {A : Type 0} (x : Solved) (a : A) → Err Elimination ≡ solution_of x a → x.over ≡ true
+solution_over x a e = go x.over x.found e
+  where
+    go : (o : Bool) (f : RightSide.Found) → Err Elimination ≡ cond o (Err Elimination) (answer_of f a) → o ≡ true
+    go true f e = refl
+    go false none e = absurd (apart e)
+    go false (some v N) e = absurd (refused a Elimination (sym e))
 
-pub solution_over : (x : Solved) → Over ≡ solution_of x → x.over ≡ true
-solution_over x e = is_over x.over x.found (sym e)
+pub solution_kept : {A : Type 0} (x : Solved) (a : A) (why : Refusal) → (why ≡ Elimination → ⊥) → Err why ≡ solution_of x a → x.over ≡ false
+solution_kept x a why n e = go x.over x.found e
+  where
+    go : (o : Bool) (f : RightSide.Found) → Err why ≡ cond o (Err Elimination) (answer_of f a) → o ≡ false
+    go true f e = absurd (n cc)
+    go false f e = refl
 
-not_over : (o : Bool) (f : RightSide.Found) (r : Solution) → (r ≡ Over → ⊥) → r ≡ cond o Over (answer_of f) → o ≡ false
-not_over true f r n e = absurd (n e)
-not_over false f r n e = refl
+-- beside the solution another value may be answered
+pub solution_err : {A B : Type 0} (x : Solved) (a : A) (b : B) (why : Refusal) → Err why ≡ solution_of x a → Err why ≡ solution_of x b
+solution_err x a b why e = go x.over x.found e
+  where
+    go : (o : Bool) (f : RightSide.Found) → Err why ≡ cond o (Err Elimination) (answer_of f a) → Err why ≡ cond o (Err Elimination) (answer_of f b)
+    go true f e = ap Err cc
+    go false none e = ap Err cc
+    go false (some v N) e = absurd (refused a why (sym e))
 
-pub solution_none : (x : Solved) → None ≡ solution_of x → x.over ≡ false
-solution_none x e = not_over x.over x.found None over_none e
+pub solution_ok : {A B : Type 0} (x : Solved) (a : A) (b : B) → Ok a ≡ solution_of x a → Ok b ≡ solution_of x b
+solution_ok x a b e = go x.over x.found e
+  where
+    go : (o : Bool) (f : RightSide.Found) → Ok a ≡ cond o (Err Elimination) (answer_of f a) → Ok b ≡ cond o (Err Elimination) (answer_of f b)
+    go true f e = absurd (refused a Elimination e)
+    go false none e = absurd (refused a NoWholeNumbers e)
+    go false (some v N) e = refl
 
-pub solution_found : (x : Solved) → Found ≡ solution_of x → x.over ≡ false
-solution_found x e = not_over x.over x.found Found (λ f. over_found (sym f)) e
+-- a refusal leaves the buffer of the starting list
+pub start_refused : {A : Type 0} (x : Solved) (a : A) (why : Refusal) (s : List ℤ) → Err why ≡ solution_of x a → start_after x s ≡ s
+start_refused x a why s e = go x.over x.found e
+  where
+    go : (o : Bool) (f : RightSide.Found) → Err why ≡ cond o (Err Elimination) (answer_of f a) → cond o s (start_of f s) ≡ s
+    go true f e = refl
+    go false none e = refl
+    go false (some v N) e = absurd (refused a why (sym e))
 
-start_by : (o : Bool) (f : RightSide.Found) (s : List ℤ) → None ≡ cond o Over (answer_of f) → cond o s (start_of f s) ≡ s
-start_by true f s e = refl
-start_by false none s e = refl
-start_by false (some v N) s e = absurd (none_found e)
-
-pub start_over : (x : Solved) (s : List ℤ) → Over ≡ solution_of x → start_after x s ≡ s
-start_over x s e = ap (λ (o : Bool). cond o s (start_of x.found s)) (solution_over x e)
-
-pub start_none : (x : Solved) (s : List ℤ) → None ≡ solution_of x → start_after x s ≡ s
-start_none x s e = start_by x.over x.found s e
-
-pub start_found : (x : Solved) (s v : List ℤ) (N : List (List ℤ)) → Found ≡ solution_of x → x.found ≡ some v N → start_after x s ≡ v
-start_found x s v N e f = ap₂ (λ (o : Bool) (g : RightSide.Found). cond o s (start_of g s)) (solution_found x e) f
+pub start_found : {A : Type 0} (x : Solved) (a : A) (s v : List ℤ) (N : List (List ℤ)) → Ok a ≡ solution_of x a → x.found ≡ some v N
+    → start_after x s ≡ v
+start_found x a s v N e f = ap₂ (λ (o : Bool) (g : RightSide.Found). cond o s (start_of g s)) (solution_found x a e) f
 
 -- ---- the list (−b, then zeros)
 module _ {p : Problem} {v t b s : List ℤ} (h : Findable p v t b s) where
-  pub work_wide : length v ≡ p.rows + p.columns
-  work_wide = ap length h.zero ∙ length-replicate (p.rows + p.columns) (pos 0)
-
   module _ {u : List ℤ} (e : u ≡ neg b ++ drop (length b) v) where
     list_is : u ≡ neg b ++ zeros p.columns
     list_is =

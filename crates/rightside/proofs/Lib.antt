@@ -2,5 +2,6 @@
 pub mod Staircase
 pub mod Sweeping
 pub mod Parting
+pub mod Zeros
 pub mod Answers
 pub mod SolveLaws

@@ -3,8 +3,6 @@
 --   solved_over, solved_form   a form past the limit; the form of a solution
 --   table-.., answer_over, start_kept   what the answer and the buffers are, by the mark
 --   findable       what the right side asks of the form
---   solving_is     what is answered beside the rounds
---   tally_over, -rounds   what the form tells, by the mark
 -- Assumes nothing.
 use mathlib.Core.Path.{◌≡◌, refl, sym, ◌∙◌, ap, ap₂, subst}
 use mathlib.Core.Bool.{Bool, true, false, cond}
@@ -20,17 +18,14 @@ use Rattle.lattice.specs.Hermite.{Rising}
 use Rattle.problem.specs.Limits.{max_right}
 use Rattle.problem.specs.declared.Problem.{Problem}
 use Rattle.tableau.specs.RightSide.{Solved, sweep, leading, right_side, solve}
-use Rattle.tableau.specs.RoundCount.{form_rounds}
-use Rattle.tableau.specs.LentTable.{Formable, matrix_of, form_of, form_tally}
-use Rattle.tableau.specs.declared.Tally.{Tally}
+use Rattle.tableau.specs.LentTable.{Formable, matrix_of, form_of}
 use Rattle.tableau.proofs.Theorems.{problem_rising}
 use Rattle.tableau.proofs.Forms.{Formed, count, span_within}
-use Rattle.rightside.specs.Solutions.{Solvable, solved_of, answer_of, solution_of, rounds_for, solving_of}
+use Rattle.rightside.specs.Solutions.{Solvable, solved_of, answer_of, solution_of}
 use Rattle.rightside.specs.Solutions.{tableau_after, start_of, start_after}
 use Rattle.rightside.specs.Sweeps.{Findable, found_of}
-use Rattle.rightside.specs.declared.Solution.{Solution}
-use Rattle.rightside.specs.declared.Solution.TheVariants.{Over}
-use Rattle.rightside.specs.declared.Solving.{Solving}
+use Rattle.std.specs.Prelude.{Err}
+use Rattle.problem.specs.declared.Refusal.TheVariants.{Elimination}
 
 module _ {p : Problem} {t a : List ℤ} (h : Formable p t a) where
   pub solved_is : {v : List ℤ} (b : List ℤ) → (form_of p a).over ≡ false → Formed p (form_of p a) v → solved_of p a b ≡ found_of p v b
@@ -68,26 +63,11 @@ table_over p a b t e = ap (λ (o : Bool). cond o (zeros (length t)) (flat (solve
 pub table_kept : (p : Problem) (a b t : List ℤ) → (solved_of p a b).over ≡ false → tableau_after (solved_of p a b) t ≡ flat (form_of p a).table
 table_kept p a b t e = ap (λ (o : Bool). cond o (zeros (length t)) (flat (solved_of p a b).form)) e ∙ ap flat (solved_form p a b)
 
-pub answer_over : (x : Solved) → x.over ≡ true → solution_of x ≡ Over
-answer_over x e = ap (λ (o : Bool). cond o Over (answer_of x.found)) e
+pub answer_over : {A : Type 0} (x : Solved) (a : A) → x.over ≡ true → solution_of x a ≡ Err Elimination
+answer_over x a e = ap (λ (o : Bool). cond o (Err Elimination) (answer_of x.found a)) e
 
 pub start_kept : (x : Solved) (s : List ℤ) → x.over ≡ true → start_after x s ≡ s
 start_kept x s e = ap (λ (o : Bool). cond o s (start_of x.found s)) e
-
--- ---- the rounds
-abbrev pub solving : Solution → ℕ → Solving
-solving r k = record { solution = r; rounds = k }
-
-pub solving_is : (x : Solved) (k : ℕ) {r : Solution} → r ≡ solution_of x → solving r (rounds_for r k) ≡ solving_of x k
-solving_is x k e = ap (λ (r : Solution). solving r (rounds_for r k)) e
-
-pub tally_over : (p : Problem) (a : List ℤ) {r : Tally} {o : Bool} → r ≡ form_tally p a → r.over ≡ o → (form_of p a).over ≡ o
-tally_over p a e h = sym (ap (λ (x : Tally). x.over) e) ∙ h
-
-pub tally_rounds : (p : Problem) (a : List ℤ) {r : Tally} → r ≡ form_tally p a → (form_of p a).over ≡ false
-    → r.rounds ≡ form_rounds p.columns (matrix_of p a)
-tally_rounds p a e h =
-    ap (λ (x : Tally). x.rounds) e ∙ ap (λ (o : Bool). cond o 0 (form_rounds p.columns (matrix_of p a))) h
 
 pub findable : {p : Problem} {t a b s u : List ℤ} (n : ℕ) → Solvable p t a b s → p.rows + p.columns ≤ n → length u ≡ length t
     → Formed p (form_of p a) u

@@ -23,10 +23,11 @@ use Rattle.tableau.specs.RightSide.{further, sweep}
 use Rattle.tableau.specs.Within.{Within}
 use Rattle.whole.proofs.Tests.{neither}
 use Rattle.tableau.proofs.Within.{within_take, within_drop}
-use Rattle.tableau.specs.RowSteps.{Pivot, Leads, left_after}
-use Rattle.tableau.proofs.Stepping.{left_by}
+use Rattle.std.specs.Prelude.{Result, Ok}
+use Rattle.tableau.specs.declared.Beyond.{Beyond}
+use Rattle.tableau.specs.RowSteps.{unless, Pivot, Leads, left_after}
 use Rattle.tableau.proofs.Walking.{reduced_step}
-use Rattle.rightside.specs.Sweeps.{Sweepable, Swept}
+use Rattle.rightside.specs.Sweeps.{Sweepable}
 use Rattle.rightside.proofs.Staircase.{Walks, starts, goes_on}
 
 -- ---- a row
@@ -45,11 +46,11 @@ lead_inside (pos (suc n) ∷ r) h = omega arith
 lead_inside (negsuc n ∷ r) h = omega arith
 
 -- ---- what is left, by the mark
-pub over_left : {x : Left} {v u : List ℤ} → Swept x v true u → u ≡ zeros (length v)
-over_left {x} {v} s = s.left ∙ left_by x v (sym s.answer)
+pub over_left : (x : Left) (v : List ℤ) → x.over ≡ true → left_after x v ≡ zeros (length v)
+over_left x v e = rw e refl
 
-pub kept_left : {x : Left} {v u : List ℤ} → Swept x v false u → u ≡ x.row
-kept_left {x} {v} s = s.left ∙ left_by x v (sym s.answer)
+pub kept_left : (x : Left) (v : List ℤ) → x.over ≡ false → left_after x v ≡ x.row
+kept_left x v e = rw e refl
 
 -- ---- the loop
 pub record Sweeps (w k : ℕ) (t v₀ v : List ℤ) (at left c : ℕ) : Type 0 where
@@ -84,17 +85,17 @@ module _ {w k : ℕ} {t v₀ v : List ℤ} {at left c : ℕ} (h : Sweeps w k t v
   unfolding sweep
   one = sym h.rest ∙ ap (λ (T : List (List ℤ)). sweep T v) (apart h.walk.room some)
 
-  pub sweep_stops : {l : ℕ} {u : List ℤ} → l ≡ lead next → length v₀ ≡ w → Swept (reduced l next v) v true u → Swept (sweep (chop k w t) v₀) v₀ true u
-  sweep_stops {l} {u} d n s =
-      let o : (reduced (lead next) next v).over ≡ true = ap (λ (i : ℕ). (reduced i next v).over) (sym d) ∙ sym s.answer in
-      let e : (sweep (chop k w t) v₀).over ≡ true =
-      ap (λ (x : Left). x.over) one ∙ ap (λ (b : Bool). b || (sweep (rows h.walk.room some) (reduced (lead next) next v).row).over) o in
-      record { answer = sym e; left = over_left s ∙ ap zeros (h.wide ∙ sym n) ∙ sym (left_by (sweep (chop k w t) v₀) v₀ e) }
+  pub sweep_stops : {l : ℕ} → l ≡ lead next → (reduced l next v).over ≡ true → (sweep (chop k w t) v₀).over ≡ true
+  sweep_stops d o =
+      ap (λ (x : Left). x.over) one
+      ∙ ap (λ (b : Bool). b || (sweep (rows h.walk.room some) (reduced (lead next) next v).row).over)
+      (ap (λ (i : ℕ). (reduced i next v).over) (sym d) ∙ o)
 
-  pub sweep_on : {l : ℕ} {u : List ℤ} → l ≡ lead next → Swept (reduced l next v) v false u → Sweeps w k t v₀ u (at + w) (left - 1) (l + 1)
-  sweep_on {l} {u} d s =
-      let o : (reduced (lead next) next v).over ≡ false = ap (λ (i : ℕ). (reduced i next v).over) (sym d) ∙ sym s.answer in
-      let e : u ≡ (reduced (lead next) next v).row = kept_left s ∙ ap (λ (i : ℕ). (reduced i next v).row) d in
+  pub sweep_on : {l : ℕ} {u : List ℤ} → l ≡ lead next → (reduced l next v).over ≡ false → u ≡ left_after (reduced l next v) v
+      → Sweeps w k t v₀ u (at + w) (left - 1) (l + 1)
+  sweep_on {l} {u} d m f =
+      let o : (reduced (lead next) next v).over ≡ false = ap (λ (i : ℕ). (reduced i next v).over) (sym d) ∙ m in
+      let e : u ≡ (reduced (lead next) next v).row = f ∙ kept_left (reduced l next v) v m ∙ ap (λ (i : ℕ). (reduced i next v).row) d in
       record {
         walk = goes_on h.walk some d;
         wide = ap length e ∙ (reduced_step (lead next) next).wide v ∙ h.wide;
@@ -106,11 +107,12 @@ module _ {w k : ℕ} {t v₀ v : List ℤ} {at left c : ℕ} (h : Sweeps w k t v
             ∙ sym one;
       }
 
-pub sweep_ends : {w k : ℕ} {t v₀ v : List ℤ} {at left c : ℕ} → Sweeps w k t v₀ v at left c → left ≡ 0 → Swept (sweep (chop k w t) v₀) v₀ false v
+pub sweep_ends : {w k : ℕ} {t v₀ v : List ℤ} {at left c : ℕ} → Sweeps w k t v₀ v at left c → left ≡ 0
+    → (◌≡◌ {A = Result (Unit {0}) Beyond} (Ok tt) (unless (sweep (chop k w t) v₀).over tt)) × (v ≡ left_after (sweep (chop k w t) v₀) v₀)
 unfolding sweep
 sweep_ends {w} {k} {t} {v₀} {v} {at} {left} h e =
     let all : sweep (chop k w t) v₀ ≡ kept v = sym h.rest ∙ ap (λ (n : ℕ). sweep (chop n w (drop at t)) v) e in
-    record { answer = ap (λ (x : Left). x.over) (sym all); left = ap (λ (x : Left). left_after x v₀) (sym all) }
+    rw all (refl, refl)
 
 -- ---- a whole sweep
 pub sweep_within : (T : List (List ℤ)) (v : List ℤ) → Within v → (sweep T v).over ≡ false → Within (sweep T v).row

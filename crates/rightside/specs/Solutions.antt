@@ -3,24 +3,23 @@
 --   Solvable p t a b s   what the causes 1 to 3 leave of a problem p, the tableau's buffer t, the coefficients a, the right sides b and the buffer
 --                        s of the starting list
 --   solved_of p a b      the form and the right side
---   answer_of f, solution_of x   what is answered, where no number lies beyond ±M, and in any case
---   solving_of x k       the same beside the k rounds of the form. Document 02, (vii): "A refusal returns 0 rounds.", by `rounds_for`
+--   answer_of f a, solution_of x a   what is answered, where no number lies beyond ±M, and in any case: a with a starting list, or the refusal.
+--                        Beside the right side alone a is nothing, and of the solution it is the rounds of the form: a refusal has none
 --   tableau_after x t, start_after x s   what the two buffers hold then; by `start_of`, where no number lies beyond ±M
 --   Righted              what the right side of a form answers, and what the list that it works on holds then
 --   righted m T v        that of the form T, the right side v and m rows: all 0 where a number lies beyond ±M, else the list that is left
 --   righted_of m k t v   that of the form's k rows in t
 -- Assumes nothing.
-use Rattle.std.specs.Prelude.{◌≡◌, true, false, cond, List, ℕ, ℤ, length}
+use Rattle.std.specs.Prelude.{◌≡◌, true, false, cond, List, ℕ, ℤ, length, Result, Ok, Err}
 use Rattle.whole.specs.Lists.{zeros}
 use Rattle.lattice.specs.Rows.{flat, chop}
 use Rattle.problem.specs.Limits.{max_right}
 use Rattle.problem.specs.Checks.{all_span}
 use Rattle.problem.specs.declared.Problem.{Problem}
+use Rattle.problem.specs.declared.Refusal.{Refusal}
+use Rattle.problem.specs.declared.Refusal.TheVariants.{Elimination, NoWholeNumbers}
 use Rattle.tableau.specs.RightSide.{Found, none, some, Solved, right_side, list_left, solve}
 use Rattle.tableau.specs.LentTable.{Formable, matrix_of}
-use Rattle.rightside.specs.declared.Solution.{Solution}
-use Rattle.rightside.specs.declared.Solving.{Solving}
-use Rattle.rightside.specs.declared.Solution.TheVariants as code
 
 pub record Solvable (p : Problem) (t a b s : List ℤ) : Type 0 where
   pub form : Formable p t a
@@ -31,20 +30,12 @@ pub record Solvable (p : Problem) (t a b s : List ℤ) : Type 0 where
 abbrev pub solved_of : Problem → List ℤ → List ℤ → Solved
 solved_of p a b = solve p.columns (matrix_of p a) b
 
-abbrev pub answer_of : Found → Solution
-answer_of none = code.None
-answer_of (some v N) = code.Found
+abbrev pub answer_of : {A : Type 0} → Found → A → Result A Refusal
+answer_of none a = Err NoWholeNumbers
+answer_of (some v N) a = Ok a
 
-abbrev pub solution_of : Solved → Solution
-solution_of x = cond x.over code.Over (answer_of x.found)
-
-abbrev pub rounds_for : Solution → ℕ → ℕ
-rounds_for code.Over k = 0
-rounds_for code.None k = 0
-rounds_for code.Found k = k
-
-abbrev pub solving_of : Solved → ℕ → Solving
-solving_of x k = record { solution = solution_of x; rounds = rounds_for (solution_of x) k }
+abbrev pub solution_of : {A : Type 0} → Solved → A → Result A Refusal
+solution_of x a = cond x.over (Err Elimination) (answer_of x.found a)
 
 abbrev pub tableau_after : Solved → List ℤ → List ℤ
 tableau_after x t = cond x.over (zeros (length t)) (flat x.form)
@@ -57,13 +48,13 @@ abbrev pub start_after : Solved → List ℤ → List ℤ
 start_after x s = cond x.over s (start_of x.found s)
 
 pub record Righted : Type 0 where
-  pub answer : Solution
+  pub answer : Result (Unit {0}) Refusal
   pub list : List ℤ
 
 abbrev pub righted : ℕ → List (List ℤ) → List ℤ → Righted
 righted m T v =
     let x : Solved = right_side m T false v in
-    record { answer = solution_of x; list = cond x.over (zeros (length v)) (list_left m T v) }
+    record { answer = solution_of x tt; list = cond x.over (zeros (length v)) (list_left m T v) }
 
 abbrev pub righted_of : ℕ → ℕ → List ℤ → List ℤ → Righted
 righted_of m k t v = righted m (chop k (length v) t) v

@@ -1,11 +1,10 @@
 -- What taking the rows of a form from a list asks, answers and leaves.
 --   Sweepable w k t        t holds k rows of w numbers within ±M, with leads above 0 that rise
 --   swept_of k t v         the k rows in t taken from v
---   Swept x v r u          what taking rows from v answers, r, and leaves of it, u: all 0 where a number lies beyond ±M
 --   found_of p t b         the right side of the form in the list t, for the right sides b
 --   Findable p v t b s     what that asks
 -- Assumes nothing.
-use Rattle.std.specs.Prelude.{◌≡◌, Bool, false, List, ◌++◌, ℕ, ◌+◌, ◌*◌, ℤ, length}
+use Rattle.std.specs.Prelude.{◌≡◌, false, List, ◌++◌, ℕ, ◌+◌, ◌*◌, ℤ, length}
 use Rattle.whole.specs.Lists.{zeros}
 use Rattle.lattice.specs.Rows.{neg, chop}
 use Rattle.lattice.specs.Span.{All}
@@ -14,7 +13,7 @@ use Rattle.problem.specs.declared.Problem.{Problem}
 use Rattle.tableau.specs.Elimination.{Left}
 use Rattle.tableau.specs.RightSide.{Solved, sweep, right_side}
 use Rattle.tableau.specs.Within.{Within}
-use Rattle.tableau.specs.RowSteps.{Leads, left_after}
+use Rattle.tableau.specs.RowSteps.{Leads}
 
 pub record Sweepable (w k : ℕ) (t : List ℤ) : Type 0 where
   pub long : length t ≡ k * w
@@ -24,10 +23,6 @@ pub record Sweepable (w k : ℕ) (t : List ℤ) : Type 0 where
 
 abbrev pub swept_of : ℕ → List ℤ → List ℤ → Left
 swept_of k t v = sweep (chop k (length v) t) v
-
-pub record Swept (x : Left) (v : List ℤ) (r : Bool) (u : List ℤ) : Type 0 where
-  pub answer : r ≡ x.over
-  pub left : u ≡ left_after x v
 
 abbrev pub found_of : Problem → List ℤ → List ℤ → Solved
 found_of p t b = right_side p.rows (chop p.columns (p.rows + p.columns) t) false (neg b ++ zeros p.columns)

@@ -10,10 +10,11 @@ use Rattle.whole.proofs.Never.{untrue}
 use Rattle.problem.specs.Answers.{answer_counts, is_verdict}
 use Rattle.problem.specs.Checks.{Posed, first_cause}
 use Rattle.problem.specs.declared.Refusal.TheVariants.{Standing}
-use Rattle.problem.specs.declared.Check.{Check}
-use Rattle.problem.specs.declared.Check.TheVariants.{Passed, Failed}
+use Rattle.problem.specs.Checks.{Check}
+use Rattle.std.specs.Prelude.{Ok, Err}
 use Rattle.tableau.specs.RightSide.{Found, none, some, basis}
-use Rattle.settling.specs.Seating.{Seated, seated, far, seat}
+use Rattle.std.specs.Prelude.{Ok, Err}
+use Rattle.settling.specs.Seating.{Seated, seat}
 use Rattle.engine.specs.Assign.{Buffers, Done, m, columns, lent_of, refused, over_limit, settle_on, on_check, on_seated, on_found}
 use Rattle.engine.specs.Assign.{solved, assign_fit, assign, stands, formed, continue_fit, continue}
 use Rattle.runs.specs.Runs.{Descent, Ends}
@@ -47,8 +48,8 @@ module _ (P : Posed) where
   module _ (T : List (List ℤ)) (B : Buffers) where
     seated_settles : (N : List (List ℤ)) (z : Seated) → is_verdict (on_seated P T N B z).answer ≡ true
         → Settles (seated_run P N z) (on_seated P T N B z)
-    seated_settles N far e = untrue e
-    seated_settles N (seated v) e = settle_settles T N v
+    seated_settles N (Err why) e = untrue e
+    seated_settles N (Ok v) e = settle_settles T N v
 
     found_settles : (f : Found) → is_verdict (on_found P T B f).answer ≡ true → Settles (found_run P f) (on_found P T B f)
     found_settles none e = untrue e
@@ -57,8 +58,8 @@ module _ (P : Posed) where
   module _ (B : Buffers) (R : List (List ℤ)) where
     checked_settles : (c : Check) (d : Done) → (is_verdict d.answer ≡ true → Settles R d) → is_verdict (on_check c B d).answer ≡ true
         → Settles R (on_check c B d)
-    checked_settles Passed d s e = s e
-    checked_settles (Failed why) d s e = untrue e
+    checked_settles (Ok u) d s e = s e
+    checked_settles (Err why) d s e = untrue e
 
     limited_settles : (t : Bool) (d : Done) → (is_verdict d.answer ≡ true → Settles R d) → is_verdict (cond t (over_limit B) d).answer ≡ true
         → Settles R (cond t (over_limit B) d)

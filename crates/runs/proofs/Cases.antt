@@ -31,7 +31,8 @@ use Rattle.settling.specs.declared.Measure.{Measure}
 use Rattle.settling.specs.declared.Move.{Move}
 use Rattle.settling.specs.declared.Part.{Part}
 use Rattle.settling.specs.declared.Part.TheVariants.{Bounds, Goals}
-use Rattle.settling.specs.declared.Step.TheVariants.{Take}
+use Rattle.std.specs.Prelude.{Some}
+use Rattle.settling.specs.Steps.{step}
 use Rattle.settling.specs.Columns.{Columns, listed}
 use Rattle.settling.specs.Moves.{single, singles, pairs_with, pairs, moves, moved}
 use Rattle.settling.specs.Measures.{fraction, below, measure}
@@ -105,7 +106,7 @@ wished_rises = refl
 
 -- ---- what does not hold of every step
 abbrev pub OfSteps : Part → (Columns → List ℤ → List Measure) → (List Measure → List Measure → Type 0) → Type 0
-OfSteps p f Q = (C : Columns) (N : List (List ℤ)) (v : List ℤ) (i : ℕ) (o : Move) → part_of C v ≡ p → next_step C N v ≡ Take i o
+OfSteps p f Q = (C : Columns) (N : List (List ℤ)) (v : List ℤ) (i : ℕ) (o : Move) → part_of C v ≡ p → next_step C N v ≡ Some (step i o)
     → Q (f C v) (f C (moved N o v))
 
 -- of distances, which are whole
@@ -128,32 +129,32 @@ all_ratios_from C v (suc k) j = measure_at Goals C v j ∷ all_ratios_from C v k
 abbrev plus_first : Move
 plus_first = single 0 (pos 1)
 
-pub dragged_step : next_step dragged (three (pos 1) (pos 2) (pos 2) ∷ []) (three (pos 0) (pos 0) (pos 0)) ≡ Take 0 plus_first
+pub dragged_step : next_step dragged (three (pos 1) (pos 2) (pos 2) ∷ []) (three (pos 0) (pos 0) (pos 0)) ≡ Some (step 0 plus_first)
 unfolding every plus singles pairs_with pairs moves moved measure is_ranked passes improves insert rank_from first_move first_column step_at step_of
     next_step
 dragged_step = refl
 
-pub crossed_step : next_step crossed (two (pos 2) (pos 1) ∷ []) (two (pos 0) (pos 0)) ≡ Take 1 plus_first
+pub crossed_step : next_step crossed (two (pos 2) (pos 1) ∷ []) (two (pos 0) (pos 0)) ≡ Some (step 1 plus_first)
 unfolding every plus singles pairs_with pairs moves moved measure is_ranked passes improves insert rank_from first_move first_column step_at step_of
     next_step
 crossed_step = refl
 
-pub held_step : next_step held (two (pos 0) (pos 1) ∷ []) (two (pos 0) (pos 0)) ≡ Take 1 plus_first
+pub held_step : next_step held (two (pos 0) (pos 1) ∷ []) (two (pos 0) (pos 0)) ≡ Some (step 1 plus_first)
 unfolding every plus singles pairs_with pairs moves moved measure is_ranked passes improves insert rank_from first_move first_column step_at step_of
     next_step
 held_step = refl
 
-pub spoilt_step : next_step spoilt (two (pos 1) (pos 1) ∷ []) (two (pos 1) (pos 1)) ≡ Take 1 plus_first
+pub spoilt_step : next_step spoilt (two (pos 1) (pos 1) ∷ []) (two (pos 1) (pos 1)) ≡ Some (step 1 plus_first)
 unfolding every plus singles pairs_with pairs moves moved measure is_ranked passes improves insert rank_from first_move first_column step_at step_of
     next_step
 spoilt_step = refl
 
-pub nudged_step : next_step nudged (two (pos 1) (pos 1) ∷ []) (two (pos 1) (pos 4)) ≡ Take 0 plus_first
+pub nudged_step : next_step nudged (two (pos 1) (pos 1) ∷ []) (two (pos 1) (pos 4)) ≡ Some (step 0 plus_first)
 unfolding every plus singles pairs_with pairs moves moved measure is_ranked passes improves insert rank_from first_move first_column step_at step_of
     next_step
 nudged_step = refl
 
-pub free_step : next_step free (two (pos 1) (pos 1) ∷ []) (two (pos 1) (pos 0)) ≡ Take 0 plus_first
+pub free_step : next_step free (two (pos 1) (pos 1) ∷ []) (two (pos 1) (pos 0)) ≡ Some (step 0 plus_first)
 unfolding every plus singles pairs_with pairs moves moved measure is_ranked passes improves insert rank_from first_move first_column step_at step_of
     next_step
 free_step = refl

@@ -18,15 +18,16 @@ use native.Mathlib.Omega.{arith}
 use lib.IntN.{ℤ}
 use lib.ListN.{length}
 use Rattle.whole.proofs.Counted.{every_all}
-use Rattle.problem.specs.Answers.{no_steps, answer_counts}
+use Rattle.problem.specs.Answers.{no_steps, verdict_counts}
 use Rattle.problem.specs.declared.Counts.{Counts}
-use Rattle.problem.specs.declared.Answer.TheVariants.{Spent}
+use Rattle.problem.specs.declared.Verdict.TheVariants.{Spent}
 use Rattle.settling.specs.declared.Measure.{Measure}
 use Rattle.settling.specs.declared.Move.{Move}
 use Rattle.settling.specs.declared.Part.{Part}
 use Rattle.settling.specs.declared.Part.TheVariants.{Bounds, Goals}
 use Rattle.settling.specs.declared.Step.{Step}
-use Rattle.settling.specs.declared.Step.TheVariants.{Rest, Take}
+use Rattle.std.specs.Prelude.{Option, Some, None}
+use Rattle.settling.specs.Steps.{step}
 use Rattle.settling.specs.Columns.{Columns}
 use Rattle.settling.proofs.Fronts.{lt_or_ge}
 use Rattle.settling.specs.Moves.{moved}
@@ -57,30 +58,30 @@ module _ (C : Columns) (N : List (List ℤ)) where
       after : Move → List (List ℤ)
       after o = standing g C N (moved N o v)
 
-      go : (j : ℕ) (s : Step) → next_step C N v ≡ s → suc j < length (v ∷ after_step s after)
+      go : (j : ℕ) (s : Option Step) → next_step C N v ≡ s → suc j < length (v ∷ after_step s after)
           → ((o : Move) (l : ℕ) → suc l < length (after o) → Stepped C N (list_at l (after o)) (list_at (suc l) (after o)))
           → Stepped C N (list_at j (v ∷ after_step s after)) (list_at (suc j) (v ∷ after_step s after))
-      go j Rest e h f = absurd (omega arith)
-      go zero (Take i o) e h f = record { column = i; move = o; next = e; after = standing_first g (moved N o v) }
-      go (suc l) (Take i o) e h f = f o l (omega arith)
+      go j None e h f = absurd (omega arith)
+      go zero (Some s) e h f = record { column = s.column; move = s.o; next = e; after = standing_first g (moved N s.o v) }
+      go (suc l) (Some s) e h f = f s.o l (omega arith)
 
   -- ---- the run is settling's
   -- once in bounds, always in bounds
-  goals_stay : (v : List ℤ) (i : ℕ) (o : Move) → step_of Goals C N v ≡ Take i o → in_bounds C (moved N o v) ≡ true
+  goals_stay : (v : List ℤ) (i : ℕ) (o : Move) → step_of Goals C N v ≡ Some (step i o) → in_bounds C (moved N o v) ≡ true
   goals_stay v i o e = every_all C.count _ (taken_allowed Goals C N v i o (step_taken Goals C N v i o e))
 
-  goals_remain : (v : List ℤ) (i : ℕ) (o : Move) → part_of C v ≡ Goals → next_step C N v ≡ Take i o → part_of C (moved N o v) ≡ Goals
+  goals_remain : (v : List ℤ) (i : ℕ) (o : Move) → part_of C v ≡ Goals → next_step C N v ≡ Some (step i o) → part_of C (moved N o v) ≡ Goals
   unfolding next_step
-  goals_remain v i o p e = ap part_if (goals_stay v i o (subst (λ (q : Part). step_of q C N v ≡ Take i o) p e))
+  goals_remain v i o p e = ap part_if (goals_stay v i o (subst (λ (q : Part). step_of q C N v ≡ Some (step i o)) p e))
 
   -- settling with no step left leaves the list as it is
   limit_none : (k : Counts) (v : List ℤ) → v ≡ (settle_from 0 C N k v).values
   unfolding settle_from
   limit_none k v = go (next_step C N v)
     where
-      go : (s : Step) → v ≡ (on_step s (ended (at_rest (part_of C v) k) v) (λ o. ended (Spent k) v)).values
-      go Rest = refl
-      go (Take i o) = refl
+      go : (s : Option Step) → v ≡ (on_step s (ended (at_rest (part_of C v) k) v) (λ o. ended (Spent k) v)).values
+      go None = refl
+      go (Some s) = refl
 
   limited : (g l : ℕ) (k : Counts) (v : List ℤ) → l < length (standing g C N v) → list_at l (standing g C N v) ≡ (settle_from l C N k v).values
   unfolding standing settle_from
@@ -95,10 +96,10 @@ module _ (C : Columns) (N : List (List ℤ)) where
       rest : Move → Settled
       rest o = settle_from l C N (counted (part_of C v) k) (moved N o v)
 
-      go : (s : Step) → suc l < length (v ∷ after_step s after) → ((o : Move) → l < length (after o) → list_at l (after o) ≡ (rest o).values)
+      go : (s : Option Step) → suc l < length (v ∷ after_step s after) → ((o : Move) → l < length (after o) → list_at l (after o) ≡ (rest o).values)
           → list_at l (after_step s after) ≡ (on_step s (ended (at_rest (part_of C v) k) v) rest).values
-      go Rest h f = absurd (omega arith)
-      go (Take i o) h f = f o (omega arith)
+      go None h f = absurd (omega arith)
+      go (Some s) h f = f s.o (omega arith)
 
   pub standing_limit : (g k : ℕ) (v : List ℤ) → k < length (standing g C N v) → list_at k (standing g C N v) ≡ (settle k C N v).values
   unfolding settle
@@ -108,19 +109,19 @@ module _ (C : Columns) (N : List (List ℤ)) where
   record Told (R : List (List ℤ)) (k : Counts) (z : Settled) : Type 0 where
     b : ℕ
     s : ℕ
-    bounds : (answer_counts z.answer).bounds ≡ k.bounds + b
-    steps : total_steps (answer_counts z.answer) ≡ total_steps k + s
+    bounds : (verdict_counts z.verdict).bounds ≡ k.bounds + b
+    steps : total_steps (verdict_counts z.verdict) ≡ total_steps k + s
     long : length R ≡ suc s
     last : list_at s R ≡ z.values
     inside : (j : ℕ) → j < b → part_of C (list_at j R) ≡ Bounds
     past : (j : ℕ) → b ≤ j → j < s → part_of C (list_at j R) ≡ Goals
 
-  rest_counts : (p : Part) (k : Counts) → answer_counts (at_rest p k) ≡ k
+  rest_counts : (p : Part) (k : Counts) → verdict_counts (at_rest p k) ≡ k
   rest_counts Bounds k = refl
   rest_counts Goals k = refl
 
   -- no step is made
-  told_none : (k : Counts) (v : List ℤ) (z : Settled) → answer_counts z.answer ≡ k → v ≡ z.values → Told (v ∷ []) k z
+  told_none : (k : Counts) (v : List ℤ) (z : Settled) → verdict_counts z.verdict ≡ k → v ≡ z.values → Told (v ∷ []) k z
   told_none k v z e f = record {
     b = 0;
     s = 0;
@@ -178,9 +179,9 @@ module _ (C : Columns) (N : List (List ℤ)) where
   unfolding standing settle_from
   told zero k v = go (next_step C N v)
     where
-      go : (s : Step) → Told (v ∷ []) k (on_step s (ended (at_rest (part_of C v) k) v) (λ o. ended (Spent k) v))
-      go Rest = told_none k v _ (rest_counts (part_of C v) k) refl
-      go (Take i o) = told_none k v _ refl refl
+      go : (s : Option Step) → Told (v ∷ []) k (on_step s (ended (at_rest (part_of C v) k) v) (λ o. ended (Spent k) v))
+      go None = told_none k v _ (rest_counts (part_of C v) k) refl
+      go (Some s) = told_none k v _ refl refl
   told (suc g) k v = go (next_step C N v) refl (λ o. told g (counted (part_of C v) k) (moved N o v))
     where
       after : Move → List (List ℤ)
@@ -189,13 +190,14 @@ module _ (C : Columns) (N : List (List ℤ)) where
       rest : Move → Settled
       rest o = settle_from g C N (counted (part_of C v) k) (moved N o v)
 
-      go : (s : Step) → next_step C N v ≡ s → ((o : Move) → Told (after o) (counted (part_of C v) k) (rest o))
+      go : (s : Option Step) → next_step C N v ≡ s → ((o : Move) → Told (after o) (counted (part_of C v) k) (rest o))
           → Told (v ∷ after_step s after) k (on_step s (ended (at_rest (part_of C v) k) v) rest)
-      go Rest e f = told_none k v _ (rest_counts (part_of C v) k) refl
-      go (Take i o) e f =
-          told_more (part_of C v) k v (after o) (rest o) refl (λ p. ap (part_of C) (standing_first g (moved N o v)) ∙ goals_remain v i o p e) (f o)
+      go None e f = told_none k v _ (rest_counts (part_of C v) k) refl
+      go (Some s) e f =
+          told_more (part_of C v) k v (after s.o) (rest s.o) refl
+          (λ p. ap (part_of C) (standing_first g (moved N s.o v)) ∙ goals_remain v s.column s.o p e) (f s.o)
 
-  pub run_ends : (limit : ℕ) (v : List ℤ) → Ends C (standing limit C N v) (answer_counts (settle limit C N v).answer) (settle limit C N v).values
+  pub run_ends : (limit : ℕ) (v : List ℤ) → Ends C (standing limit C N v) (verdict_counts (settle limit C N v).verdict) (settle limit C N v).values
   unfolding settle
   run_ends limit v =
       let t = told limit no_steps v in
@@ -241,11 +243,11 @@ module _ (C : Columns) (N : List (List ℤ)) where
       rank_determinate Bounds = omega arith
       rank_determinate Goals = omega arith
 
-  step_state : (v : List ℤ) (i : ℕ) (o : Move) → next_step C N v ≡ Take i o → lower below (state (moved N o v)) (state v) ≡ true
+  step_state : (v : List ℤ) (i : ℕ) (o : Move) → next_step C N v ≡ Some (step i o) → lower below (state (moved N o v)) (state v) ≡ true
   unfolding next_step lower
   step_state v i o e = go (in_bounds C v) (in_bounds C (moved N o v)) refl e (next_lower C N v i o e)
     where
-      go : (a b : Bool) → in_bounds C (moved N o v) ≡ b → step_of (part_if a) C N v ≡ Take i o
+      go : (a b : Bool) → in_bounds C (moved N o v) ≡ b → step_of (part_if a) C N v ≡ Some (step i o)
           → lower_than (measures (part_if a) C (moved N o v)) (measures (part_if a) C v) ≡ true
           → lower below (state_of (part_if b) (moved N o v)) (state_of (part_if a) v) ≡ true
       go false false f e l = l

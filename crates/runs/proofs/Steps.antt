@@ -19,8 +19,10 @@ use Rattle.settling.specs.declared.Measure.{Measure}
 use Rattle.settling.specs.declared.Move.{Move}
 use Rattle.settling.specs.declared.Part.{Part}
 use Rattle.settling.specs.declared.Part.TheVariants.{Bounds, Goals}
-use Rattle.settling.specs.declared.Step.TheVariants.{Take}
-use Rattle.settling.specs.Columns.{Column, Columns, valued, cell}
+use Rattle.std.specs.Prelude.{Some}
+use Rattle.settling.specs.Steps.{step}
+use Rattle.settling.specs.declared.Column.{Column}
+use Rattle.settling.specs.Columns.{Columns, valued, cell}
 use Rattle.settling.proofs.Fronts.{lt_or_ge}
 use Rattle.settling.specs.Moves.{change, moved}
 use Rattle.settling.specs.Measures.{fraction, below, ratio, measure}
@@ -145,6 +147,6 @@ module _ (p : Part) (C : Columns) (N : List (List ℤ)) (v : List ℤ) (i : ℕ)
       (measures_determinate p C v C.count 0) (measures_determinate p C after C.count 0)
       (falling C.count 0 (omega arith) (omega arith) (omega (arith, t.inside)))
 
-pub next_lower : (C : Columns) (N : List (List ℤ)) (v : List ℤ) (i : ℕ) (o : Move) → next_step C N v ≡ Take i o
+pub next_lower : (C : Columns) (N : List (List ℤ)) (v : List ℤ) (i : ℕ) (o : Move) → next_step C N v ≡ Some (step i o)
     → lower_than (measures (part_of C v) C (moved N o v)) (measures (part_of C v) C v) ≡ true
 next_lower C N v i o e = taken_lower (part_of C v) C N v i o (next_taken C N v i o e)

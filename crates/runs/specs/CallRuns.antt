@@ -10,7 +10,8 @@ use Rattle.std.specs.Prelude.{◌≡◌, true, false, cond, List, [], ℤ}
 use Rattle.problem.specs.Answers.{answer_counts, is_verdict}
 use Rattle.problem.specs.Checks.{Posed}
 use Rattle.tableau.specs.RightSide.{Found, none, some, basis}
-use Rattle.settling.specs.Seating.{Seated, seated, far, seat}
+use Rattle.std.specs.Prelude.{Ok, Err}
+use Rattle.settling.specs.Seating.{Seated, seat}
 use Rattle.engine.specs.Assign.{Buffers, Done, m, columns, solved, assign, formed, continue}
 use Rattle.runs.specs.Runs.{standing, Descent, Ends}
 
@@ -18,8 +19,8 @@ abbrev pub settle_run : Posed → List (List ℤ) → List ℤ → List (List �
 settle_run P N v = standing P.problem.limit (columns P) N v
 
 abbrev pub seated_run : Posed → List (List ℤ) → Seated → List (List ℤ)
-seated_run P N far = []
-seated_run P N (seated v) = settle_run P N v
+seated_run P N (Err why) = []
+seated_run P N (Ok v) = settle_run P N v
 
 abbrev pub found_run : Posed → Found → List (List ℤ)
 found_run P none = []

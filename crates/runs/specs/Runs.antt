@@ -21,7 +21,8 @@ use Rattle.settling.specs.declared.Move.{Move}
 use Rattle.settling.specs.declared.Part.{Part}
 use Rattle.settling.specs.declared.Part.TheVariants.{Bounds, Goals}
 use Rattle.settling.specs.declared.Step.{Step}
-use Rattle.settling.specs.declared.Step.TheVariants.{Rest, Take}
+use Rattle.std.specs.Prelude.{Option, Some, None}
+use Rattle.settling.specs.Steps.{step}
 use Rattle.settling.specs.Columns.{Columns, cell}
 use Rattle.settling.specs.Moves.{moved}
 use Rattle.settling.specs.Measures.{below}
@@ -47,9 +48,9 @@ abbrev pub lower_than : List Measure → List Measure → Bool
 lower_than K L = lower below (sorted below K) (sorted below L)
 
 -- ---- a run
-abbrev pub after_step : Step → (Move → List (List ℤ)) → List (List ℤ)
-after_step Rest f = []
-after_step (Take i o) f = f o
+abbrev pub after_step : Option Step → (Move → List (List ℤ)) → List (List ℤ)
+after_step None f = []
+after_step (Some s) f = f s.o
 
 unfoldable pub standing : ℕ → Columns → List (List ℤ) → List ℤ → List (List ℤ)
 standing zero C N v = v ∷ []
@@ -82,5 +83,5 @@ pub record Ends (C : Columns) (R : List (List ℤ)) (k : Counts) (w : List ℤ) 
 pub record Stepped (C : Columns) (N : List (List ℤ)) (u w : List ℤ) : Type 0 where
   pub column : ℕ
   pub move : Move
-  pub next : next_step C N u ≡ Take column move
+  pub next : next_step C N u ≡ Some (step column move)
   pub after : w ≡ moved N move u

@@ -1,13 +1,11 @@
 -- The root of the laws that the proofs cite.
 pub mod Setting
-pub mod Finding
 pub mod Listings
 pub mod Numbering
 pub mod Sorting
 pub mod Inserting
-pub mod Kept
-pub mod Ranked
 pub mod Indexing
+pub mod Reached
 pub mod Dominance
 pub mod Alone
 pub mod Testing
@@ -15,5 +13,7 @@ pub mod Pairing
 pub mod Partners
 pub mod Singles
 pub mod Placing
-pub mod Reached
+pub mod Finding
+pub mod Kept
+pub mod Ranked
 pub mod Turning

@@ -14,13 +14,13 @@ use lib.IntN.{ℤ, pos, negsuc}
 use Rattle.settling.specs.declared.Move.{Move}
 use Rattle.settling.specs.Moves.{single, pair, sign_pairs, singles, pairs_with, pairs, moves}
 use Rattle.settling.specs.Verdicts.{Listed}
-use Rattle.search.specs.Numbers.{Sign}
+use Rattle.search.specs.Numbers.{IsSign}
 
 pub record Single (r : ℕ) (o : Move) : Type 0 where
   pub s : ℕ
   pub a : ℤ
   pub inside : s < r
-  pub sign : Sign a
+  pub sign : IsSign a
   pub is : o ≡ single s a
 
 pub record Double (r : ℕ) (o : Move) : Type 0 where
@@ -30,8 +30,8 @@ pub record Double (r : ℕ) (o : Move) : Type 0 where
   pub b : ℤ
   pub rising : s < t
   pub inside : t < r
-  pub sign_a : Sign a
-  pub sign_b : Sign b
+  pub sign_a : IsSign a
+  pub sign_b : IsSign b
   pub is : o ≡ pair s a t b
 
 -- ---- two lists one after the other
@@ -50,7 +50,7 @@ listed_either o (u ∷ R) S f g (inl e) = f (inl e)
 listed_either o (u ∷ R) S f g (inr h) = listed_either o R S (λ k. f (inr k)) g h
 
 -- ---- the moves that are listed
-in_singles : (k u s : ℕ) (a : ℤ) → u ≤ s → s < u + k → Sign a → Listed (single s a) (singles k u)
+in_singles : (k u s : ℕ) (a : ℤ) → u ≤ s → s < u + k → IsSign a → Listed (single s a) (singles k u)
 unfolding singles
 in_singles zero u s a l h g = absurd (omega arith)
 in_singles (suc k) u s a l h g = ⊎_elim here (λ m. inr (inr (in_singles k (suc u) s a m (omega arith) g))) (eq-or-lt_of_le l)
@@ -58,13 +58,13 @@ in_singles (suc k) u s a l h g = ⊎_elim here (λ m. inr (inr (in_singles k (su
     here : u ≡ s → Listed (single s a) (singles (suc k) u)
     here e = ⊎_elim (λ p. inl (λ i. single (sym e i) (p i))) (λ p. inr (inl (λ i. single (sym e i) (p i)))) g
 
-signs_listed : (s : ℕ) (a : ℤ) (t : ℕ) (b : ℤ) → Sign a → Sign b → Listed (pair s a t b) (sign_pairs s t)
+signs_listed : (s : ℕ) (a : ℤ) (t : ℕ) (b : ℤ) → IsSign a → IsSign b → Listed (pair s a t b) (sign_pairs s t)
 signs_listed s a t b (inl p) (inl q) = inl (λ i. pair s (p i) t (q i))
 signs_listed s a t b (inl p) (inr q) = inr (inl (λ i. pair s (p i) t (q i)))
 signs_listed s a t b (inr p) (inl q) = inr (inr (inl (λ i. pair s (p i) t (q i))))
 signs_listed s a t b (inr p) (inr q) = inr (inr (inr (inl (λ i. pair s (p i) t (q i)))))
 
-in_with : (k s u : ℕ) (a : ℤ) (t : ℕ) (b : ℤ) → u ≤ t → t < u + k → Sign a → Sign b → Listed (pair s a t b) (pairs_with k s u)
+in_with : (k s u : ℕ) (a : ℤ) (t : ℕ) (b : ℤ) → u ≤ t → t < u + k → IsSign a → IsSign b → Listed (pair s a t b) (pairs_with k s u)
 unfolding pairs_with
 in_with zero s u a t b l h f g = absurd (omega arith)
 in_with (suc k) s u a t b l h f g =
@@ -74,7 +74,7 @@ in_with (suc k) s u a t b l h f g =
     (λ m. listed_back (pair s a t b) (sign_pairs s u) (pairs_with k s (suc u)) (in_with k s (suc u) a t b m (omega arith) f g))
     (eq-or-lt_of_le l)
 
-in_pairs : (k u s : ℕ) (a : ℤ) (t : ℕ) (b : ℤ) → u ≤ s → s < t → t < u + k → Sign a → Sign b → Listed (pair s a t b) (pairs k u)
+in_pairs : (k u s : ℕ) (a : ℤ) (t : ℕ) (b : ℤ) → u ≤ s → s < t → t < u + k → IsSign a → IsSign b → Listed (pair s a t b) (pairs k u)
 unfolding pairs
 in_pairs zero u s a t b l m h f g = absurd (omega arith)
 in_pairs (suc k) u s a t b l m h f g =
@@ -84,11 +84,11 @@ in_pairs (suc k) u s a t b l m h f g =
     (λ n. listed_back (pair s a t b) (pairs_with k u (suc u)) (pairs k (suc u)) (in_pairs k (suc u) s a t b n m (omega arith) f g))
     (eq-or-lt_of_le l)
 
-pub listed_single : (r s : ℕ) (a : ℤ) → s < r → Sign a → Listed (single s a) (moves r)
+pub listed_single : (r s : ℕ) (a : ℤ) → s < r → IsSign a → Listed (single s a) (moves r)
 unfolding moves
 listed_single r s a h g = listed_front (single s a) (singles r 0) (pairs r 0) (in_singles r 0 s a (omega arith) (omega arith) g)
 
-pub listed_pair : (r s : ℕ) (a : ℤ) (t : ℕ) (b : ℤ) → s < t → t < r → Sign a → Sign b → Listed (pair s a t b) (moves r)
+pub listed_pair : (r s : ℕ) (a : ℤ) (t : ℕ) (b : ℤ) → s < t → t < r → IsSign a → IsSign b → Listed (pair s a t b) (moves r)
 unfolding moves
 listed_pair r s a t b l h f g =
     listed_back (pair s a t b) (singles r 0) (pairs r 0) (in_pairs r 0 s a t b (omega arith) l (omega arith) f g)
@@ -104,7 +104,7 @@ of_singles (suc k) u r o h (inr (inr l)) = of_singles k (suc u) r o (omega arith
 of_signs : (s t r : ℕ) (o : Move) → s < t → t < r → Listed o (sign_pairs s t) → Double r o
 of_signs s t r o h m l = go l
   where
-    made : (a b : ℤ) → Sign a → Sign b → o ≡ pair s a t b → Double r o
+    made : (a b : ℤ) → IsSign a → IsSign b → o ≡ pair s a t b → Double r o
     made a b f g e = record { s = s; a = a; t = t; b = b; rising = h; inside = m; sign_a = f; sign_b = g; is = e }
 
     go : Listed o (sign_pairs s t) → Double r o

@@ -1,7 +1,6 @@
 -- The numbers of the listed moves rise in their order, so that the least number that improves is the step of document 01.
 --   mark_small         a mark is 0 or 1
---   sign_is, -one      the sign of a mark is a sign, and so of magnitude 1
---   mark_sign          and has that mark
+--   value_is, -one     the value of a sign is +1 or −1, and so of magnitude 1; by_value, either is that of a sign
 --   single_is, pair_is   the number of a single, and of a pair
 --   number_single      that of a single lies below first_pair
 --   number_pair        that of a pair does not
@@ -9,28 +8,29 @@
 --   sign_mark          a sign is that of its mark
 --   least_step         the number of an improving move, or of none, that dominates all moves is the step of document 01
 -- Assumes nothing.
-use mathlib.Core.Path.{◌≡◌, refl, sym, ◌∙◌, ap}
+use mathlib.Core.Path.{◌≡◌, refl, sym, ◌∙◌, ap, subst}
 use mathlib.Core.Logic.{inl, inr, ⊎_elim}
 use mathlib.Core.Bool.{Bool, true, false, cond, true≢false}
 use mathlib.Core.List.{List, [], ◌∷◌, ◌++◌}
 use Prim.Native.Nat.{ℕ, zero, suc, ◌+◌, ◌-◌, ◌*◌, ◌/◌, ◌%◌, ◌<◌, ◌≤◌}
 use native.Mathlib.Omega.{arith}
-use borrow.Author.Tests.{eqb-true, eqb-false, lt-ltb, le-ltb}
-use lib.Dec.{eqb}
-use lib.IntN.{ℤ, pos, negsuc, nat_abs}
+use borrow.Author.Tests.{lt-ltb, le-ltb}
+use lib.IntN.{ℤ, pos, nat_abs}
 use lib.ListN.{length, get_or}
 use lib.Signed.{lt_z}
+use Rattle.std.specs.Prelude.{Option, Some, None}
 use Rattle.whole.specs.Tests.{is_zero}
 use Rattle.problem.specs.Limits.{max_columns}
 use Rattle.settling.specs.declared.Move.{Move}
 use Rattle.settling.specs.declared.Step.{Step}
-use Rattle.settling.specs.declared.Step.TheVariants.{Rest, Take}
 use Rattle.settling.specs.Moves.{single, pair, sign_pairs, singles, pairs_with, pairs, moves}
-use Rattle.settling.proofs.Fronts.{lt_or_ge}
-use Rattle.settling.specs.Steps.{first_move, first_column}
+use Rattle.settling.specs.Steps.{step, first_move, first_column}
 use Rattle.settling.specs.Verdicts.{Listed}
-use Rattle.search.specs.Numbers.{Sign, first_pair, span, mark, number_of, number_at}
+use Rattle.search.specs.Numbers.{IsSign, first_pair, span, mark, number_of, number_at}
 use Rattle.search.specs.Numbers.{sign_of, move_of, step_in, DominatedBy, ImprovingNumber, ImprovingOrNone}
+use Rattle.search.specs.declared.seen.Sign.{Sign}
+use Rattle.search.specs.declared.seen.Sign.TheVariants.{Plus, Minus}
+use Rattle.search.specs.Progress.{value}
 use Rattle.search.proofs.Listings.{Single, Double, listed_cases}
 
 -- ---- the number of a move
@@ -41,28 +41,24 @@ mark_small a = go (lt_z a (pos 0))
     go true = omega arith
     go false = omega arith
 
-pub sign_is : (x : ℕ) → Sign (sign_of x)
-sign_is x = go (eqb x 0)
-  where
-    go : (t : Bool) → Sign (cond t (pos 1) (negsuc 0))
-    go true = inl refl
-    go false = inr refl
+pub value_is : (x : Sign) → IsSign (value x)
+value_is Plus = inl refl
+value_is Minus = inr refl
 
-pub sign_one : (x : ℕ) → nat_abs (sign_of x) ≡ 1
-sign_one x = ⊎_elim (ap nat_abs) (ap nat_abs) (sign_is x)
+pub value_one : (x : Sign) → nat_abs (value x) ≡ 1
+value_one Plus = refl
+value_one Minus = refl
 
-pub mark_sign : (x : ℕ) → x < 2 → mark (sign_of x) ≡ x
-mark_sign x h = go (eqb x 0) refl
-  where
-    go : (t : Bool) → eqb x 0 ≡ t → mark (cond t (pos 1) (negsuc 0)) ≡ x
-    go true e = sym (eqb-true x 0 e)
-    go false e = ⊎_elim (λ l. absurd (eqb-false x 0 e (omega arith))) (λ l. omega arith) (lt_or_ge x 1)
+-- what holds of either value holds of a sign
+pub by_value : (P : ℤ → Type 0) → ((x : Sign) → P (value x)) → (a : ℤ) → IsSign a → P a
+by_value P f a (inl e) = subst P (sym e) (f Plus)
+by_value P f a (inr e) = subst P (sym e) (f Minus)
 
 pub single_is : (s : ℕ) (a : ℤ) → number_of (single s a) ≡ 2 * s + mark a
 unfolding number_of
 single_is s a = refl
 
-pub pair_is : (s : ℕ) (a : ℤ) (t : ℕ) (b : ℤ) → Sign b
+pub pair_is : (s : ℕ) (a : ℤ) (t : ℕ) (b : ℤ) → IsSign b
     → number_of (pair s a t b) ≡ first_pair + (4 * (max_columns * s + t) + (2 * mark a + mark b))
 unfolding number_of
 pair_is s a t b (inl e) = rw e
@@ -71,7 +67,7 @@ pair_is s a t b (inr e) = rw e
 pub number_single : (s : ℕ) (a : ℤ) → s < max_columns → number_of (single s a) < first_pair
 number_single s a h = omega (arith, single_is s a, mark_small a)
 
-pub number_pair : (s : ℕ) (a : ℤ) (t : ℕ) (b : ℤ) → Sign b → first_pair ≤ number_of (pair s a t b)
+pub number_pair : (s : ℕ) (a : ℤ) (t : ℕ) (b : ℤ) → IsSign b → first_pair ≤ number_of (pair s a t b)
 number_pair s a t b g = omega (arith, pair_is s a t b g)
 
 pub number_small : (o : Move) → o.s < max_columns → o.t < max_columns → number_of o < span
@@ -163,11 +159,11 @@ module _ (r : ℕ) (h : r ≤ max_columns) (o : Move) (l : Listed o (moves r)) w
   at_number : (x : ℕ) → number_at x o % span ≡ number_of o
   at_number x = let n = number_listed r o h l in omega arith
 
-pub sign_mark : (a : ℤ) → Sign a → sign_of (mark a) ≡ a
+pub sign_mark : (a : ℤ) → IsSign a → sign_of (mark a) ≡ a
 sign_mark a (inl e) = rw e
 sign_mark a (inr e) = rw e
 
-move_single : (s : ℕ) (a : ℤ) → s < max_columns → Sign a → move_of (number_of (single s a)) ≡ single s a
+move_single : (s : ℕ) (a : ℤ) → s < max_columns → IsSign a → move_of (number_of (single s a)) ≡ single s a
 unfolding move_of
 move_single s a h g =
     rw (lt-ltb (number_of (single s a)) first_pair (number_single s a h))
@@ -179,7 +175,7 @@ move_single s a h g =
     odd : number_of (single s a) % 2 ≡ mark a
     odd = let e = single_is s a in let m = mark_small a in omega arith
 
-module _ (s : ℕ) (a : ℤ) (t : ℕ) (b : ℤ) (h : t < max_columns) (f : Sign a) (g : Sign b) where
+module _ (s : ℕ) (a : ℤ) (t : ℕ) (b : ℤ) (h : t < max_columns) (f : IsSign a) (g : IsSign b) where
   from_first : number_of (pair s a t b) - first_pair ≡ 4 * (max_columns * s + t) + (2 * mark a + mark b)
   from_first = omega (arith, pair_is s a t b g)
 
@@ -214,39 +210,39 @@ move_number r o h l = ⊎_elim one two (listed_cases r o l)
     two c = rw c.is (move_pair c.s c.a c.t c.b (omega arith) c.sign_a c.sign_b)
 
 -- ---- the first move of a list, and the first column
-no_move : (good : Move → Bool) (i : ℕ) (R : List Move) → ((o : Move) → Listed o R → good o ≡ true → ⊥) → first_move good i R ≡ Rest
+no_move : (good : Move → Bool) (i : ℕ) (R : List Move) → ((o : Move) → Listed o R → good o ≡ true → ⊥) → first_move good i R ≡ None
 unfolding first_move
 no_move good i [] h = refl
 no_move good i (o ∷ R) h = go (good o) refl (no_move good i R (λ u l. h u (inr l)))
   where
-    go : (t : Bool) → good o ≡ t → first_move good i R ≡ Rest → cond t (Take i o) (first_move good i R) ≡ Rest
+    go : (t : Bool) → good o ≡ t → first_move good i R ≡ None → cond t (Some (step i o)) (first_move good i R) ≡ None
     go true e k = absurd (h o (inl refl) e)
     go false e k = k
 
 least_move :
     (good : Move → Bool) (i : ℕ) (o : Move) (lo hi : ℕ) (R : List Move) → Rising lo hi R → Listed o R → good o ≡ true
-    → ((u : Move) → Listed u R → good u ≡ true → number_of o ≤ number_of u) → first_move good i R ≡ Take i o
+    → ((u : Move) → Listed u R → good u ≡ true → number_of o ≤ number_of u) → first_move good i R ≡ Some (step i o)
 unfolding first_move
 least_move good i o lo hi [] r l e h = absurd l
 least_move good i o lo hi (u ∷ R) r l e h =
     go (good u) refl l (λ k. least_move good i o (suc (number_of u)) hi R r.1 k e (λ v m. h v (inr m)))
   where
     go :
-        (t : Bool) → good u ≡ t → Listed o (u ∷ R) → (Listed o R → first_move good i R ≡ Take i o)
-        → cond t (Take i u) (first_move good i R) ≡ Take i o
-    go true g (inl d) k = ap (Take i) (sym d)
+        (t : Bool) → good u ≡ t → Listed o (u ∷ R) → (Listed o R → first_move good i R ≡ Some (step i o))
+        → cond t (Some (step i u)) (first_move good i R) ≡ Some (step i o)
+    go true g (inl d) k = ap (λ (m : Move). Some (step i m)) (sym d)
     go true g (inr m) k = absurd (omega (arith, h u (inl refl) g, rising_least (suc (number_of u)) hi R o r.1 m))
     go false g (inl d) k = absurd (true≢false (sym e ∙ ap good d ∙ g))
     go false g (inr m) k = k m
 
-no_column_lem : (f : ℕ → Step) (L : List ℕ) → ((x : ℕ) → x < length L → f (get_or L x 0) ≡ Rest) → first_column f L ≡ Rest
+no_column_lem : (f : ℕ → Option Step) (L : List ℕ) → ((x : ℕ) → x < length L → f (get_or L x 0) ≡ None) → first_column f L ≡ None
 unfolding first_column
 no_column_lem f [] h = refl
 no_column_lem f (i ∷ L) h = rw (h 0 (omega arith)) (no_column_lem f L (λ x l. h (suc x) (omega arith)))
 
 column_at_lem :
-    (f : ℕ → Step) (L : List ℕ) (k i : ℕ) (o : Move) → k < length L → ((x : ℕ) → x < k → f (get_or L x 0) ≡ Rest)
-    → f (get_or L k 0) ≡ Take i o → first_column f L ≡ Take i o
+    (f : ℕ → Option Step) (L : List ℕ) (k i : ℕ) (o : Move) → k < length L → ((x : ℕ) → x < k → f (get_or L x 0) ≡ None)
+    → f (get_or L k 0) ≡ Some (step i o) → first_column f L ≡ Some (step i o)
 unfolding first_column
 column_at_lem f [] k i o l h e = absurd (omega arith)
 column_at_lem f (j ∷ L) zero i o l h e = rw e
@@ -257,7 +253,7 @@ module _
     (imp : Move → ℕ → Bool) (L : List ℕ) (r z : ℕ) (small : r ≤ max_columns) (dominated : (o : Move) → Listed o (moves r) → DominatedBy imp L z o)
   where
     -- a place whose numbers are all below z has no improving move
-    before : (x : ℕ) → x < length L → (x + 1) * span ≤ z → first_move (λ o. imp o (get_or L x 0)) (get_or L x 0) (moves r) ≡ Rest
+    before : (x : ℕ) → x < length L → (x + 1) * span ≤ z → first_move (λ o. imp o (get_or L x 0)) (get_or L x 0) (moves r) ≡ None
     before x h k =
         no_move (λ o. imp o (get_or L x 0)) (get_or L x 0) (moves r)
         (λ o l e. omega (arith, (dominated o l).each x h e, at_below r small o l x))
@@ -271,7 +267,7 @@ module _
     inside : ImprovingNumber imp L r z → step_in L z ≡ first_column (λ i. first_move (λ o. imp o i) i (moves r)) L
     unfolding step_in
     inside t =
-        step ∙ sym (column_at_lem (λ i. first_move (λ o. imp o i) i (moves r)) L t.place (get_or L t.place 0) t.move t.inside
+        found ∙ sym (column_at_lem (λ i. first_move (λ o. imp o i) i (moves r)) L t.place (get_or L t.place 0) t.move t.inside
         (λ x h. before x (omega (arith, t.inside)) (omega (arith, t.is))) here)
       where
         place : z / span ≡ t.place
@@ -282,10 +278,10 @@ module _
             ap (λ (n : ℕ). move_of (n % span)) t.is ∙ ap move_of (at_number r small t.move t.listed t.place)
             ∙ move_number r t.move small t.listed
 
-        step : step_in L z ≡ Take (get_or L t.place 0) t.move
-        step = rw (place, move, lt-ltb t.place (length L) t.inside)
+        found : step_in L z ≡ Some (step (get_or L t.place 0) t.move)
+        found = rw (place, move, lt-ltb t.place (length L) t.inside)
 
-        here : first_move (λ o. imp o (get_or L t.place 0)) (get_or L t.place 0) (moves r) ≡ Take (get_or L t.place 0) t.move
+        here : first_move (λ o. imp o (get_or L t.place 0)) (get_or L t.place 0) (moves r) ≡ Some (step (get_or L t.place 0) t.move)
         here =
             least_move (λ o. imp o (get_or L t.place 0)) (get_or L t.place 0) t.move 0 (pairs_from r 0) (moves r) (moves_rise r small)
             t.listed t.good (λ u l e. omega (arith, t.is, (dominated u l).each t.place t.inside e))

@@ -5,11 +5,13 @@
 --   first_has, -small, -le   the first place is in its set, and its digit is one of the word
 --   first_least            no place of the set is below it
 --   rest_has, -less        the rest of a set has its other places
---   first_in, rest_in      what is in a set is its first place or in the rest, and what is in the rest is in the set
 --   meet_has, union_has    the places of both of two sets, or of either
 --   subset_le              a set whose places are all in another is no larger
 --   minus_has              a set without such a one has its other places
 --   below_has, only_has    the places below n, and n alone
+--   rest_word              w & (w - 1) is the rest of the set w
+--   has_some               a set with a place is not empty
+--   taken-..               of a place taken out of a set: it is the least, and the others are left
 --   Walk I D Q w           a loop over a set: the places of w are left, and I holds of them; Q holds of the others of which D speaks
 --   walk-..                for its turns, from the first place on
 -- Assumes nothing.
@@ -17,15 +19,15 @@ use mathlib.Core.Path.{◌≡◌, refl, sym, ◌∙◌, ap, ap₂, subst}
 use mathlib.Core.Logic.{◌⊎◌, inl, inr, ⊎_elim}
 use mathlib.Core.Bool.{Bool, true, false, not, ◌&&◌, ◌||◌, and-true, or-false, and-eq-true_iff, true≢false}
 use Prim.Native.Nat.{ℕ, zero, suc, ◌+◌, ◌-◌, ◌*◌, ◌/◌, ◌%◌, ◌^◌, ◌≤◌, ◌<◌, min, max}
-use native.Mathlib.Nat.{pow-succ', min-le_left, max-le, zero-add}
+use native.Mathlib.Nat.{pow-succ', min-le_left, min-le_right, max-le, zero-add}
 use native.Mathlib.Omega.{arith}
 use borrow.Author.Tests.{eq-eqb, eqb-true, lt-ltb, le-ltb}
 use lib.Arith.{bin_ind}
-use lib.Bits.{bit_and, bit_or, and_step, or_step}
+use lib.Bits.{bit_and, bit_or, and_step, or_step, and_self}
 use lib.Count.{count_trailing_zeros, under}
 use lib.Dec.{eqb, ltb, leb-suc-suc, eqb-zero-suc, eqb-suc-zero, eqb-suc-suc}
 use lib.Pow.{pow_pos}
-use Rattle.search.specs.Sets.{has, first_of, rest_of}
+use Rattle.search.specs.Sets.{has, first_of, rest_of, Taken}
 
 pub none_has : (j : ℕ) → has 0 j ≡ false
 unfolding has
@@ -156,17 +158,6 @@ module _ (w : ℕ) (h : 0 < w) (l : w < 2 ^ 64) where
   pub rest_has : (j : ℕ) → has (rest_of w) j ≡ has w j && not (eqb j (first_of w))
   rest_has = (lowest 64 w h l).others
 
-  -- a place of the set is the first, or in the rest
-  pub first_in : (j : ℕ) → has w j ≡ true → (j ≡ first_of w) ⊎ (has (rest_of w) j ≡ true)
-  first_in j e = go (eqb j (first_of w)) refl
-    where
-      go : (b : Bool) → eqb j (first_of w) ≡ b → (j ≡ first_of w) ⊎ (has (rest_of w) j ≡ true)
-      go true f = inl (eqb-true j (first_of w) f)
-      go false f = inr (rest_has j ∙ ap₂ (λ (a b : Bool). a && not b) e f)
-
-  pub rest_in : (j : ℕ) → has (rest_of w) j ≡ true → has w j ≡ true
-  rest_in j e = ((and-eq-true_iff (has w j) (not (eqb j (first_of w)))).0 (sym (rest_has j) ∙ e)).0
-
 -- ---- two sets, digit by digit
 module _
     (op f : ℕ → ℕ → ℕ) (g : Bool → Bool → Bool) (step : (a b : ℕ) → op a b ≡ op (a / 2) (b / 2) * 2 + f (a % 2) (b % 2))
@@ -267,31 +258,80 @@ below_has (suc n) (suc s) = ap (λ (x : ℕ). has x s) high ∙ below_has n s �
 pub only_has : (n s : ℕ) → has (2 ^ n) s ≡ eqb s n
 only_has n s = ap (λ (w : ℕ). has w s) (sym (zero-add (2 ^ n))) ∙ add_has n 0 s (pow_pos n) ∙ ap (λ (b : Bool). b || eqb s n) (none_has s)
 
+-- without its lowest digit, which borrowing 1 turns round with those below it
+lowest_off : (k w : ℕ) → 0 < w → w < 2 ^ k → bit_and w (w - 1) ≡ w - 2 ^ count_trailing_zeros k w
+unfolding count_trailing_zeros
+lowest_off zero w h l = absurd (omega arith)
+lowest_off (suc k) w h l = go (w % 2) refl (λ (e : w % 2 ≡ 0). lowest_off k (w / 2) (omega arith) (half_lt k w l))
+  where
+    go : (r : ℕ) → w % 2 ≡ r → (w % 2 ≡ 0 → bit_and (w / 2) (w / 2 - 1) ≡ w / 2 - 2 ^ count_trailing_zeros k (w / 2))
+        → bit_and w (w - 1) ≡ w - 2 ^ under r (count_trailing_zeros k (w / 2))
+    go zero e ih =
+        let b : (w - 1) / 2 ≡ w / 2 - 1 = omega arith in
+        let t = count_trailing_zeros k (w / 2) in
+        omega (arith, and_step w (w - 1), ap (bit_and (w / 2)) b ∙ ih e, min-le_left (w % 2) ((w - 1) % 2), pow-succ' 2 t)
+    go (suc r) e ih =
+        let b : (w - 1) / 2 ≡ w / 2 = omega arith in
+        omega (arith, and_step w (w - 1), ap (bit_and (w / 2)) b ∙ and_self (w / 2), min-le_right (w % 2) ((w - 1) % 2))
+
+pub rest_word : (w : ℕ) → 0 < w → w < 2 ^ 64 → bit_and w (w - 1) ≡ rest_of w
+rest_word w h l = lowest_off 64 w h l
+
+-- ---- a place taken out of a set
+pub has_some : (w s : ℕ) → has w s ≡ true → 0 < w
+has_some zero s e = absurd (true≢false (sym e ∙ none_has s))
+has_some (suc w) s e = omega arith
+
+module _ {w s v : ℕ} (t : Taken w s v) where
+  pub taken_in : has w s ≡ true
+  taken_in = subst (λ (j : ℕ). has w j ≡ true) (sym t.first) (first_has w t.some t.word)
+
+  pub taken_small : s < 64
+  taken_small = omega (arith, t.first, first_small w t.some t.word)
+
+  pub taken_least : (j : ℕ) → has w j ≡ true → s ≤ j
+  taken_least j e = omega (arith, t.first, first_least w t.some t.word j e)
+
+  pub taken_less : v < w
+  taken_less = omega (arith, t.rest, rest_less w t.some t.word)
+
+  pub taken_rest : (j : ℕ) → has v j ≡ has w j && not (eqb j s)
+  taken_rest j =
+      ap (λ (x : ℕ). has x j) t.rest ∙ rest_has w t.some t.word j ∙ ap (λ (x : ℕ). has w j && not (eqb j x)) (sym t.first)
+
+  -- a place of the set is the one that is taken, or is left
+  pub taken_or : (j : ℕ) → has w j ≡ true → (j ≡ s) ⊎ (has v j ≡ true)
+  taken_or j e = go (eqb j s) refl
+    where
+      go : (b : Bool) → eqb j s ≡ b → (j ≡ s) ⊎ (has v j ≡ true)
+      go true f = inl (eqb-true j s f)
+      go false f = inr (taken_rest j ∙ ap₂ (λ (a b : Bool). a && not b) e f)
+
+  pub taken_left : (j : ℕ) → has v j ≡ true → has w j ≡ true
+  taken_left j e = ((and-eq-true_iff (has w j) (not (eqb j s))).0 (sym (taken_rest j) ∙ e)).0
+
+pub ruleset firsts = (first_has, first_least, first_small, has_some)
+
 -- ---- a loop over a set
 pub record Walk (I D Q : ℕ → Type 0) (w : ℕ) : Type 0 where
-  pub word : w < 2 ^ 64
   pub inside : (t : ℕ) → has w t ≡ true → I t
   pub left : (t : ℕ) → D t → (has w t ≡ true) ⊎ Q t
+
+pub walk_starts : {Q : ℕ → Type 0} (w : ℕ) → Walk (λ t. has w t ≡ true) (λ t. has w t ≡ true) Q w
+walk_starts w = record { inside = λ t e. e; left = λ t e. inl e }
 
 module _ {I D Q : ℕ → Type 0} {w : ℕ} (g : Walk I D Q w) where
   pub walk_end : w ≡ 0 → (t : ℕ) → D t → Q t
   walk_end e t d = ⊎_elim (λ f. absurd (true≢false (sym f ∙ ap (λ (i : ℕ). has i t) e ∙ none_has t))) (λ q. q) (g.left t d)
 
-  module _ (h : 0 < w) where
-    pub walk_first : I (first_of w)
-    walk_first = g.inside (first_of w) (first_has w h g.word)
+  module _ {s v : ℕ} (k : Taken w s v) where
+    pub walk_first : I s
+    walk_first = g.inside s (taken_in k)
 
-    pub walk_less : rest_of w < w
-    walk_less = rest_less w h g.word
-
-    -- the first place is done, and what Q says of the others now is P
-    pub walk_on : {P : ℕ → Type 0} → ((t : ℕ) → Q t → P t) → (D (first_of w) → P (first_of w)) → Walk I D P (rest_of w)
-    walk_on {P} f q =
-        record {
-          word = omega (arith, walk_less, g.word);
-          inside = λ t e. g.inside t (rest_in w h g.word t e);
-          left = λ t d. ⊎_elim (among t d) (λ p. inr (f t p)) (g.left t d);
-        }
-      where
-        among : (t : ℕ) → D t → has w t ≡ true → (has (rest_of w) t ≡ true) ⊎ P t
-        among t d e = ⊎_elim (λ p. inr (subst P (sym p) (q (subst D p d)))) inl (first_in w h g.word t e)
+    -- the place taken is done, and what Q says of the others now is P
+    pub walk_on : {P : ℕ → Type 0} → ((t : ℕ) → Q t → P t) → (D s → P s) → Walk I D P v
+    walk_on {P} f q = record {
+      inside = λ t e. g.inside t (taken_left k t e);
+      left = λ t d. ⊎_elim
+          (λ e. ⊎_elim (λ p. inr (subst P (sym p) (q (subst D p d)))) inl (taken_or k t e)) (λ p. inr (f t p)) (g.left t d);
+    }

@@ -1,204 +1,216 @@
 -- The vectors of a place, tried alone.
---   note_here             a stored note
---   noted_set             the notes name columns still
---   BothBlocked h T v b l s   vector s is blocked with both marks
---   Singling h T v b f l w   of the vectors of the set f those of w are left, and the others are blocked
+--   plus_minus            the two signs differ
+--   noted_set             the notes name columns still, plus_noted where one column is noted; both_stored both one after the other
+--   BothBlocked h l s     vector s is blocked with both signs
+--   Singling h f l w      of the vectors of the set f those of w are left, and the others are blocked
+--   single_in, -few, -numbered   the vector that is met: it is one of the basis, and has a number
 --   single_failed         a vector that fails alone is no better than anything
---   singling_starts, -more, -ends   before the first vector, after one that fails with both marks, and after the last
+--   singling_starts, -more, -ends   before the first vector, after one that fails with both signs, and after the last
 --   singling_found        a vector that improves alone ends it
 -- Assumes nothing.
 use mathlib.Core.Path.{◌≡◌, refl, sym, ◌∙◌, ap, ap₂, subst}
-use mathlib.Core.Logic.{inl, inr, ⊎_elim}
+use mathlib.Core.Logic.{inr, ⊎_elim}
 use mathlib.Core.Bool.{Bool, true, false, ◌&&◌}
 use mathlib.Core.List.{List}
-use Prim.Native.Nat.{ℕ, zero, suc, ◌+◌, ◌*◌, ◌^◌, ◌<◌, ◌≤◌}
+use Prim.Native.Nat.{ℕ, ◌+◌, ◌*◌, ◌<◌, ◌≤◌}
 use native.Mathlib.Nat.{eq-or-lt_of_le}
 use native.Mathlib.Omega.{arith}
 use borrow.Author.Tests.{eqb-true, eqb-false}
 use lib.Dec.{eqb}
-use lib.IntN.{ℤ}
-use lib.ListN.{length, get_or, set, length-set}
-use lib.Seq.{get_or-set_same, get_or-set_other}
+use lib.ListN.{get_or, set, length-set}
+use lib.Seq.{get_or-set_same, get_or-set_other, set-set}
 use Rattle.whole.specs.Tests.{every}
 use Rattle.problem.specs.Limits.{max_columns}
 use Rattle.settling.specs.declared.Measure.{Measure}
+use Rattle.settling.specs.declared.Move.{Move}
 use Rattle.settling.specs.Moves.{changes}
-use Rattle.settling.proofs.Fronts.{lt_or_ge}
 use Rattle.settling.specs.Steps.{improves}
-use Rattle.settling.specs.Views.{vectors}
-use Rattle.search.specs.declared.places.Place.{Place}
-use Rattle.search.specs.Notes.{note_width, notes_long, blocking_at, Noted}
-use Rattle.search.specs.Numbers.{first_pair, span, sign_of, number_at}
-use Rattle.search.specs.Progress.{Here, Dominated, Incumbent, PairIncumbent, Unseen, Blocked, Singled, alone}
-use Rattle.search.specs.Searches.{passing, Setup}
-use Rattle.search.specs.Sets.{has, first_of, rest_of, touches}
-use Rattle.search.proofs.Alone.{alone_listed, alone_number, alone_changes, here_measure}
-use Rattle.search.proofs.Dominance.{Still, zero_still, still_dominated, fails_dominated}
+use Rattle.search.specs.declared.seen.Note.{Note}
+use Rattle.search.specs.declared.seen.Place.{Place}
+use Rattle.search.specs.declared.seen.Sign.{Sign}
+use Rattle.search.specs.declared.seen.Sign.TheVariants.{Plus, Minus}
+use Rattle.search.specs.Notes.{noted, blocking_at, Noted}
+use Rattle.search.specs.Numbers.{number_at}
+use Rattle.search.specs.Progress.{Dominated, Incumbent, Still, Unseen, Blocked, Tried, Found, alone, value}
+use Rattle.search.specs.Searches.{basis_of, passing}
+use Rattle.search.specs.Sets.{has, touches, Taken}
+use Rattle.search.proofs.Alone.{digit, alone_listed, alone_number, alone_changes, here_measure}
+use Rattle.search.proofs.Dominance.{zero_still, still_dominated, fails_dominated}
 use Rattle.search.proofs.Numbering.{number_single}
-use Rattle.search.proofs.Partners.{two_marks}
-use Rattle.search.proofs.Setting.{first_least, Walk, walk_first, walk_on, walk_end}
+use Rattle.search.proofs.Partners.{two_signs}
+use Rattle.search.proofs.Setting.{taken_least, Walk, walk_starts, walk_first, walk_on, walk_end}
+
+pub plus_minus : Plus ≡ Minus → ⊥
+plus_minus e = cc
 
 -- ---- a note that is stored
-note_here : (l : List ℕ) (c d f : ℕ) → c < length l → d ≡ c → get_or (set l c f) d 0 ≡ f
-note_here l c d f h e = ap (λ (i : ℕ). get_or (set l c f) i 0) e ∙ get_or-set_same l c f 0 h
+abbrev pub note : ℕ → ℕ → Note
+note f g = record { plus = f; minus = g }
 
-pub noted_set : (n : ℕ) (l : List ℕ) (c f : ℕ) → c < notes_long → f < n → Noted n l → Noted n (set l c f)
-noted_set n l c f h k w = record { long = length-set l c f ∙ w.long; each = λ g d. go g d (eqb d c) refl }
+abbrev blank : Note
+blank = note 0 0
+
+pub noted_set : (n : ℕ) (l : List Note) (s f g : ℕ) → s < max_columns → f < n → g < n → Noted n l → Noted n (set l s (note f g))
+noted_set n l s f g h k m w = record { long = length-set l s (note f g) ∙ w.long; each = λ p d x. go p d x (eqb d s) refl }
   where
-    go : 0 < n → (d : ℕ) (t : Bool) → eqb d c ≡ t → get_or (set l c f) d 0 < n
-    go g d true e = omega (arith, note_here l c d f (omega (arith, w.long)) (eqb-true d c e))
-    go g d false e = omega (arith, get_or-set_other l c d f 0 (eqb-false d c e), w.each g d)
+    stored : (x : Sign) → noted (note f g) x < n
+    stored = two_signs (λ x. noted (note f g) x < n) k m
+
+    go : 0 < n → (d : ℕ) (x : Sign) (t : Bool) → eqb d s ≡ t → blocking_at (set l s (note f g)) d x < n
+    go p d x true e =
+        subst (λ (i : Note). noted i x < n)
+        (sym (ap (λ (i : ℕ). get_or (set l s (note f g)) i blank) (eqb-true d s e) ∙ get_or-set_same l s (note f g) blank (omega (arith, w.long))))
+        (stored x)
+    go p d x false e =
+        subst (λ (i : Note). noted i x < n) (sym (get_or-set_other l s d (note f g) blank (eqb-false d s e))) (w.each p d x)
+
+-- the column of one sign is noted, and then that of the other
+abbrev pub plus_set : List Note → ℕ → ℕ → List Note
+plus_set l s f = set l s (note f (get_or l s (note 0 0)).minus)
+
+module _ (n : ℕ) (l : List Note) (s f : ℕ) (h : s < max_columns) (k : f < n) (w : Noted n l) where
+  pub plus_noted : Noted n (plus_set l s f)
+  plus_noted = noted_set n l s f (get_or l s blank).minus h k (w.each (omega arith) s Minus) w
+
+  pub both_stored : (g : ℕ) → set (plus_set l s f) s (note (get_or (plus_set l s f) s (note 0 0)).plus g) ≡ set l s (note f g)
+  both_stored g =
+      ap (λ (p : Note). set (plus_set l s f) s (note p.plus g))
+      (get_or-set_same l s (note f (get_or l s blank).minus) blank (omega (arith, w.long)))
+      ∙ set-set l s (note f (get_or l s blank).minus) (note f g)
 
 -- ---- the vectors that are left
-pub record BothBlocked (h : Place) (T v b : List ℤ) (l : List ℕ) (s : ℕ) : Type 0 where
-  pub each : (x : ℕ) → x < 2 → Blocked h T v b l s x
+pub record BothBlocked (h : Place) (l : List Note) (s : ℕ) : Type 0 where
+  pub each : (x : Sign) → Blocked h l s x
 
-pub record Singling (h : Place) (T v b : List ℤ) (f : ℕ) (l : List ℕ) (w : ℕ) : Type 0 where
-  pub noted : Noted h.search.view.columns l
-  pub walk : Walk (λ t. has f t ≡ true) (λ t. has f t ≡ true) (BothBlocked h T v b l) w
+pub record Singling (h : Place) (f : ℕ) (l : List Note) (w : ℕ) : Type 0 where
+  pub noted : Noted h.search.now.basis.columns l
+  pub walk : Walk (λ t. has f t ≡ true) (λ t. has f t ≡ true) (BothBlocked h l) w
 
-module _ (h : Place) (T v b : List ℤ) where
-  fails_noted : (l : List ℕ) (s x c : ℕ) → blocking_at l s x ≡ c → c < h.search.view.columns
-      → passing h.search T v b (alone s x) h.q c ≡ false → Blocked h T v b l s x
-  fails_noted l s x c e i k = record { inside = omega arith; fails = ap (passing h.search T v b (alone s x) h.q) e ∙ k }
+module _ (h : Place) where
+  fails_noted : (l : List Note) (s : ℕ) (x : Sign) (c : ℕ) → blocking_at l s x ≡ c → c < h.search.now.basis.columns
+      → passing h.search.now (alone s x) h.q c ≡ false → Blocked h l s x
+  fails_noted l s x c e i k = record { inside = omega arith; fails = ap (passing h.search.now (alone s x) h.q) e ∙ k }
 
-  blocked_over : (l m : List ℕ) (s : ℕ) → ((x : ℕ) → x < 2 → blocking_at m s x ≡ blocking_at l s x) → BothBlocked h T v b l s
-      → BothBlocked h T v b m s
-  blocked_over l m s e k = record {
-    each = λ x i. fails_noted m s x (blocking_at l s x) (e x i) (k.each x i).inside (k.each x i).fails;
-  }
+  pub singling_starts : (w : ℕ) (l : List Note) → Noted h.search.now.basis.columns l → Singling h w l w
+  singling_starts w l n = record { noted = n; walk = walk_starts w }
 
-  pub singling_starts : (w : ℕ) (l : List ℕ) → w < 2 ^ 64 → Noted h.search.view.columns l → Singling h T v b w l w
-  singling_starts w l k n = record { noted = n; walk = record { word = k; inside = λ t e. e; left = λ t e. inl e } }
-
-  pub singling_more : (f w s c d : ℕ) (l : List ℕ) → Singling h T v b f l w → 0 < w → s ≡ first_of w → s < max_columns
-      → c < h.search.view.columns → passing h.search T v b (alone s 0) h.q c ≡ false
-      → d < h.search.view.columns → passing h.search T v b (alone s 1) h.q d ≡ false
-      → Singling h T v b f (set (set l (note_width * s) c) (note_width * s + 1) d) (rest_of w)
-  singling_more f w s c d l g p e few i j k m =
+  pub singling_more : {f w s v : ℕ} (c d : ℕ) {l : List Note} → Singling h f l w → Taken w s v → s < max_columns
+      → c < h.search.now.basis.columns → passing h.search.now (alone s Plus) h.q c ≡ false
+      → d < h.search.now.basis.columns → passing h.search.now (alone s Minus) h.q d ≡ false
+      → Singling h f (set l s (note c d)) v
+  singling_more {f} {w} {s} {v} c d {l} g p few i j k m =
       record {
-        noted = noted_set _ after (note_width * s + 1) d (omega arith) k (noted_set _ l (note_width * s) c (omega arith) i g.noted);
-        walk = walk_on g.walk p (λ t q. go t q (eqb t s) refl) (λ _. subst (BothBlocked h T v b last) e both);
+        noted = noted_set _ l s c d few i k g.noted;
+        walk = walk_on g.walk p (λ t q. go t q (eqb t s) refl) (λ _. both);
       }
     where
-      after : List ℕ
-      after = set l (note_width * s) c
+      last : List Note
+      last = set l s (note c d)
 
-      last : List ℕ
-      last = set after (note_width * s + 1) d
+      here : get_or last s blank ≡ note c d
+      here = get_or-set_same l s (note c d) blank (omega (arith, g.noted.long))
 
-      long : length l ≡ notes_long
-      long = g.noted.long
-
-      both : BothBlocked h T v b last s
+      both : BothBlocked h last s
       both = record {
-        each = two_marks (Blocked h T v b last s)
-            (fails_noted last s 0 c
-            (get_or-set_other after (note_width * s + 1) (note_width * s + 0) d 0 (λ q. omega arith)
-            ∙ note_here l (note_width * s) (note_width * s + 0) c (omega arith) (omega arith))
-            i j)
-            (fails_noted last s 1 d
-            (note_here after (note_width * s + 1) (note_width * s + 1) d (omega (arith, length-set l (note_width * s) c)) refl) k m);
+        each = two_signs (Blocked h last s)
+            (fails_noted last s Plus c (ap (λ (n : Note). n.plus) here) i j) (fails_noted last s Minus d (ap (λ (n : Note). n.minus) here) k m);
       }
 
-      other : (t : ℕ) → (t ≡ s → ⊥) → (x : ℕ) → x < 2 → blocking_at last t x ≡ blocking_at l t x
-      other t n x q =
-          get_or-set_other after (note_width * s + 1) (note_width * t + x) d 0 (λ o. n (omega arith))
-          ∙ get_or-set_other l (note_width * s) (note_width * t + x) c 0 (λ o. n (omega arith))
-
-      go : (t : ℕ) → BothBlocked h T v b l t → (o : Bool) → eqb t s ≡ o → BothBlocked h T v b last t
-      go t q true o = subst (BothBlocked h T v b last) (sym (eqb-true t s o)) both
-      go t q false o = blocked_over l last t (other t (eqb-false t s o)) q
+      go : (t : ℕ) → BothBlocked h l t → (o : Bool) → eqb t s ≡ o → BothBlocked h last t
+      go t q true o = subst (BothBlocked h last) (sym (eqb-true t s o)) both
+      go t q false o = record {
+        each = λ x. fails_noted last t x (blocking_at l t x)
+            (ap (λ (n : Note). noted n x) (get_or-set_other l s t (note c d) blank (eqb-false t s o))) (q.each x).inside (q.each x).fails;
+      }
 
 -- ---- what they are
-module _
-    {h : Place} {T v b : List ℤ} {L : List ℕ} {f : ℕ} (u : Setup h.search T v b L) (i : Here T v L h) (n : Unseen h.search b L f h.at)
-    {z : ℕ} (y : PairIncumbent h.search T v b L z)
-  where
-    still : (s x : ℕ) → has f s ≡ true → Still h.search T v b L (alone s x) h.at
-    still s x e = zero_still h.search T v b L (alone s x) h.at (n.zero_before s e) (n.zero_before s e)
+module _ (h : Place) {f : ℕ} (n : Unseen h.search.now f h.at) where
+  still : (s : ℕ) (x : Sign) → has f s ≡ true → Still h.search.now (alone s x) h.at
+  still s x e = zero_still h.search.now (alone s x) h.at (n.zero_before s e) (n.zero_before s e)
 
-    pub single_failed : (s x c r : ℕ) → has f s ≡ true → c < h.search.view.columns → passing h.search T v b (alone s x) h.q c ≡ false
-        → Dominated h.search T v b L r (alone s x)
-    single_failed s x c r e k q =
-        fails_dominated h.search T v b L u (alone s x) h.at r c i.inside (still s x e) k
-        (ap (λ (p : Measure). passing h.search T v b (alone s x) p c) (here_measure h T v b L u i) ∙ q)
+  pub single_failed : (s : ℕ) (x : Sign) (c r : ℕ) → has f s ≡ true → c < h.search.now.basis.columns → passing h.search.now (alone s x) h.q c ≡ false
+      → Dominated h.search.now r (alone s x)
+  single_failed s x c r e k q =
+      fails_dominated h.search.now (alone s x) h.at r c h.here.inside (still s x e) k
+      (ap (λ (p : Measure). passing h.search.now (alone s x) p c) (here_measure h) ∙ q)
 
-    blocked_dominated : (l : List ℕ) (s x r : ℕ) → has f s ≡ true → x < 2 → BothBlocked h T v b l s → Dominated h.search T v b L r (alone s x)
-    blocked_dominated l s x r e k q = single_failed s x (blocking_at l s x) r e (q.each x k).inside (q.each x k).fails
+  blocked_dominated : (l : List Note) (s : ℕ) (x : Sign) (r : ℕ) → has f s ≡ true → BothBlocked h l s → Dominated h.search.now r (alone s x)
+  blocked_dominated l s x r e q = single_failed s x (blocking_at l s x) r e (q.each x).inside (q.each x).fails
 
-    pub singling_ends : (l : List ℕ) (w : ℕ) → w ≡ 0 → Singling h T v b f l w → Singled h T v b L f l z z
-    singling_ends l w e g =
-        record {
-          noted = g.noted;
-          less = omega arith;
-          incumbent = y.incumbent;
-          dominated = λ s k x j. blocked_dominated l s x z k j (done s k);
-          same = λ _. refl;
-          blocked = λ _ s k. (done s k).each;
-        }
-      where
-        done : (s : ℕ) → has f s ≡ true → BothBlocked h T v b l s
-        done = walk_end g.walk e
+  pub singling_ends : {l : List Note} {w : ℕ} → w ≡ 0 → Singling h f l w → Tried h f l
+  singling_ends {l} e g =
+      record {
+        long = g.noted.long;
+        decided = λ z s k x. blocked_dominated l s x z k (done s k);
+        blocked = λ s k. (done s k).each;
+      }
+    where
+      done : (s : ℕ) → has f s ≡ true → BothBlocked h l s
+      done = walk_end g.walk e
 
-    -- ---- the first one improves with mark x, and fails with the mark before
-    module _
-        (touch : (s : ℕ) → has f s ≡ true → touches h.search.view b s h.column ≡ true) (late : h.at * span ≤ z)
-        (l : List ℕ) (w s x : ℕ) (g : Singling h T v b f l w) (p : 0 < w) (e : s ≡ first_of w) (k : x < 2)
-      where
-        in_set : has f s ≡ true
-        in_set = subst (λ (t : ℕ). has f t ≡ true) (sym e) (walk_first g.walk p)
+  -- ---- the vector that is met
+  module _ {l : List Note} {w s v : ℕ} (g : Singling h f l w) (p : Taken w s v) where
+    pub single_in : s < h.search.now.basis.vectors
+    single_in = n.inside s (walk_first g.walk p)
 
-        few : s < max_columns
-        few = omega (arith, n.inside s in_set, u.searchable.ready.few_vectors)
+    pub single_few : s < max_columns
+    single_few = omega (arith, single_in, h.search.now.ready.few_vectors)
 
-        improving : every h.search.view.columns (passing h.search T v b (alone s x) h.q) ≡ true
-            → Incumbent h.search T v b L (number_at h.at (alone s x))
-        unfolding improves
-        improving a = inr record {
-          place = h.at;
-          move = alone s x;
-          inside = i.inside;
-          listed = alone_listed h.search.view.vectors s x (n.inside s in_set);
-          good = ap₂ ◌&&◌
-              (ap (changes (vectors h.search.view b) (alone s x)) (sym i.column)
-              ∙ alone_changes h.search.view b s x h.column (touch s in_set))
-              (ap (λ (q : Measure). every h.search.view.columns (passing h.search T v b (alone s x) q)) (here_measure h T v b L u i) ∙ a);
-          is = refl;
-        }
+    pub single_numbered : (x : Sign) (o : Move) → o ≡ alone s x → (h.at ≤ max_columns) × (o.s < max_columns) × (o.t < max_columns)
+    single_numbered x o e =
+        rw e (omega (arith, h.here.inside, h.search.now.ranked.few), single_few, single_few)
 
-        below : number_at h.at (alone s x) < h.at * span + first_pair
-        below = omega (arith, number_single s (sign_of x) few)
+  -- ---- the first one improves with the sign x, and fails with the one before
+  module _
+      (touch : (s : ℕ) → has f s ≡ true → touches (basis_of h.search.now) s h.column ≡ true)
+      {l : List Note} {w s v : ℕ} (x : Sign) (g : Singling h f l w) (p : Taken w s v)
+    where
+      in_set : has f s ≡ true
+      in_set = walk_first g.walk p
 
-        pub singling_found :
-            (m : List ℕ) → Noted h.search.view.columns m
-            → (0 < x → (r : ℕ) → Dominated h.search T v b L r (alone s 0))
-            → every h.search.view.columns (passing h.search T v b (alone s x) h.q) ≡ true
-            → Singled h T v b L f m z (number_at h.at (alone s x))
-        singling_found m noted before a =
-            record {
-              noted = noted;
-              less = omega (arith, below, y.late h.at i.inside late);
-              incumbent = improving a;
-              dominated = λ t o j q. ⊎_elim (λ d. left t o j q (first_least w p g.walk.word t d)) (blocked_dominated l t j r o q)
-                  (g.walk.left t o);
-              same = λ o. absurd (omega (arith, below));
-              blocked = λ o. absurd (omega (arith, below));
-            }
-          where
-            r : ℕ
-            r = number_at h.at (alone s x)
+      improving : every h.search.now.basis.columns (passing h.search.now (alone s x) h.q) ≡ true → Incumbent h.search.now (number_at h.at (alone s x))
+      unfolding improves
+      improving a = inr record {
+        place = h.at;
+        move = alone s x;
+        inside = h.here.inside;
+        listed = alone_listed h.search.now.basis.vectors s x (n.inside s in_set);
+        good = ap₂ ◌&&◌
+            (ap (changes (basis_of h.search.now) (alone s x)) (sym h.here.column)
+            ∙ alone_changes (basis_of h.search.now) s x h.column (touch s in_set))
+            (ap (λ (q : Measure). every h.search.now.basis.columns (passing h.search.now (alone s x) q)) (here_measure h) ∙ a);
+        is = refl;
+      }
 
-            later : (t : ℕ) → has f t ≡ true → (j : ℕ) → j < 2 → 2 * s + x ≤ 2 * t + j → Dominated h.search T v b L r (alone t j)
-            later t o j q d =
-                still_dominated h.search T v b L (alone t j) h.at r (still t j o)
-                (omega (arith, alone_number h.at s x k, alone_number h.at t j q))
+      pub singling_found :
+          (x ≡ Minus → (r : ℕ) → Dominated h.search.now r (alone s Plus))
+          → every h.search.now.basis.columns (passing h.search.now (alone s x) h.q) ≡ true
+          → Found h f (number_at h.at (alone s x))
+      singling_found before a =
+          record {
+            early = omega (arith, number_single s (value x) (single_few g p));
+            late = omega arith;
+            incumbent = improving a;
+            decided = λ t o j. ⊎_elim (λ d. left t o j (taken_least p t d)) (blocked_dominated l t j r o) (g.walk.left t o);
+          }
+        where
+          r : ℕ
+          r = number_at h.at (alone s x)
 
-            same : (t : ℕ) → has f t ≡ true → (j : ℕ) → j < 2 → s ≡ t → Dominated h.search T v b L r (alone t j)
-            same t o zero q d =
-                ⊎_elim (λ c. subst (λ (t : ℕ). Dominated h.search T v b L r (alone t 0)) d (before c r)) (λ c. later t o 0 q (omega arith))
-                (lt_or_ge 0 x)
-            same t o (suc j) q d = later t o (suc j) q (omega arith)
+          later : (t : ℕ) → has f t ≡ true → (j : Sign) → 2 * s + digit x ≤ 2 * t + digit j → Dominated h.search.now r (alone t j)
+          later t o j d =
+              still_dominated h.search.now (alone t j) h.at r (still t j o) (omega (arith, alone_number h.at s x, alone_number h.at t j))
 
-            left : (t : ℕ) → has f t ≡ true → (j : ℕ) → j < 2 → first_of w ≤ t → Dominated h.search T v b L r (alone t j)
-            left t o j q d = ⊎_elim (same t o j q) (λ c. later t o j q (omega arith)) (eq-or-lt_of_le (omega arith))
+          small : (j : Sign) → digit j ≤ 1
+          small = two_signs (λ j. digit j ≤ 1) (omega arith) (omega arith)
+
+          same : (t : ℕ) → has f t ≡ true → (j : Sign) → s ≡ t → Dominated h.search.now r (alone t j)
+          same t o Plus d = by x refl
+            where
+              by : (y : Sign) → x ≡ y → Dominated h.search.now r (alone t Plus)
+              by Plus e = later t o Plus (omega (arith, ap digit e))
+              by Minus e = subst (λ (t : ℕ). Dominated h.search.now r (alone t Plus)) d (before e r)
+          same t o Minus d = later t o Minus (omega (arith, small x))
+
+          left : (t : ℕ) → has f t ≡ true → (j : Sign) → s ≤ t → Dominated h.search.now r (alone t j)
+          left t o j d = ⊎_elim (same t o j) (λ c. later t o j (omega (arith, small x))) (eq-or-lt_of_le d)

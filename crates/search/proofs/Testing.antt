@@ -3,7 +3,7 @@
 --   still_passes           a column to which 0 is added passes
 --   change_small, moved_near   how large what is added is, and the value after it
 --   both-, alone_covered   the sets of a move's vectors have the columns that it changes
---   blocking_every         by a blocking column, whether all pass
+--   none_blocks            where there is no blocking column, all pass
 --   Seeking n f w j      a loop over a set of columns: j is tried, those of w are left, and the others pass
 --   seek-..              for its turns, from the first column on
 -- Assumes nothing.
@@ -11,106 +11,164 @@ use mathlib.Core.Path.{◌≡◌, refl, sym, ◌∙◌, ap}
 use mathlib.Core.Logic.{◌⊎◌, inl, inr, ⊎_elim}
 use mathlib.Core.Bool.{Bool, true, false, not, ◌&&◌, ◌||◌, and-eq-true_iff, true≢false}
 use mathlib.Core.List.{List}
-use Prim.Native.Nat.{ℕ, ◌*◌, ◌^◌, ◌<◌, ◌≤◌}
+use Prim.Native.Nat.{ℕ, ◌*◌, ◌<◌, ◌≤◌}
 use native.Mathlib.Omega.{arith}
-use borrow.Author.Tests.{lt-ltb, ltb-true, leb-true, leb-false, not-false}
-use lib.Dec.{ltb, leb}
+use borrow.Author.Tests.{lt-ltb, ltb-true, not-false}
+use lib.Dec.{ltb}
+use Rattle.std.specs.Prelude.{Option, Some, None, is_some}
 use lib.IntN.{ℤ, nat_abs, ◌+ℤ◌, ◌*ℤ◌, +ℤ_idr, *ℤ-zero}
 use lib.ListN.{get_or}
+use mir.Syntax.{w64}
+use mir.Val.{SFits, to_z, of_z}
 use Rattle.whole.proofs.Counted.{every_all, every_not}
 use Rattle.whole.proofs.Integers.{add_none, is_zero_true}
 use Rattle.whole.specs.Lists.{entry}
 use Rattle.whole.specs.Tests.{is_zero, every}
-use Rattle.whole.proofs.Signed.{abs_add}
+use Rattle.std.proofs.lemmas.Int.{to_z-of_z}
+use Rattle.whole.proofs.Signed.{abs_add, sfits_abs}
 use Rattle.problem.specs.Limits.{M}
-use Rattle.settling.specs.declared.Basis.{Basis}
+use Rattle.settling.specs.declared.Column.{Column}
+use Rattle.settling.specs.declared.Measure.{Measure}
+use Rattle.settling.specs.declared.Cell.{Cell}
 use Rattle.settling.specs.declared.Move.{Move}
+use Rattle.settling.specs.declared.Part.TheVariants.{Bounds}
 use Rattle.settling.specs.Columns.{valued, column_at}
 use Rattle.settling.specs.Moves.{vector, change, changes}
+use Rattle.settling.specs.Sizes.{FitCell}
 use Rattle.settling.specs.Steps.{is_allowed, passes}
-use Rattle.settling.specs.Views.{vectors, OfBasis}
-use Rattle.settling.proofs.Views.{vector_small, sum_small, moved_at}
+use Rattle.settling.specs.Views.{OfBasis}
+use Rattle.settling.proofs.Views.{vector_small, moved_at}
+use Rattle.settling.proofs.Fitting.{both_small}
 use Rattle.settling.proofs.Passing.{passes_still}
-use Rattle.search.specs.declared.probes.Trial.{Trial}
-use Rattle.search.specs.Probes.{Triable, Covered, Blocking, Supported}
+use Rattle.search.specs.declared.given.Search.{Search}
+use Rattle.search.specs.declared.seen.Sign.{Sign}
+use Rattle.search.specs.Probes.{Covered, Blocking}
 use Rattle.search.specs.Progress.{alone}
-use Rattle.search.specs.Searches.{passing}
-use Rattle.search.specs.Sets.{has, first_of, rest_of, touches}
+use Rattle.search.specs.Searches.{basis_of, passing}
+use Rattle.search.specs.Sets.{has, touches, Taken}
 use Rattle.search.proofs.Alone.{alone_basis}
 use Rattle.search.proofs.Setting.{Walk, walk_first, walk_on, walk_end}
 
 -- ---- one column
-module _ (t : Trial) (T v b : List ℤ) (h : Triable t T v b) (j : ℕ) where
+module _ (S : Search) (o : Move) (of : OfBasis S.basis.vectors o) (q : Measure) (j : ℕ) where
   abbrev added : ℤ
-  added = change (vectors t.search.view b) t.o j
+  added = change (basis_of S) o j
 
-  pub moved_passes : j < t.search.view.columns
-      → passing t.search T v b t.o t.q j ≡ passes t.search.part (valued (column_at T j) (entry j v +ℤ added)) added t.q
+  abbrev c : Column
+  c = column_at S.columns.now j
+
+  abbrev x : ℤ
+  x = entry j S.values.now
+
+  pub moved_passes : j < S.basis.columns → passing S o q j ≡ passes S.part (valued (column_at S.columns.now j) (x +ℤ added)) added q
   moved_passes l =
-      ap (λ (z : ℤ). passes t.search.part (valued (column_at T j) z) added t.q)
-      (moved_at (vectors t.search.view b) t.o v j (omega (arith, h.searchable.ready.values_long)))
+      ap (λ (z : ℤ). passes S.part (valued c z) added q) (moved_at (basis_of S) o S.values.now j (omega (arith, S.ready.values_long)))
 
-  pub still_passes : j < t.search.view.columns → is_zero added ≡ true → passing t.search T v b t.o t.q j ≡ true
+  pub still_passes : j < S.basis.columns → is_zero added ≡ true → passing S o q j ≡ true
   still_passes l z =
       moved_passes l
-      ∙ passes_still t.search.part (valued (column_at T j) (entry j v +ℤ added)) added t.q
-      (ap (λ (x : ℤ). is_allowed t.search.part (valued (column_at T j) (entry j v +ℤ x))) (is_zero_true added z)
-      ∙ ap (λ (x : ℤ). is_allowed t.search.part (valued (column_at T j) x)) (+ℤ_idr (entry j v))
-      ∙ h.searchable.allowed j l) z
+      ∙ passes_still S.part (valued c (x +ℤ added)) added q
+      (ap (λ (d : ℤ). is_allowed S.part (valued c (x +ℤ d))) (is_zero_true added z)
+      ∙ ap (λ (d : ℤ). is_allowed S.part (valued c d)) (+ℤ_idr x)
+      ∙ S.allowed.each j l) z
 
   pub change_small : nat_abs added ≤ 2 * M
-  change_small = sum_small t.o.a _ t.o.b _ of.a of.b (small t.o.s of.s) (small t.o.t of.t)
+  change_small = both_small o.a _ o.b _ of.a of.b (small o.s of.s) (small o.t of.t)
     where
-      of : OfBasis t.search.view.vectors t.o
-      of = h.of_basis
+      small : (s : ℕ) → s < S.basis.vectors → nat_abs (entry j (vector (basis_of S) s)) ≤ M
+      small s k = vector_small S.basis s k j
 
-      small : (s : ℕ) → s < t.search.view.vectors → nat_abs (entry j (vector (vectors t.search.view b) s)) ≤ M
-      small s k = vector_small t.search.view b s h.searchable.ready.basis k j
+  pub moved_near : nat_abs (x +ℤ added) ≤ 3 * M
+  moved_near = omega (arith, abs_add x added, S.ready.values_small j, change_small)
 
-  pub moved_near : nat_abs (entry j v +ℤ added) ≤ 3 * M
-  moved_near = omega (arith, abs_add (entry j v) added, h.searchable.ready.values_small j, change_small)
+  -- the sum is what the machine makes of it
+  pub moved_read : to_z w64 (of_z w64 (to_z w64 (of_z w64 x) +ℤ to_z w64 (of_z w64 added))) ≡ x +ℤ added
+  moved_read =
+      let fx : SFits w64 x = sfits_abs x (omega (arith, S.ready.values_small j)) in
+      let fa : SFits w64 added = sfits_abs added (omega (arith, change_small)) in
+      let f : SFits w64 (x +ℤ added) = sfits_abs (x +ℤ added) (omega (arith, moved_near)) in
+      simp to_z-of_z
+
+  -- the cell after it
+  pub moved_fits : (r : Cell) (e : ℤ) → r ≡ valued (column_at S.columns.now j) x → e ≡ added
+      → SFits w64 (to_z w64 (of_z w64 r.value) +ℤ to_z w64 (of_z w64 e))
+  moved_fits r e f g =
+      let fx : SFits w64 x = sfits_abs x (omega (arith, S.ready.values_small j)) in
+      let fa : SFits w64 added = sfits_abs added (omega (arith, change_small)) in
+      rw (f, g) (simp to_z-of_z (sfits_abs (x +ℤ added) (omega (arith, moved_near))))
+
+  pub moved_cell : (r : Cell) (e : ℤ) → r ≡ valued (column_at S.columns.now j) x → e ≡ added
+      → FitCell Bounds (record {
+        lower = to_z w64 (of_z w64 r.lower);
+        upper = to_z w64 (of_z w64 r.upper);
+        low = to_z w64 (of_z w64 r.low);
+        high = to_z w64 (of_z w64 r.high);
+        value = to_z w64 (of_z w64 (to_z w64 (of_z w64 r.value) +ℤ to_z w64 (of_z w64 e)));
+      })
+  moved_cell r e f g =
+      let k = S.ready.columns j in
+      let fl : SFits w64 c.lower = sfits_abs c.lower (omega (arith, k.lower)) in
+      let fu : SFits w64 c.upper = sfits_abs c.upper (omega (arith, k.upper)) in
+      let fa : SFits w64 c.low = sfits_abs c.low (omega (arith, k.low)) in
+      let fb : SFits w64 c.high = sfits_abs c.high (omega (arith, k.high)) in
+      rw (f, g) (record {
+        lower = simp to_z-of_z k.lower;
+        upper = simp to_z-of_z k.upper;
+        low = simp to_z-of_z k.low;
+        high = simp to_z-of_z k.high;
+        value = rw moved_read moved_near;
+      })
+
+pub ruleset tests = (moved_passes, still_passes, moved_near, change_small, moved_read, to_z-of_z)
 
 -- ---- the columns that a move changes
 none_added : (a x b y : ℤ) → is_zero x ≡ true → is_zero y ≡ true → is_zero (a *ℤ x +ℤ b *ℤ y) ≡ true
 none_added a x b y e f =
     ap is_zero (add_none b (a *ℤ x) y (is_zero_true y f) ∙ ap (λ (z : ℤ). a *ℤ z) (is_zero_true x e) ∙ *ℤ-zero a)
 
-module _ (B : Basis) (b : List ℤ) (U : List ℕ) (u : Supported B b U) where
-  inside : (s : ℕ) → s < B.vectors → (j : ℕ) → has (get_or U s 0) j ≡ true → j < B.columns
-  inside s h j e = ltb-true j B.columns ((and-eq-true_iff (ltb j B.columns) (touches B b s j)).0 (sym (u.is s h j) ∙ e)).0
+module _ (S : Search) where
+  abbrev U : List ℕ
+  U = S.supports.now
 
-  none : (s : ℕ) → s < B.vectors → (j : ℕ) → j < B.columns → has (get_or U s 0) j ≡ false → is_zero (entry j (vector (vectors B b) s)) ≡ true
-  none s h j l e = not-false _ (sym (u.is s h j ∙ ap (λ (d : Bool). d && touches B b s j) (lt-ltb j B.columns l)) ∙ e)
+  inside : (s : ℕ) → s < S.basis.vectors → (j : ℕ) → has (get_or U s 0) j ≡ true → j < S.basis.columns
+  inside s h j e =
+      ltb-true j S.basis.columns
+      ((and-eq-true_iff (ltb j S.basis.columns) (touches (basis_of S) s j)).0 (sym (S.indexed.support s h j) ∙ e)).0
 
-  pub both_covered : (o : Move) → OfBasis B.vectors o → (w : ℕ) → ((j : ℕ) → has w j ≡ has (get_or U o.s 0) j || has (get_or U o.t 0) j)
-      → Covered B.columns (changes (vectors B b) o) w
+  none : (s : ℕ) → s < S.basis.vectors → (j : ℕ) → j < S.basis.columns → has (get_or U s 0) j ≡ false
+      → is_zero (entry j (vector (basis_of S) s)) ≡ true
+  none s h j l e = not-false _ (sym (S.indexed.support s h j ∙ ap (λ (d : Bool). d && touches (basis_of S) s j) (lt-ltb j S.basis.columns l)) ∙ e)
+
+  pub both_covered : (o : Move) → OfBasis S.basis.vectors o → (w : ℕ)
+      → ((j : ℕ) → has w j ≡ has (get_or S.supports.now o.s 0) j || has (get_or S.supports.now o.t 0) j)
+      → Covered S.basis.columns (changes (basis_of S) o) w
   both_covered o of w f = record { inside = λ j e. some j _ refl _ refl (sym (f j) ∙ e); outside = λ j l e. still j l _ refl _ refl (sym (f j) ∙ e) }
     where
-      some : (j : ℕ) (x : Bool) → has (get_or U o.s 0) j ≡ x → (y : Bool) → has (get_or U o.t 0) j ≡ y → x || y ≡ true → j < B.columns
+      some : (j : ℕ) (x : Bool) → has (get_or U o.s 0) j ≡ x → (y : Bool) → has (get_or U o.t 0) j ≡ y → x || y ≡ true → j < S.basis.columns
       some j true p y q e = inside o.s of.s j p
       some j false p true q e = inside o.t of.t j q
       some j false p false q e = absurd (true≢false (sym e))
 
-      still : (j : ℕ) → j < B.columns → (x : Bool) → has (get_or U o.s 0) j ≡ x → (y : Bool) → has (get_or U o.t 0) j ≡ y
-          → x || y ≡ false → changes (vectors B b) o j ≡ false
+      still : (j : ℕ) → j < S.basis.columns → (x : Bool) → has (get_or U o.s 0) j ≡ x → (y : Bool) → has (get_or U o.t 0) j ≡ y
+          → x || y ≡ false → changes (basis_of S) o j ≡ false
       still j l true p y q e = absurd (true≢false e)
       still j l false p true q e = absurd (true≢false e)
       still j l false p false q e = ap not (none_added o.a _ o.b _ (none o.s of.s j l p) (none o.t of.t j l q))
 
-  pub alone_covered : (s x : ℕ) → s < B.vectors → Covered B.columns (changes (vectors B b) (alone s x)) (get_or U s 0)
-  alone_covered s x h = both_covered (alone s x) (alone_basis B.vectors s x h) (get_or U s 0) (λ j. twice (has (get_or U s 0) j))
+  pub alone_covered : (s : ℕ) (x : Sign) → s < S.basis.vectors
+      → Covered S.basis.columns (changes (basis_of S) (alone s x)) (get_or S.supports.now s 0)
+  alone_covered s x h = both_covered (alone s x) (alone_basis S.basis.vectors s x h) (get_or U s 0) (λ j. twice (has (get_or U s 0) j))
     where
       twice : (d : Bool) → d ≡ d || d
       twice true = refl
       twice false = refl
 
 -- ---- all columns
-pub blocking_every : (n : ℕ) (f : ℕ → Bool) (k : ℕ) → Blocking n f k → leb n k ≡ every n f
-blocking_every n f k g = go (leb n k) refl
-  where
-    go : (d : Bool) → leb n k ≡ d → d ≡ every n f
-    go true e = sym (g.good (leb-true n k e))
-    go false e = let m : k < n = leb-false n k e in sym (every_not n f k m (g.bad m))
+pub none_blocks : (n : ℕ) (f : ℕ → Bool) (r : Option ℕ) → Blocking n f r → (t : Bool) → is_some r ≡ not t → t ≡ every n f
+none_blocks n f None g true e = sym g
+none_blocks n f None g false e = absurd (true≢false (sym e))
+none_blocks n f (Some k) g true e = absurd (true≢false e)
+none_blocks n f (Some k) g false e = sym (every_not n f k g.0 g.1)
 
 -- ---- a loop over a set of columns
 pub record Seeking (n : ℕ) (f : ℕ → Bool) (w j : ℕ) : Type 0 where
@@ -119,25 +177,20 @@ pub record Seeking (n : ℕ) (f : ℕ → Bool) (w j : ℕ) : Type 0 where
 
 module _ {n : ℕ} {f : ℕ → Bool} where
   -- the columns that are not in the set pass
-  pub seek_starts : (w j : ℕ) → w < 2 ^ 64 → j < n → ((t : ℕ) → has w t ≡ true → t < n) → ((t : ℕ) → t < n → has w t ≡ false → f t ≡ true)
+  pub seek_starts : (w j : ℕ) → j < n → ((t : ℕ) → has w t ≡ true → t < n) → ((t : ℕ) → t < n → has w t ≡ false → f t ≡ true)
       → Seeking n f w j
-  seek_starts w j h l i o = record { at = l; walk = record { word = h; inside = i; left = λ t k. go t k (has w t) refl } }
+  seek_starts w j l i o = record { at = l; walk = record { inside = i; left = λ t k. go t k (has w t) refl } }
     where
       go : (t : ℕ) → t < n → (d : Bool) → has w t ≡ d → (has w t ≡ true) ⊎ ((t ≡ j) ⊎ (f t ≡ true))
       go t k true e = inl e
       go t k false e = inr (inr (o t k e))
 
-  module _ {w j : ℕ} (g : Seeking n f w j) where
-    pub seek_fails : f j ≡ false → Blocking n f j
-    seek_fails e = record { bad = λ _. e; good = λ h. absurd (omega (arith, g.at)) }
+  module _ {w j : ℕ} (g : Seeking n f w j) (p : f j ≡ true) where
+    done : (t : ℕ) → (t ≡ j) ⊎ (f t ≡ true) → f t ≡ true
+    done t = ⊎_elim (λ e. ap f e ∙ p) (λ q. q)
 
-    module _ (p : f j ≡ true) where
-      done : (t : ℕ) → (t ≡ j) ⊎ (f t ≡ true) → f t ≡ true
-      done t = ⊎_elim (λ e. ap f e ∙ p) (λ q. q)
+    pub seek_ends : w ≡ 0 → every n f ≡ true
+    seek_ends e = every_all n f (λ t l. done t (walk_end g.walk e t l))
 
-      pub seek_ends : w ≡ 0 → (k : ℕ) → n ≤ k → Blocking n f k
-      seek_ends e k h =
-          record { bad = λ l. absurd (omega arith); good = λ _. every_all n f (λ t l. done t (walk_end g.walk e t l)) }
-
-      pub seek_on : 0 < w → Seeking n f (rest_of w) (first_of w)
-      seek_on h = record { at = walk_first g.walk h; walk = walk_on g.walk h (λ t q. inr (done t q)) (λ _. inl refl) }
+    pub seek_on : {s v : ℕ} → Taken w s v → Seeking n f v s
+    seek_on k = record { at = walk_first g.walk k; walk = walk_on g.walk k (λ t q. inr (done t q)) (λ _. inl refl) }

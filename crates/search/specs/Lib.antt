@@ -1,6 +1,7 @@
 -- The root of the definitions of the search.
-pub mod Searches
 pub mod Sets
+pub mod Given
+pub mod Searches
 pub mod Numbers
 pub mod Notes
 pub mod Probes
@@ -9,3 +10,4 @@ pub mod Sorting
 pub mod Kept
 pub mod Ranked
 pub mod Turning
+pub mod Working

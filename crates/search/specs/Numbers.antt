@@ -1,5 +1,5 @@
 -- A move at a place of the ranking as one number, so that better is smaller.
---   Sign a             +1 or −1
+--   IsSign a           +1 or −1
 --   first_pair         the number of the first pair; singles lie below it
 --   span               how far the numbers of one place lie from those of the next
 --   mark a             1 for a sign below 0, else 0
@@ -14,17 +14,18 @@
 --   ImprovingOrNone imp L r z   z is such a number, or the least one behind the ranking
 -- Assumes nothing.
 use Rattle.std.specs.Prelude.{◌≡◌, ◌⊎◌, Bool, true, cond, List, ℕ, ◌+◌, ◌-◌, ◌*◌, ◌/◌, ◌%◌, ◌<◌, ◌≤◌, ltb, eqb, ℤ, pos, negsuc, length, get_or}
+use Rattle.std.specs.Prelude.{Option, Some, None}
 use Rattle.std.specs.Int.Signed.{lt_z}
 use Rattle.whole.specs.Tests.{is_zero}
 use Rattle.problem.specs.Limits.{max_columns}
 use Rattle.settling.specs.declared.Move.{Move}
 use Rattle.settling.specs.declared.Step.{Step}
-use Rattle.settling.specs.declared.Step.TheVariants.{Rest, Take}
 use Rattle.settling.specs.Moves.{single, pair, moves}
+use Rattle.settling.specs.Steps.{step}
 use Rattle.settling.specs.Verdicts.{Listed}
 
-abbrev pub Sign : ℤ → Type 0
-Sign a = (a ≡ pos 1) ⊎ (a ≡ negsuc 0)
+abbrev pub IsSign : ℤ → Type 0
+IsSign a = (a ≡ pos 1) ⊎ (a ≡ negsuc 0)
 
 abbrev pub first_pair : ℕ
 first_pair = 2 * max_columns
@@ -53,8 +54,8 @@ pair_of d = pair (d / 4 / max_columns) (sign_of (d / 2 % 2)) (d / 4 % max_column
 unfoldable pub move_of : ℕ → Move
 move_of n = cond (ltb n first_pair) (single (n / 2) (sign_of (n % 2))) (pair_of (n - first_pair))
 
-unfoldable pub step_in : List ℕ → ℕ → Step
-step_in L z = cond (ltb (z / span) (length L)) (Take (get_or L (z / span) 0) (move_of (z % span))) Rest
+unfoldable pub step_in : List ℕ → ℕ → Option Step
+step_in L z = cond (ltb (z / span) (length L)) (Some (step (get_or L (z / span) 0) (move_of (z % span)))) None
 
 pub record DominatedBy (imp : Move → ℕ → Bool) (L : List ℕ) (z : ℕ) (o : Move) : Type 0 where
   pub each : (x : ℕ) → x < length L → imp o (get_or L x 0) ≡ true → z ≤ number_at x o

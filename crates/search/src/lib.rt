@@ -7,67 +7,34 @@ ghost use Rattle.settling.specs.Ready.{Ready};
 ghost use Rattle.settling.specs.Steps.{next_step, turn_of};
 ghost use Rattle.settling.specs.Views.{vectors};
 
-use places::{NOTE_WIDTH, first_step};
-use problem::Problem;
-use ranking::SIZE_WIDTH;
-use sets::find_sets;
-use settling::{Basis, Part, Step, Turn};
-use turns::{rank_next, unranked};
+use settling::{Basis, Column, Step, Turn};
+use work::Workspace;
 
+mod given;
 mod numbers;
 mod places;
 mod probes;
 mod ranking;
+mod seen;
 mod sets;
 pub mod settle;
 mod turns;
-
-// What a search goes by.
-#[derive(Clone, Copy)]
-struct Search {
-    pub part: Part,
-    pub view: Basis,
-}
+mod work;
 
 // The next step of settling, and the part that it belongs to.
-pub fn turn_at(values: &[i64], columns: &[i64], basis: &[i64], view: Basis) -> Turn
-    requires { Ready view values.now columns.now basis.now }
-    ensures { result ≡ turn_of (columns_in view.columns columns.now) (vectors view basis.now) values.now }
+pub fn turn_at(values: &[i64], columns: &[Column], basis: Basis) -> Turn
+    requires { Ready basis values.now columns.now }
+    ensures { result ≡ turn_of (columns_in basis.entry.columns columns.now) (vectors basis.entry) values.now }
 {
-    let mut supports = [0u64; Problem::MAX_COLUMNS];
-    let mut holders = [0u64; Problem::MAX_COLUMNS];
-    find_sets(&mut supports, &mut holders, basis, view);
-    let mut order = [0usize; Problem::MAX_COLUMNS];
-    let mut sizes = [0u64; SIZE_WIDTH * Problem::MAX_COLUMNS];
-    let mut notes = [0usize; NOTE_WIDTH * Problem::MAX_COLUMNS];
-    let ranked = rank_next(unranked(), columns, values, &mut sizes, &mut order);
-    let part = ranked.part;
-    let len = ranked.len;
-    let search = Search {
-        part: part,
-        view: view,
-    };
-    let step = first_step(
-        search,
-        columns,
-        values,
-        basis,
-        &order[..len],
-        &supports,
-        &holders,
-        &mut notes,
-    );
-    Turn {
-        part: part,
-        step: step,
-    }
+    let mut work = Workspace::new();
+    work.begin(basis);
+    work.turn(columns, values, basis)
 }
 
 // The next step of settling: the first ranked column that a move improves, and its first such move.
-pub fn next_step(values: &[i64], columns: &[i64], basis: &[i64], view: Basis) -> Step
-    requires { Ready view values.now columns.now basis.now }
-    ensures { result ≡ next_step (columns_in view.columns columns.now) (vectors view basis.now) values.now }
+pub fn next_step(values: &[i64], columns: &[Column], basis: Basis) -> Option<Step>
+    requires { Ready basis values.now columns.now }
+    ensures { result ≡ next_step (columns_in basis.entry.columns columns.now) (vectors basis.entry) values.now }
 {
-    let turn = turn_at(values, columns, basis, view);
-    turn.step
+    turn_at(values, columns, basis).step
 }

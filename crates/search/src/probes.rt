@@ -1,70 +1,48 @@
 // The tests of one move: whether the columns pass that it changes.
 ghost use Rattle.std.specs.Prelude.{◌≡◌, ◌<◌};
 ghost use Rattle.settling.specs.Moves.{changes};
-ghost use Rattle.settling.specs.Views.{vectors};
-ghost use Rattle.search.specs.Probes.{Triable, Covered, Blocking};
-ghost use Rattle.search.specs.Searches.{passing};
+ghost use Rattle.settling.specs.Sizes.{Crossable};
+ghost use Rattle.settling.specs.Views.{OfBasis};
+ghost use Rattle.search.specs.Probes.{Covered, Blocking};
+ghost use Rattle.search.specs.Searches.{basis_of, passing};
 
-use crate::Search;
-use crate::sets::{Set, first, rest};
+use crate::given::Search;
+use crate::sets::Set;
 use settling::columns::cell_at;
-use settling::measures::{is_zero, passes};
-use settling::moves::{change, sum};
+use settling::measures::passes;
 use settling::{Cell, Measure, Move};
 
-// A move that is tried, and the measure that each column it changes has to come below.
-#[derive(Clone, Copy)]
-pub(crate) struct Trial {
-    pub search: Search,
-    pub o: Move,
-    pub q: Measure,
-}
-
-// Whether column j passes. A column that is not changed does.
-fn passes_by(p: Trial, columns: &[i64], values: &[i64], basis: &[i64], j: usize) -> bool
-    requires { Triable p columns.now values.now basis.now × (j < p.search.view.columns) }
-    ensures { result ≡ passing p.search columns.now values.now basis.now p.o p.q j }
-{
-    let search = p.search;
-    let o = p.o;
-    let e = change(basis, search.view, o, j);
-    if is_zero(e) {
-        return true;
-    }
-    let c = cell_at(columns, values, j);
-    let moved = Cell {
-        lower: c.lower,
-        upper: c.upper,
-        low: c.low,
-        high: c.high,
-        value: sum(c.value, e),
-    };
-    let part = search.part;
-    passes(part, moved, e, p.q)
-}
-
-// A blocking column, which does not pass, or how many columns there are. Column i is tried first, then those of a set that has all that are changed.
-pub(crate) fn find_blocking(
-    p: Trial,
-    columns: &[i64],
-    values: &[i64],
-    basis: &[i64],
-    i: usize,
-    members: Set,
-) -> usize
-    requires { Triable p columns.now values.now basis.now × (i < p.search.view.columns)
-        × Covered p.search.view.columns (changes (vectors p.search.view basis.now) p.o) members }
-    ensures { Blocking p.search.view.columns
-        (passing p.search columns.now values.now basis.now p.o p.q) result }
-{
-    let mut set = members;
-    let mut j = i;
-    while passes_by(p, columns, values, basis, j) {
-        if set == 0 {
-            return values.len();
+impl Search<'_> {
+    // Whether column j passes under a move, against a measure. A column that is not changed does.
+    #[tactic(auto, using(crate::proofs::Testing::tests))]
+    fn passes_by(&self, o: Move, q: Measure, j: usize) -> bool
+        requires { OfBasis self.now.basis.vectors o × Crossable q × (j < self.now.basis.columns) }
+        ensures { result ≡ passing self.now o q j }
+    {
+        let e = self.basis.change(o, j);
+        if e == 0 {
+            return true;
         }
-        j = first(set);
-        set = rest(set);
+        let c = cell_at(self.columns, self.values, j);
+        let moved = Cell {
+            value: c.value + e,
+            ..c
+        };
+        passes(self.part, moved, e, q)
     }
-    j
+
+    // A blocking column, which does not pass. Column i is tried first, then those of a set that has all that are changed.
+    pub(crate) fn find_blocking(&self, o: Move, q: Measure, i: usize, members: Set) -> Option<usize>
+        requires { OfBasis self.now.basis.vectors o × Crossable q × (i < self.now.basis.columns)
+            × Covered self.now.basis.columns (changes (basis_of self.now) o) members }
+        ensures { Blocking self.now.basis.columns (passing self.now o q) result }
+    {
+        let mut left = members;
+        let mut j = i;
+        // A `for` over the members, with the column i tried before it, took 1.2 to 1.4 times as long on whole decks.
+        while self.passes_by(o, q, j) {
+            j = left.next()?;
+        }
+        Some(j)
+    }
 }

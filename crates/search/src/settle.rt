@@ -1,5 +1,4 @@
-// Settling under a limit: steps of the search, one after the other. What the search keeps between them is the order of the goals part, and the
-// blocking columns of the vectors, which are tried first.
+// Settling under a limit: steps of the search, one after the other.
 ghost use Rattle.std.specs.Prelude.{◌≡◌, ◌<◌};
 ghost use Rattle.problem.specs.Answers.{no_steps};
 ghost use Rattle.settling.specs.Columns.{columns_in};
@@ -7,26 +6,22 @@ ghost use Rattle.settling.specs.Ready.{Ready};
 ghost use Rattle.settling.specs.Settle as Settle;
 ghost use Rattle.settling.specs.Views.{vectors};
 
-use crate::Search;
-use crate::places::{NOTE_WIDTH, first_step};
-use crate::ranking::SIZE_WIDTH;
-use crate::sets::find_sets;
-use crate::turns::{rank_next, unranked};
-use problem::{Answer, Counts, Problem};
+use crate::work::Workspace;
+use problem::{Counts, Verdict};
 use settling::moves::take_move;
-use settling::{Basis, Part, Step};
+use settling::{Basis, Column, Part};
 
 // The verdict where no move improves.
-fn at_rest(part: Part, counts: Counts) -> Answer
+fn at_rest(part: Part, counts: Counts) -> Verdict
     ensures { result ≡ Settle.at_rest part counts }
 {
     match part {
-        Part::Bounds => Answer::Outside(counts),
-        Part::Goals => Answer::Fitted(counts),
+        Part::Bounds => Verdict::Outside(counts),
+        Part::Goals => Verdict::Fitted(counts),
     }
 }
 
-// The counts before the first step.
+// The counts before the first step. Crate problem has the same numbers for a refusal, which is another sentence of the rules.
 fn no_steps() -> Counts
     ensures { result ≡ no_steps }
 {
@@ -44,58 +39,36 @@ fn counted(part: Part, counts: Counts) -> Counts
     match part {
         Part::Bounds => Counts {
             bounds: counts.bounds + 1,
-            goals: counts.goals,
+            ..counts
         },
         Part::Goals => Counts {
-            bounds: counts.bounds,
             goals: counts.goals + 1,
+            ..counts
         },
     }
 }
 
 // Takes steps while some move improves and the limit is not reached. Whether a move improves is looked at first: a list at rest is never spent.
-pub fn settle(values: &mut [i64], columns: &[i64], basis: &[i64], view: Basis, limit: u32) -> Answer
-    requires { Ready view values.old columns.now basis.now }
+pub fn settle(values: &mut [i64], columns: &[Column], basis: Basis, limit: u32) -> Verdict
+    requires { Ready basis values.old columns.now }
     ensures { Settle.ended result values.new
-        ≡ Settle.settle limit (columns_in view.columns columns.now) (vectors view basis.now) values.old }
+        ≡ Settle.settle limit (columns_in basis.entry.columns columns.now) (vectors basis.entry) values.old }
 {
-    let mut supports = [0u64; Problem::MAX_COLUMNS];
-    let mut holders = [0u64; Problem::MAX_COLUMNS];
-    find_sets(&mut supports, &mut holders, basis, view);
-    let mut order = [0usize; Problem::MAX_COLUMNS];
-    let mut sizes = [0u64; SIZE_WIDTH * Problem::MAX_COLUMNS];
-    let mut notes = [0usize; NOTE_WIDTH * Problem::MAX_COLUMNS];
-    let mut ranked = unranked();
+    let mut work = Workspace::new();
+    work.begin(basis);
     let mut counts = no_steps();
     let mut left = limit;
+    // A `for` over the steps is no plainer: the turn behind the last step would have to be taken outside it.
     loop {
-        ranked = rank_next(ranked, columns, values, &mut sizes, &mut order);
-        let part = ranked.part;
-        let len = ranked.len;
-        let search = Search {
-            part: part,
-            view: view,
+        let turn = work.turn(columns, values, basis);
+        let Some(step) = turn.step else {
+            return at_rest(turn.part, counts);
         };
-        let step = first_step(
-            search,
-            columns,
-            values,
-            basis,
-            &order[..len],
-            &supports,
-            &holders,
-            &mut notes,
-        );
-        match step {
-            Step::Rest => return at_rest(part, counts),
-            Step::Take(_, o) => {
-                if left == 0 {
-                    return Answer::Spent(counts);
-                }
-                take_move(values, basis, view, o);
-                counts = counted(part, counts);
-                left -= 1;
-            }
+        if left == 0 {
+            return Verdict::Spent(counts);
         }
+        take_move(values, basis, step.o);
+        counts = counted(turn.part, counts);
+        left -= 1;
     }
 }

@@ -10,7 +10,8 @@ use lib.IntN.{pos}
 use Rattle.text.specs.Tokens.{all_digits, value}
 use Rattle.text.specs.Positions.{stretch}
 use Rattle.problem.specs.declared.Refusal.TheVariants.{Goal, Layout}
-use Rattle.sections.specs.Rules.{Outcome, ok, no}
+use Rattle.std.proofs.Common.{Ok, Err}
+use Rattle.sections.specs.Rules.{Outcome}
 use Rattle.sections.specs.Sections.{interval}
 use Rattle.sections.specs.declared.Interval.{Interval}
 
@@ -28,19 +29,19 @@ reads s = interval s 0
 
 pub record IntervalCases : Type 0 where
   -- "an interval's line in the text has four numbers"
-  apart : reads (digit 1 (digit 9 (digit 2 (digit 4 [])))) ≡ ok (record { lower = pos 1; upper = pos 9; low = pos 2; high = pos 4 }) 7
-  equal : reads (digit 1 (digit 9 (digit 4 (digit 4 [])))) ≡ ok (record { lower = pos 1; upper = pos 9; low = pos 4; high = pos 4 }) 7
-  no_goal : reads (digit 0 (digit 9 (digit 0 (digit 0 [])))) ≡ ok (record { lower = pos 0; upper = pos 9; low = pos 0; high = pos 0 }) 7
-  three : reads (digit 1 (digit 9 (digit 4 []))) ≡ no Layout
+  apart : reads (digit 1 (digit 9 (digit 2 (digit 4 [])))) ≡ Ok (record { lower = pos 1; upper = pos 9; low = pos 2; high = pos 4 }, 7)
+  equal : reads (digit 1 (digit 9 (digit 4 (digit 4 [])))) ≡ Ok (record { lower = pos 1; upper = pos 9; low = pos 4; high = pos 4 }, 7)
+  no_goal : reads (digit 0 (digit 9 (digit 0 (digit 0 [])))) ≡ Ok (record { lower = pos 0; upper = pos 9; low = pos 0; high = pos 0 }, 7)
+  three : reads (digit 1 (digit 9 (digit 4 []))) ≡ Err Layout
   -- "low at most high", "both 0 or both set": 5 at the high's place
-  crossed : reads (digit 1 (digit 9 (digit 4 (digit 2 [])))) ≡ no Goal
-  high_alone : reads (digit 1 (digit 9 (digit 0 (digit 4 [])))) ≡ no Goal
-  low_alone : reads (digit 1 (digit 9 (digit 4 (digit 0 [])))) ≡ no Goal
+  crossed : reads (digit 1 (digit 9 (digit 4 (digit 2 [])))) ≡ Err Goal
+  high_alone : reads (digit 1 (digit 9 (digit 0 (digit 4 [])))) ≡ Err Goal
+  low_alone : reads (digit 1 (digit 9 (digit 4 (digit 0 [])))) ≡ Err Goal
   -- 5 at the low's place, whatever stands behind it
-  negative : reads (digit 1 (digit 9 (minus_one (letter [])))) ≡ no Goal
-  lower_zero : reads (digit 0 (digit 9 (digit 4 (letter [])))) ≡ no Goal
+  negative : reads (digit 1 (digit 9 (minus_one (letter [])))) ≡ Err Goal
+  lower_zero : reads (digit 0 (digit 9 (digit 4 (letter [])))) ≡ Err Goal
   -- a good low before what is no number
-  no_number : reads (digit 1 (digit 9 (digit 4 (letter [])))) ≡ no Layout
+  no_number : reads (digit 1 (digit 9 (digit 4 (letter [])))) ≡ Err Layout
 
 pub interval_cases : IntervalCases
 unfolding all_digits value stretch

@@ -22,22 +22,19 @@ use lib.IntN.{ℤ, pos, nat_abs, neg_ℤ}
 use lib.ListN.{drop}
 use lib.Signed.{le_z}
 use Rattle.whole.specs.Tests.{is_zero, in_range}
-use Rattle.text.specs.Tokens.{tokens}
+use Rattle.std.proofs.Common.{Option, Some, None, Ok, Err}
+use Rattle.text.specs.Tokens.{Token, tokens}
 use Rattle.text.specs.Positions.{next_at}
-use Rattle.text.specs.declared.Token.{Token}
-use Rattle.text.specs.declared.Token.TheVariants.{Number, Bad}
-use Rattle.text.specs.declared.Next.{Next}
-use Rattle.text.specs.declared.Next.TheVariants.{Found, End}
 use Rattle.text.proofs.Scanning.{tokens_found, found_token}
 use Rattle.problem.specs.Limits.{max_coefficient, max_right}
 use Rattle.problem.specs.Kinds.{slack_count}
 use Rattle.problem.specs.declared.Refusal.{Refusal}
 use Rattle.problem.specs.declared.Refusal.TheVariants.{Size, Coefficient, Term as WrongTerm}
-use Rattle.sections.specs.Rules.{Outcome, ok, no, then, on_number, number, within, no_less}
-use Rattle.sections.specs.Sections.{deck_columns, deck_rows, row_of, kind_of, kind_number, least_number, row, coefficient, term, terms, Line}
+use Rattle.sections.specs.Rules.{Outcome, then, on_number, number, within, no_less}
+use Rattle.sections.specs.Sections.{deck_columns, deck_rows, row_of, kind_of, kind, least_number, row, coefficient, term, terms, Line}
 use Rattle.sections.specs.Sections.{line, lines, row_section}
 use Rattle.sections.specs.declared.Term.{Term}
-use Rattle.sections.proofs.Numbers.{same_ok, ok_not_no, Then, then_ok}
+use Rattle.sections.proofs.Numbers.{same_ok, same_end, ok_not_no, Then, then_ok}
 
 abbrev pub Rule : Type 0 → Type 0
 Rule A = List ℕ → ℕ → Outcome A
@@ -47,11 +44,11 @@ Change = List Token → List Token
 
 pub record Kept {A : Type 0} (o : Outcome A) (a : A) (ts : List Token) (w : List ℕ) : Type 0 where
   pub end : ℕ
-  pub read : o ≡ ok a end
+  pub read : o ≡ Ok (a, end)
   pub rest : tokens (drop end w) ≡ ts
 
 pub record Carries {A : Type 0} (F : Change) (f g : Rule A) (G : A → Change) : Type 0 where
-  pub kept : (s w : List ℕ) (a : A) (at p e : ℕ) → tokens (drop p w) ≡ F (tokens (drop at s)) → f s at ≡ ok a e
+  pub kept : (s w : List ℕ) (a : A) (at p e : ℕ) → tokens (drop p w) ≡ F (tokens (drop at s)) → f s at ≡ Ok (a, e)
       → Kept (g w p) a (G a (tokens (drop e s))) w
 
 abbrev pub Extends : {A : Type 0} → List Token → Rule A → Type 0
@@ -61,27 +58,27 @@ pub record Was {A : Type 0} (f : Rule A) (a : A) : Type 0 where
   pub text : List ℕ
   pub at : ℕ
   pub end : ℕ
-  pub read : f text at ≡ ok a end
+  pub read : f text at ≡ Ok (a, end)
 
 -- ---- what reads nothing
-pub ok_carries : {A : Type 0} {G : A → Change} (a : A) → Carries (G a) (λ s at. ok a at) (λ s at. ok a at) G
+pub ok_carries : {A : Type 0} {G : A → Change} (a : A) → Carries (G a) (λ s at. Ok (a, at)) (λ s at. Ok (a, at)) G
 ok_carries {G = G} a = record {
   kept = λ s w b at p e g h.
-      let q : at ≡ e = cc in
+      let q : at ≡ e = same_end h in
       let r : a ≡ b = same_ok h in
-      record { end = p; read = ap (λ x. ok x p) r; rest = g ∙ (λ i. G (r i) (tokens (drop (q i) s))) };
+      record { end = p; read = ap (λ x. Ok (x, p)) r; rest = g ∙ (λ i. G (r i) (tokens (drop (q i) s))) };
 }
 
-no_carries : {A : Type 0} {F : Change} {G : A → Change} (why : Refusal) → Carries F (λ s at. no why) (λ s at. no why) G
+no_carries : {A : Type 0} {F : Change} {G : A → Change} (why : Refusal) → Carries F (λ s at. Err why) (λ s at. Err why) G
 no_carries why = record { kept = λ s w b at p e g h. absurd (ok_not_no h) }
 
 is_carries : {A : Type 0} {G : A → Change} (t : Bool) (a : A) (why : Refusal)
-    → Carries (G a) (λ s at. cond t (ok a at) (no why)) (λ s at. cond t (ok a at) (no why)) G
+    → Carries (G a) (λ s at. cond t (Ok (a, at)) (Err why)) (λ s at. cond t (Ok (a, at)) (Err why)) G
 is_carries true a why = ok_carries a
 is_carries false a why = no_carries why
 
 pub not_carries : {A : Type 0} {G : A → Change} (t : Bool) (a : A) (why : Refusal)
-    → Carries (G a) (λ s at. cond t (no why) (ok a at)) (λ s at. cond t (no why) (ok a at)) G
+    → Carries (G a) (λ s at. cond t (Err why) (Ok (a, at))) (λ s at. cond t (Err why) (Ok (a, at))) G
 not_carries true a why = no_carries why
 not_carries false a why = ok_carries a
 
@@ -99,23 +96,24 @@ then_carries {f = f} {g = g} {f' = f'} {g' = g'} x y = record {
 }
 
 -- ---- a number
-module _ (F : Change) (G : ℤ → Change) (is : (v : ℤ) (ts : List Token) → F (Number v ∷ ts) ≡ Number v ∷ G v ts) where
+module _ (F : Change) (G : ℤ → Change) (is : (v : ℤ) (ts : List Token) → F (Some v ∷ ts) ≡ Some v ∷ G v ts) where
   number_carries : Carries F number number G
   number_carries = record { kept = λ s w a at p e g h. kept s w a at p e g (next_at s at) refl h }
     where
-      kept : (s w : List ℕ) (a : ℤ) (at p e : ℕ) → tokens (drop p w) ≡ F (tokens (drop at s)) → (n : Next) → next_at s at ≡ n → on_number n ≡ ok a e
+      kept : (s w : List ℕ) (a : ℤ) (at p e : ℕ) → tokens (drop p w) ≡ F (tokens (drop at s)) → (n : Option (Token × ℕ)) → next_at s at ≡ n
+          → on_number n ≡ Ok (a, e)
           → Kept (number w p) a (G a (tokens (drop e s))) w
-      kept s w a at p e g (Found (Number v) q) k h =
-          let r : q ≡ e = cc in
+      kept s w a at p e g (Some (Some v, q)) k h =
+          let r : q ≡ e = same_end h in
           let x : v ≡ a = same_ok h in
-          let m = found_token w p (Number v) (G v (tokens (drop q s))) (g ∙ ap F (tokens_found s at (Number v) q k) ∙ is v (tokens (drop q s))) in
+          let m = found_token w p (Some v) (G v (tokens (drop q s))) (g ∙ ap F (tokens_found s at (Some v) q k) ∙ is v (tokens (drop q s))) in
           record {
             end = m.end;
-            read = ap on_number m.found ∙ ap (λ (y : ℤ). ok y m.end) x;
+            read = ap on_number m.found ∙ ap (λ (y : ℤ). Ok (y, m.end)) x;
             rest = m.rest ∙ (λ i. G (x i) (tokens (drop (r i) s)));
           }
-      kept s w a at p e g (Found Bad q) k h = absurd (ok_not_no h)
-      kept s w a at p e g End k h = absurd (ok_not_no h)
+      kept s w a at p e g (Some (None, q)) k h = absurd (ok_not_no h)
+      kept s w a at p e g None k h = absurd (ok_not_no h)
 
   pub within_carries : (lo hi : ℤ) (why : Refusal) → Carries F (λ s. within s lo hi why) (λ s. within s lo hi why) G
   within_carries lo hi why = then_carries number_carries (λ v _. is_carries (in_range lo hi v) v why)
@@ -130,15 +128,15 @@ module _ (z : List Token) where
       then_carries (number_carries (λ ts. ts ++ z) (λ v ts. ts ++ z) (λ v ts. refl)) (λ v _. is_carries (le_z lo v) v why)
 
   -- ---- the section of rows
-  kind_extends : (columns : ℕ) → Extends z (λ s. kind_number s columns)
+  kind_extends : (columns : ℕ) → Extends z (λ s. kind s columns)
   kind_extends columns =
       then_carries (within_extends (pos 0) (pos 3) WrongTerm) (λ k _.
-      not_carries (ltb deck_columns (columns + slack_count (kind_of (nat_abs k)))) (nat_abs k) WrongTerm)
+      not_carries (ltb deck_columns (columns + slack_count (kind_of (nat_abs k)))) (kind_of (nat_abs k)) WrongTerm)
 
   row_extends : (columns : ℕ) → Extends z (λ s. row s columns)
   row_extends columns =
       then_carries (kind_extends columns) (λ k _.
-      then_carries (within_extends (least_number (kind_of k)) (pos max_right) Coefficient) (λ b _.
+      then_carries (within_extends (least_number k) (pos max_right) Coefficient) (λ b _.
       ok_carries (row_of k b)))
 
   coefficient_extends : Extends z coefficient

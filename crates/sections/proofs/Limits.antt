@@ -18,7 +18,8 @@ use Rattle.whole.proofs.Tests.{all_true, range_small}
 use Rattle.problem.specs.Limits.{max_bound, max_goal}
 use Rattle.problem.specs.Checks.{goal_inside, both_or_none, goal_fits}
 use Rattle.problem.specs.declared.Refusal.TheVariants.{Size, Bound, Goal}
-use Rattle.sections.specs.Rules.{Outcome, ok, no, then, within}
+use Rattle.std.proofs.Common.{Ok, Err}
+use Rattle.sections.specs.Rules.{Outcome, then, within}
 use Rattle.sections.specs.Sections.{deck_columns, spanning, upper_from, top_goal, top_high, high_from, interval, intervals, PairRule}
 use Rattle.sections.specs.Sections.{interval_section}
 use Rattle.sections.specs.StatedColumns.{lower_of, upper_of, low_of, high_of}
@@ -59,8 +60,8 @@ goals_small lower low high e =
     (range_small max_goal low r.0, range_small max_goal high r.1)
 
 -- ---- an interval
-numbers_limited : (s : List ℕ) (t₀ t₁ t₂ t₃ t₄ : ℕ) (lower upper low high : ℤ) → spanning s max_bound Bound t₀ ≡ ok lower t₁
-    → upper_from s lower t₁ ≡ ok upper t₂ → within s (pos 0) (top_goal lower) Goal t₂ ≡ ok low t₃ → high_from s low t₃ ≡ ok high t₄
+numbers_limited : (s : List ℕ) (t₀ t₁ t₂ t₃ t₄ : ℕ) (lower upper low high : ℤ) → spanning s max_bound Bound t₀ ≡ Ok (lower, t₁)
+    → upper_from s lower t₁ ≡ Ok (upper, t₂) → within s (pos 0) (top_goal lower) Goal t₂ ≡ Ok (low, t₃) → high_from s low t₃ ≡ Ok (high, t₄)
     → Limited lower upper low high
 numbers_limited s t₀ t₁ t₂ t₃ t₄ lower upper low high a b c d =
     let p = within_in (neg_ℤ (pos max_bound)) (pos max_bound) Bound lower t₁ s t₀ a in
@@ -77,7 +78,7 @@ numbers_limited s t₀ t₁ t₂ t₃ t₄ lower upper low high a b c d =
       goals_fit_lem = fit;
     }
 
-interval_limited : (s : List ℕ) (at e : ℕ) (i : Interval) → interval s at ≡ ok i e → Limited i.lower i.upper i.low i.high
+interval_limited : (s : List ℕ) (at e : ℕ) (i : Interval) → interval s at ≡ Ok (i, e) → Limited i.lower i.upper i.low i.high
 interval_limited s at e i h =
     let a = then_ok (spanning s max_bound Bound at) after_lower i e h in
     let b = then_ok (upper_from s a.what a.at) (after_upper a.what) i e a.second in
@@ -88,7 +89,7 @@ interval_limited s at e i h =
     d.second
   where
     after_high : (lower upper low high : ℤ) → ℕ → Outcome Interval
-    after_high lower upper low high p = ok (record { lower = lower; upper = upper; low = low; high = high }) p
+    after_high lower upper low high p = Ok (record { lower = lower; upper = upper; low = low; high = high }, p)
 
     after_low : (lower upper low : ℤ) → ℕ → Outcome Interval
     after_low lower upper low p = then (high_from s low p) (λ high q. after_high lower upper low high q)
@@ -99,7 +100,7 @@ interval_limited s at e i h =
     after_lower : (lower : ℤ) → ℕ → Outcome Interval
     after_lower lower p = then (upper_from s lower p) (λ upper q. after_upper lower upper q)
 
-    made : (lower upper low high : ℤ) (p : ℕ) → Limited lower upper low high → after_high lower upper low high p ≡ ok i e
+    made : (lower upper low high : ℤ) (p : ℕ) → Limited lower upper low high → after_high lower upper low high p ≡ Ok (i, e)
         → Limited i.lower i.upper i.low i.high
     made lower upper low high p l k = subst (λ (x : Interval). Limited x.lower x.upper x.low x.high) (same_ok k) l
 
@@ -116,22 +117,22 @@ more (d ∷ done) i w o (suc j) = more done i (λ n. w (suc n)) o j
 
 -- what the intervals behind the next one come to is told by `rest`
 next_within : (s : List ℕ) (k : ℕ) (done : List Interval) (at e : ℕ) (is : List Interval) (o : Outcome Interval) → interval s at ≡ o → Within done
-    → (rest : (i : Interval) (p : ℕ) → Within (done ++ (i ∷ [])) → intervals s k (done ++ (i ∷ [])) p ≡ ok is e → Within is)
-    → then o (λ i p. intervals s k (done ++ (i ∷ [])) p) ≡ ok is e → Within is
-next_within s k done at e is (ok i p) f w rest h =
+    → (rest : (i : Interval) (p : ℕ) → Within (done ++ (i ∷ [])) → intervals s k (done ++ (i ∷ [])) p ≡ Ok (is, e) → Within is)
+    → then o (λ i p. intervals s k (done ++ (i ∷ [])) p) ≡ Ok (is, e) → Within is
+next_within s k done at e is (Ok (i, p)) f w rest h =
     rest i p (record { each = more done i w.each (interval_limited s at p i f) }) h
-next_within s k done at e is (no why) f w rest h = absurd (ok_not_no h)
+next_within s k done at e is (Err why) f w rest h = absurd (ok_not_no h)
 
-intervals_within : (s : List ℕ) (k : ℕ) (done : List Interval) (at e : ℕ) (is : List Interval) → Within done → intervals s k done at ≡ ok is e
+intervals_within : (s : List ℕ) (k : ℕ) (done : List Interval) (at e : ℕ) (is : List Interval) → Within done → intervals s k done at ≡ Ok (is, e)
     → Within is
 unfolding intervals
 intervals_within s zero done at e is w h = subst Within (same_ok h) w
 intervals_within s (suc k) done at e is w h =
     next_within s k done at e is (interval s at) refl w (λ i p v f. intervals_within s k (done ++ (i ∷ [])) p e is v f) h
 
-pub section_within : (s : List ℕ) (at e : ℕ) (is : List Interval) → interval_section s at ≡ ok is e → Within is
+pub section_within : (s : List ℕ) (at e : ℕ) (is : List Interval) → interval_section s at ≡ Ok (is, e) → Within is
 section_within s at e is h = go (within s (pos 1) (pos deck_columns) Size at) h
   where
-    go : (o : Outcome ℤ) → then o (λ n p. intervals s (nat_abs n) [] p) ≡ ok is e → Within is
-    go (ok n p) f = intervals_within s (nat_abs n) [] p e is (record { each = λ j. nothing }) f
-    go (no why) f = absurd (ok_not_no f)
+    go : (o : Outcome ℤ) → then o (λ n p. intervals s (nat_abs n) [] p) ≡ Ok (is, e) → Within is
+    go (Ok (n, p)) f = intervals_within s (nat_abs n) [] p e is (record { each = λ j. nothing }) f
+    go (Err why) f = absurd (ok_not_no f)

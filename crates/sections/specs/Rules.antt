@@ -9,31 +9,28 @@
 --   nonzero why             what was read is not 0 or else refused
 --   closed s a at           no number or other run is left; on_end is that of a token
 -- Assumes nothing.
-use Rattle.std.specs.Prelude.{cond, List, ℕ, ℤ}
+use Rattle.std.specs.Prelude.{cond, List, ℕ, ℤ, Option, Some, None, Result, Ok, Err}
 use Rattle.std.specs.Int.Signed.{le_z}
 use Rattle.whole.specs.Tests.{is_zero, in_range}
 use Rattle.text.specs.Positions.{next_at}
-use Rattle.text.specs.declared.Token.TheVariants.{Number, Bad}
-use Rattle.text.specs.declared.Next.{Next}
-use Rattle.text.specs.declared.Next.TheVariants.{Found, End}
+use Rattle.text.specs.Tokens.{Token}
 use Rattle.problem.specs.declared.Refusal.{Refusal}
 use Rattle.problem.specs.declared.Refusal.TheVariants.{Layout}
 
-pub data Outcome (A : Type 0) : Type 0 where
-  ok : A → ℕ → Outcome A
-  no : Refusal → Outcome A
+abbrev pub Outcome : Type 0 → Type 0
+Outcome A = Result (A × ℕ) Refusal
 
 abbrev pub then : {A B : Type 0} → Outcome A → (A → ℕ → Outcome B) → Outcome B
-then (ok a at) f = f a at
-then (no why) f = no why
+then (Ok (a, at)) f = f a at
+then (Err why) f = Err why
 
 abbrev pub inside : ℤ → ℤ → Refusal → ℤ → ℕ → Outcome ℤ
-inside lo hi why v e = cond (in_range lo hi v) (ok v e) (no why)
+inside lo hi why v e = cond (in_range lo hi v) (Ok (v, e)) (Err why)
 
-abbrev pub on_number : Next → Outcome ℤ
-on_number (Found (Number v) e) = ok v e
-on_number (Found Bad e) = no Layout
-on_number End = no Layout
+abbrev pub on_number : Option (Token × ℕ) → Outcome ℤ
+on_number (Some (Some v, e)) = Ok (v, e)
+on_number (Some (None, e)) = Err Layout
+on_number None = Err Layout
 
 abbrev pub number : List ℕ → ℕ → Outcome ℤ
 number s at = on_number (next_at s at)
@@ -42,14 +39,14 @@ abbrev pub within : List ℕ → ℤ → ℤ → Refusal → ℕ → Outcome ℤ
 within s lo hi why at = then (number s at) (λ v e. inside lo hi why v e)
 
 abbrev pub no_less : List ℕ → ℤ → Refusal → ℕ → Outcome ℤ
-no_less s lo why at = then (number s at) (λ v e. cond (le_z lo v) (ok v e) (no why))
+no_less s lo why at = then (number s at) (λ v e. cond (le_z lo v) (Ok (v, e)) (Err why))
 
 abbrev pub nonzero : Refusal → Outcome ℤ → Outcome ℤ
-nonzero why o = then o (λ v at. cond (is_zero v) (no why) (ok v at))
+nonzero why o = then o (λ v at. cond (is_zero v) (Err why) (Ok (v, at)))
 
-abbrev pub on_end : {A : Type 0} → A → ℕ → Next → Outcome A
-on_end a at (Found t e) = no Layout
-on_end a at End = ok a at
+abbrev pub on_end : {A : Type 0} → A → ℕ → Option (Token × ℕ) → Outcome A
+on_end a at (Some x) = Err Layout
+on_end a at None = Ok (a, at)
 
 abbrev pub closed : {A : Type 0} → List ℕ → A → ℕ → Outcome A
 closed s a at = on_end a at (next_at s at)

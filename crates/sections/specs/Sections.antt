@@ -10,14 +10,14 @@
 --   spanning s k why at       a number in −k to k
 --   interval, intervals       an interval, by upper_from, top_goal and high_from with its top_high, and so many of them
 --   PairRule                  a pair of goals is 5 in a text exactly where it is 5 in buffers; the theorem is `pair_rule`, in proofs/Limits
---   row                       a row's kind and number, by row_of, kind_of, with_room, kind_number and least_number
+--   row                       a row's kind and number, by kind_of, row_of, with_room, kind and least_number
 --   term, terms               a term, with its coefficient, and so many of them
 --   line, lines               a row with its terms, and so many of them
 --   interval_section s at     the section of intervals of the text s, from a place on
 --   row_section s n at        the section of rows of a text with n intervals
 -- Each section starts at the place where the one before ended, so that another can be put between or behind them.
 -- Assumes nothing.
-use Rattle.std.specs.Prelude.{◌≡◌, cond, ◌&&◌, List, [], ◌∷◌, ◌++◌, ℕ, zero, suc, ◌+◌, ◌*◌, ltb, ℤ, pos, nat_abs, neg_ℤ}
+use Rattle.std.specs.Prelude.{◌≡◌, cond, ◌&&◌, List, [], ◌∷◌, ◌++◌, ℕ, zero, suc, ◌+◌, ◌*◌, ltb, ℤ, pos, nat_abs, neg_ℤ, Ok, Err}
 use Rattle.std.specs.Int.Signed.{le_z}
 use Rattle.whole.specs.Tests.{is_zero, in_range}
 use Rattle.problem.specs.Limits.{max_columns, max_rows, max_coefficient, max_right, max_bound, max_goal}
@@ -28,7 +28,7 @@ use Rattle.problem.specs.declared.Kind.TheVariants.{Equal, AtLeast, AtMost, Even
 use Rattle.problem.specs.declared.Row.{Row}
 use Rattle.problem.specs.declared.Refusal.{Refusal}
 use Rattle.problem.specs.declared.Refusal.TheVariants.{Size, Coefficient, Bound, Goal, Term as WrongTerm}
-use Rattle.sections.specs.Rules.{Outcome, ok, no, then, within, nonzero}
+use Rattle.sections.specs.Rules.{Outcome, then, within, nonzero}
 use Rattle.sections.specs.declared.Sizes.{Sizes}
 use Rattle.sections.specs.declared.Interval.{Interval}
 use Rattle.sections.specs.declared.Term.{Term}
@@ -76,11 +76,11 @@ interval s at =
     then (upper_from s lower at) (λ upper at.
     then (within s (pos 0) (top_goal lower) Goal at) (λ low at.
     then (high_from s low at) (λ high at.
-    ok (record { lower = lower; upper = upper; low = low; high = high }) at))))
+    Ok (record { lower = lower; upper = upper; low = low; high = high }, at)))))
 
 -- k intervals, after those done
 unfoldable pub intervals : List ℕ → ℕ → List Interval → ℕ → Outcome (List Interval)
-intervals s zero done at = ok done at
+intervals s zero done at = Ok (done, at)
 intervals s (suc k) done at = then (interval s at) (λ i at. intervals s k (done ++ (i ∷ [])) at)
 
 abbrev pub interval_section : List ℕ → ℕ → Outcome (List Interval)
@@ -92,22 +92,26 @@ PairRule = (lower low high : ℤ) → in_range (pos 0) (top_goal lower) low && i
 
 -- ---- a row's kind and number
 
--- "In the text these are 0, 1, 2, 3."; the row of a kind's number with a number of its own, which is the least half of an even row
-abbrev pub row_of : ℕ → ℤ → Row
-row_of zero b = record { kind = Equal; right = b }
-row_of (suc zero) b = record { kind = AtLeast; right = b }
-row_of (suc (suc zero)) b = record { kind = AtMost; right = b }
-row_of (suc (suc (suc k))) b = record { kind = Even (nat_abs b); right = pos 0 }
-
+-- "In the text these are 0, 1, 2, 3."; an even row's half is the number behind it, and 0 until that is read
 abbrev pub kind_of : ℕ → Kind
-kind_of k = (row_of k (pos 0)).kind
+kind_of zero = Equal
+kind_of (suc zero) = AtLeast
+kind_of (suc (suc zero)) = AtMost
+kind_of (suc (suc (suc k))) = Even 0
+
+-- the row of a kind with a number of its own, which is the least half of an even row
+abbrev pub row_of : Kind → ℤ → Row
+row_of Equal b = record { kind = Equal; right = b }
+row_of AtLeast b = record { kind = AtLeast; right = b }
+row_of AtMost b = record { kind = AtMost; right = b }
+row_of (Even half) b = record { kind = Even (nat_abs b); right = pos 0 }
 
 -- "or the row's kind makes a 49th column", judged at the kind's place, where there are columns already
-abbrev pub with_room : ℕ → ℕ → ℕ → Outcome ℕ
-with_room columns k at = cond (ltb deck_columns (columns + slack_count (kind_of k))) (no WrongTerm) (ok k at)
+abbrev pub with_room : ℕ → Kind → ℕ → Outcome Kind
+with_room columns k at = cond (ltb deck_columns (columns + slack_count k)) (Err WrongTerm) (Ok (k, at))
 
-abbrev pub kind_number : List ℕ → ℕ → ℕ → Outcome ℕ
-kind_number s columns at = then (within s (pos 0) (pos 3) WrongTerm at) (λ k at. with_room columns (nat_abs k) at)
+abbrev pub kind : List ℕ → ℕ → ℕ → Outcome Kind
+kind s columns at = then (within s (pos 0) (pos 3) WrongTerm at) (λ k at. with_room columns (kind_of (nat_abs k)) at)
 
 -- the least number: an even row's "is 0 to 1,000,000"
 abbrev pub least_number : Kind → ℤ
@@ -118,9 +122,9 @@ least_number (Even half) = pos 0
 
 abbrev pub row : List ℕ → ℕ → ℕ → Outcome Row
 row s columns at =
-    then (kind_number s columns at) (λ k at.
-    then (within s (least_number (kind_of k)) (pos max_right) Coefficient at) (λ b at.
-    ok (row_of k b) at))
+    then (kind s columns at) (λ k at.
+    then (within s (least_number k) (pos max_right) Coefficient at) (λ b at.
+    Ok (row_of k b, at)))
 
 -- ---- a row's terms
 
@@ -133,11 +137,11 @@ abbrev pub term : List ℕ → ℕ → ℕ → ℕ → Outcome Term
 term s last count at =
     then (within s (pos (last + 1)) (pos count) WrongTerm at) (λ j at.
     then (coefficient s at) (λ c at.
-    ok (record { index = nat_abs j; coefficient = c }) at))
+    Ok (record { index = nat_abs j; coefficient = c }, at)))
 
 -- k terms with indices above last, after those done
 unfoldable pub terms : List ℕ → ℕ → ℕ → ℕ → List Term → ℕ → Outcome (List Term)
-terms s zero last count done at = ok done at
+terms s zero last count done at = Ok (done, at)
 terms s (suc k) last count done at = then (term s last count at) (λ t at. terms s k t.index count (done ++ (t ∷ [])) at)
 
 -- ---- the rows
@@ -151,11 +155,11 @@ line s count columns at =
     then (row s columns at) (λ r at.
     then (within s (pos 0) (pos count) WrongTerm at) (λ k at.
     then (terms s (nat_abs k) 0 count [] at) (λ us at.
-    ok (record { row = r; terms = us }) at)))
+    Ok (record { row = r; terms = us }, at))))
 
 -- k rows, after those done
 unfoldable pub lines : List ℕ → ℕ → ℕ → ℕ → List Line → ℕ → Outcome (List Line)
-lines s zero count columns done at = ok done at
+lines s zero count columns done at = Ok (done, at)
 lines s (suc k) count columns done at =
     then (line s count columns at) (λ l at. lines s k count (columns + slack_count l.row.kind) (done ++ (l ∷ [])) at)
 

@@ -3,17 +3,18 @@
 --   slack_column y       the y of a row, or none; slack_columns ls, those of the rows
 --   coefficient_row ..   a row's n coefficients: its terms `placed`, and `with_slack` its y at column c; coefficient_rows, those of the rows
 --   lower_of, upper_of, low_of, high_of, right_of   the numbers of an interval and of a row
---   cell i               a column as it lies in the reader's table of columns: lower, upper, low, high; column_width numbers. `cells`, of all columns
---   column_cells         the most numbers of that table
---   padded size u        a buffer of size numbers that starts with the list u: "the rest becomes 0"
+--   padded size u        a buffer of size numbers that starts with the list u: "the rest becomes 0"; padded_by z, where the rest becomes z
 --   blank n              n numbers that are 0; shut, since a long list of them is written out wherever it is open
+--   no_interval          an interval of zeros
+--   Tables               the reader's tables (declared in src/); `blank_line` and `blank_tables`, with nothing in them
 -- Assumes nothing.
-use Rattle.std.specs.Prelude.{List, [], ◌∷◌, ◌++◌, ℕ, ◌+◌, ◌-◌, ◌*◌, ℤ, pos, length, set}
+use Rattle.std.specs.Prelude.{List, [], ◌∷◌, ◌++◌, ℕ, ◌+◌, ◌-◌, ℤ, pos, length, set, replicate}
 use Rattle.whole.specs.Lists.{zeros}
 use Rattle.problem.specs.Limits.{max_bound}
 use Rattle.problem.specs.Kinds.{Slack, none, slack, slack_of, slack_count}
-use Rattle.sections.specs.Sections.{deck_columns, Line}
+use Rattle.sections.specs.Sections.{deck_columns, deck_rows, Line}
 use Rattle.sections.specs.declared.Interval.{Interval}
+use Rattle.sections.specs.declared.Tables.{Tables}
 use Rattle.sections.specs.declared.Term.{Term}
 
 abbrev pub slack_interval : ℕ → Interval
@@ -39,10 +40,10 @@ with_slack (slack k lo) c u = set u c k
 abbrev pub coefficient_row : ℕ → ℕ → Line → List ℤ
 coefficient_row n c l = with_slack (slack_of l.row.kind) c (placed l.terms (zeros n))
 
--- the rows one after the other, where the next y is column c
-unfoldable pub coefficient_rows : ℕ → ℕ → List Line → List ℤ
+-- the rows in order, where the next y is column c
+unfoldable pub coefficient_rows : ℕ → ℕ → List Line → List (List ℤ)
 coefficient_rows n c [] = []
-coefficient_rows n c (l ∷ ls) = coefficient_row n c l ++ coefficient_rows n (c + slack_count l.row.kind) ls
+coefficient_rows n c (l ∷ ls) = coefficient_row n c l ∷ coefficient_rows n (c + slack_count l.row.kind) ls
 
 abbrev pub lower_of : Interval → ℤ
 lower_of i = i.lower
@@ -59,22 +60,25 @@ high_of i = i.high
 abbrev pub right_of : Line → ℤ
 right_of l = l.row.right
 
--- ---- in the reader's tables
-abbrev pub column_width : ℕ
-column_width = 4
-
-abbrev pub column_cells : ℕ
-column_cells = deck_columns * column_width
-
-abbrev pub cell : Interval → List ℤ
-cell i = i.lower ∷ i.upper ∷ i.low ∷ i.high ∷ []
-
-unfoldable pub cells : List Interval → List ℤ
-cells [] = []
-cells (i ∷ is) = cell i ++ cells is
+-- ---- in buffers and in the reader's tables
+abbrev pub padded_by : {A : Type 0} → A → ℕ → List A → List A
+padded_by z size u = u ++ replicate (size - length u) z
 
 abbrev pub padded : ℕ → List ℤ → List ℤ
-padded size u = u ++ zeros (size - length u)
+padded size u = padded_by (pos 0) size u
 
 unfoldable pub blank : ℕ → List ℤ
 blank n = zeros n
+
+abbrev pub no_interval : Interval
+no_interval = record { lower = pos 0; upper = pos 0; low = pos 0; high = pos 0 }
+
+abbrev pub blank_line : List ℤ
+blank_line = blank deck_columns
+
+unfoldable pub blank_tables : Tables
+blank_tables = record {
+  columns = replicate deck_columns no_interval;
+  rights = zeros deck_rows;
+  rows = replicate deck_rows (zeros deck_columns);
+}

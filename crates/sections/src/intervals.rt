@@ -1,28 +1,19 @@
 // The section of intervals.
-ghost use Rattle.std.specs.Prelude.{◌≡◌};
-ghost use Rattle.sections.specs.Sections.{top_goal, top_high, interval as interval·rule, interval_section};
-ghost use Rattle.sections.specs.StatedColumns.{column_cells, blank};
-ghost use Rattle.sections.specs.SectionsRead.{interval_got_of, IntervalsRead, intervals_done, intervals_left};
+ghost use Rattle.std.specs.Prelude.{◌≡◌, ◌≤◌, IfOk};
+ghost use Rattle.sections.specs.Sections.{deck_columns, top_goal, top_high, interval as interval·rule, interval_section};
+ghost use Rattle.sections.specs.StatedColumns.{blank_tables};
+ghost use Rattle.sections.specs.SectionsRead.{LeftOpen, intervals_left};
 
-use crate::columns::put_column;
-use crate::rules::{at_most, natural, signed, spanning, within};
-use crate::{Cursor, Got, Interval, Section, Sizes};
+use crate::rules::{spanning, within};
+use crate::{Cursor, Interval, Outcome, Sizes};
 use problem::{Problem, Refusal};
-use whole::buffers::wipe;
-
-// An interval and the place after it.
-#[derive(Clone, Copy)]
-enum IntervalGot {
-    Read(Interval, usize),
-    Refused(Refusal),
-}
 
 // The highest goal of a column with this lower bound.
 fn top_goal(lower: i64) -> i64
     ensures { result ≡ top_goal lower }
 {
-    if at_most(1, lower) {
-        text::scanner::positive(Problem::MAX_GOAL)
+    if 1 <= lower {
+        Problem::MAX_GOAL as i64
     } else {
         0
     }
@@ -32,95 +23,69 @@ fn top_goal(lower: i64) -> i64
 fn top_high(low: i64) -> i64
     ensures { result ≡ top_high low }
 {
-    if natural(low) == 0 {
+    if low == 0 {
         0
     } else {
-        text::scanner::positive(Problem::MAX_GOAL)
+        Problem::MAX_GOAL as i64
     }
 }
 
 // An interval's lower, upper, low and high.
-fn read_interval(s: &[u8], at: usize) -> IntervalGot
-    ensures { interval·rule s.now at ≡ interval_got_of result }
+fn read_interval(s: &[u8], at: usize) -> Outcome<Interval>
+    ensures { result ≡ interval·rule s.now at }
 {
-    let a = spanning(s, at, Problem::MAX_BOUND, Refusal::Bound);
-    match a {
-        Got::Value(lower, p) => {
-            let most = text::scanner::positive(Problem::MAX_BOUND);
-            let b = within(s, p, lower, most, Refusal::Bound);
-            match b {
-                Got::Value(upper, q) => {
-                    let c = within(s, q, 0, top_goal(lower), Refusal::Goal);
-                    match c {
-                        Got::Value(low, r) => {
-                            let d = within(s, r, low, top_high(low), Refusal::Goal);
-                            match d {
-                                Got::Value(high, e) => IntervalGot::Read(
-                                    Interval {
-                                        lower,
-                                        upper,
-                                        low,
-                                        high,
-                                    },
-                                    e,
-                                ),
-                                Got::Refused(why) => IntervalGot::Refused(why),
-                            }
-                        }
-                        Got::Refused(why) => IntervalGot::Refused(why),
-                    }
-                }
-                Got::Refused(why) => IntervalGot::Refused(why),
-            }
-        }
-        Got::Refused(why) => IntervalGot::Refused(why),
-    }
+    let (lower, at) = spanning(s, at, Problem::MAX_BOUND, Refusal::Bound)?;
+    let (upper, at) = within(s, at, lower, Problem::MAX_BOUND as i64, Refusal::Bound)?;
+    let (low, at) = within(s, at, 0, top_goal(lower), Refusal::Goal)?;
+    let (high, at) = within(s, at, low, top_high(low), Refusal::Goal)?;
+    let interval = Interval {
+        lower,
+        upper,
+        low,
+        high,
+    };
+    Ok((interval, at))
 }
 
 // The count of intervals and then each of them. A refused section leaves some of them.
-fn scan_intervals(s: &[u8], at: usize, columns: &mut [i64]) -> Section
-    requires { columns.old ≡ blank column_cells }
-    ensures { IntervalsRead (interval_section s.now at) result columns.new }
+fn scan_intervals(
+    s: &[u8],
+    at: usize,
+    columns: &mut [Interval; Sizes::COLUMNS],
+) -> Result<Cursor, Refusal>
+    requires { columns.old ≡ blank_tables.columns }
+    ensures read { LeftOpen intervals_left (interval_section s.now at) result columns.new }
+    ensures cursor { IfOk result (λ c. (c.intervals ≤ deck_columns) × (c.columns ≡ c.intervals) × (c.rows ≡ 0)) }
 {
-    let a = within(s, at, 1, signed(Sizes::COLUMNS), Refusal::Size);
-    match a {
-        Got::Value(k, e) => {
-            let n = natural(k);
-            let mut p = e;
-            for i in 0..n {
-                let g = read_interval(s, p);
-                match g {
-                    IntervalGot::Read(v, q) => {
-                        put_column(columns, i, v);
-                        p = q;
-                    }
-                    IntervalGot::Refused(why) => {
-                        return Section::Refused(why);
-                    }
-                }
-            }
-            Section::Read(Cursor {
-                at: p,
-                intervals: n,
-                columns: n,
-                rows: 0,
-            })
-        }
-        Got::Refused(why) => Section::Refused(why),
+    let (count, mut at) = within(s, at, 1, Sizes::COLUMNS as i64, Refusal::Size)?;
+    let n = count as usize;
+    // By index: of what is written through `iter_mut` a proof learns nothing.
+    for i in 0..n {
+        let (interval, next) = read_interval(s, at)?;
+        columns[i] = interval;
+        at = next;
     }
+    Ok(Cursor {
+        at,
+        intervals: n,
+        columns: n,
+        rows: 0,
+    })
 }
 
-// The section of intervals, into a table of columns that holds 0.
-pub fn read_intervals(s: &[u8], at: usize, columns: &mut [i64]) -> Section
-    requires { columns.old ≡ blank column_cells }
-    ensures { intervals_done result columns.new ≡ intervals_left (interval_section s.now at) }
+// The section of intervals, into a blank table of columns.
+pub fn read_intervals(
+    s: &[u8],
+    at: usize,
+    columns: &mut [Interval; Sizes::COLUMNS],
+) -> Result<Cursor, Refusal>
+    requires { columns.old ≡ blank_tables.columns }
+    ensures read { intervals_left (interval_section s.now at) ≡ (result, columns.new) }
+    ensures cursor { IfOk result (λ c. (c.intervals ≤ deck_columns) × (c.columns ≡ c.intervals) × (c.rows ≡ 0)) }
 {
-    let a = scan_intervals(s, at, columns);
-    match a {
-        Section::Read(c) => Section::Read(c),
-        Section::Refused(why) => {
-            wipe(columns);
-            Section::Refused(why)
-        }
+    let read = scan_intervals(s, at, columns);
+    if read.is_err() {
+        *columns = [Interval::BLANK; Sizes::COLUMNS];
     }
+    read
 }

@@ -1,15 +1,19 @@
 #![tactic(auto)]
 
-// The first two sections of a text. Each takes the cursor that the one before left, and hands one on; a refused one leaves its buffers 0.
-mod columns;
+// The first two sections of a text. Each takes the cursor that the one before left, and hands one on; a refused one leaves its tables blank.
+// Each has a `scan_` that may leave part of it and a `read_` that wipes that: what is wiped differs, so one generic function is no plainer.
 pub mod intervals;
 pub mod rows;
 pub mod rules;
 
 ghost use Rattle.std.specs.Prelude.{◌≡◌};
 ghost use Rattle.sections.specs.Sections.{deck_sizes};
+ghost use Rattle.sections.specs.StatedColumns.{blank_tables};
 
 use problem::{Problem, Refusal};
+
+// What was read of a text, with the place after it; or why the text is turned back.
+pub type Outcome<T> = Result<(T, usize), Refusal>;
 
 // The limits of a text: columns and rows are the problem's, and its bytes.
 #[derive(Clone, Copy)]
@@ -27,11 +31,6 @@ impl Sizes {
     pub const COEFFICIENTS: usize = Sizes::ROWS * Sizes::COLUMNS;
 
     pub const TEXT: usize = 32768;
-
-    // The numbers of a column in the reader's table of columns: its lower and its upper bound, its low and its high goal.
-    pub const WIDTH: usize = 4;
-
-    pub const CELLS: usize = Sizes::COLUMNS * Sizes::WIDTH;
 
     // All of them, so that the definitions' numbers are held to these.
     pub fn limits() -> Self
@@ -54,15 +53,40 @@ pub struct Interval {
     pub high: i64,
 }
 
-// The places of a column's numbers in the reader's table.
 impl Interval {
-    pub const LOWER: usize = 0;
+    pub const BLANK: Interval = Interval {
+        lower: 0,
+        upper: 0,
+        low: 0,
+        high: 0,
+    };
+}
 
-    pub const UPPER: usize = 1;
+// The coefficients of rows, as wide as the largest.
+pub type Rows = [[i64; Sizes::COLUMNS]; Sizes::ROWS];
 
-    pub const LOW: usize = 2;
+// The reader's tables: the columns, and the right side and the coefficients of each row. These leave for two lists, so each has an array of its own.
+#[derive(Clone, Copy)]
+pub struct Tables {
+    pub columns: [Interval; Sizes::COLUMNS],
+    pub rights: [i64; Sizes::ROWS],
+    pub rows: Rows,
+}
 
-    pub const HIGH: usize = 3;
+impl Tables {
+    pub const BLANK: Tables = Tables {
+        columns: [Interval::BLANK; Sizes::COLUMNS],
+        rights: [0; Sizes::ROWS],
+        rows: [[0; Sizes::COLUMNS]; Sizes::ROWS],
+    };
+
+    // Tables with nothing in them.
+    #[tactic(auto, unfolding(crate::specs::StatedColumns::blank_tables))]
+    pub fn blank() -> Self
+        ensures { result ≡ blank_tables }
+    {
+        Tables::BLANK
+    }
 }
 
 // A term of a row: the interval's index, from 1, and its coefficient.
@@ -73,31 +97,11 @@ pub struct Term {
 }
 
 // Where reading has come to: the place, the count of intervals, and the columns and rows so far.
+// Its bounds stand in clauses and not in the type: `cursor` in specs/SectionsRead.antt makes one of any outcome, also of one past the limits.
 #[derive(Clone, Copy)]
 pub struct Cursor {
     pub at: usize,
     pub intervals: usize,
     pub columns: usize,
     pub rows: usize,
-}
-
-// A section, or a line of one, that was read up to a cursor.
-#[derive(Clone, Copy)]
-pub enum Section {
-    Read(Cursor),
-    Refused(Refusal),
-}
-
-// The place after a part of a section.
-#[derive(Clone, Copy)]
-pub enum Past {
-    Went(usize),
-    Refused(Refusal),
-}
-
-// A number and the place after it.
-#[derive(Clone, Copy)]
-pub enum Got {
-    Value(i64, usize),
-    Refused(Refusal),
 }

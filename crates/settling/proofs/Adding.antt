@@ -1,71 +1,51 @@
--- Laws of seating's loops: the one over the vectors, whose leads rise, and the one that adds a row, from one number other than 0 to the next.
+-- Laws of seating's loops: the one over the vectors, whose leads rise, and the one that adds a row, from its lead on.
 --   rises_row, -on          where the leads rise from column c on: that of vector s lies there or behind, and the next ones behind it
---   within_true, -false     what an addition leaves that is told to stay within ±M, and one that is told not to
---   Adds q r v w j          on the way from v to v + q r, w has that list's first j numbers, and they lie within ±M
---   adds_from, -on          so it is of v itself up to the row's lead; and, with the number at j stored, up to the row's next number other than 0
---   adds_beyond, -all       a number beyond ±M is found; the row's end is reached
+--   Added q r v w j         on the way from v to v + q r, w has that list's first j numbers, and its others are still those of v
+--   added_none, -from       so it is of v itself, before the first number, and up to the row's lead
+--   small_from, -on         the numbers so far lie within ±M, up to the row's lead and with one more
+--   far_at, within_all      what the addition comes to, where a number lies beyond ±M and where none does
+--   added_on, -all          with the number at j stored, up to the next one; the row's end is reached
+--   turn_makes, added_turn  the number at j as the machine makes it, and the list with it
 -- Assumes nothing.
+use Rattle.std.specs.Prelude.{Ok, Err}
+use Rattle.problem.specs.declared.Refusal.TheVariants.{Seating}
 use mathlib.Core.Path.{◌≡◌, refl, sym, ◌∙◌, ap, subst}
-use mathlib.Core.Logic.{⊎_elim}
-use mathlib.Core.Bool.{Bool, true, false, cond, ◌||◌, true≢false}
+use mathlib.Core.Bool.{Bool, true, false, ◌||◌}
 use mathlib.Core.List.{List, [], ◌∷◌}
-use Prim.Native.Nat.{ℕ, zero, suc, ◌+◌, ◌-◌, ◌<◌, ◌≤◌}
+use Prim.Native.Nat.{ℕ, zero, suc, ◌+◌, ◌*◌, ◌<◌, ◌≤◌}
+use native.Mathlib.Nat.{le_refl}
 use native.Mathlib.Omega.{arith}
 use native.Mathlib.Numerals.{add-one}
 use borrow.Author.Count.{below_more}
 use borrow.Author.Tests.{lt-ltb, le-ltb}
-use lib.IntN.{ℤ, pos, negsuc, nat_abs}
-use lib.ListN.{length, drop, set, length-drop}
-use lib.Seq.{get_or-drop}
+use mir.Syntax.{w64}
+use mir.Val.{to_z, of_z}
+use lib.IntN.{ℤ, pos, negsuc, nat_abs, ◌+ℤ◌, ◌*ℤ◌}
+use lib.ListN.{length, drop, set, length-set}
+use lib.Seq.{ext_get_or, get_or-set_same, get_or-set_other}
 use Rattle.whole.specs.Lists.{entry}
 use Rattle.whole.proofs.Integers.{add_none}
 use Rattle.lattice.specs.Rows.{plus, lead}
 use Rattle.lattice.proofs.RowLaws.{length_plus, entry_plus}
 use Rattle.lattice.specs.Hermite.{Rising}
-use Rattle.whole.proofs.Writing.{WrittenTo, starts, goes_on, passes, ends}
-use Rattle.problem.specs.Limits.{M, beyond, any_beyond}
+use Rattle.problem.specs.Limits.{M, max_bound, beyond, any_beyond}
 use Rattle.settling.specs.declared.Basis.{Basis}
 use Rattle.settling.specs.Moves.{vector}
-use Rattle.settling.specs.Seating.{Seated, seated, far}
 use Rattle.settling.specs.Seats.{within, Addable}
-use Rattle.settling.proofs.Fronts.{lt_or_ge}
+use Rattle.settling.proofs.Fitting.{added_read}
 use Rattle.settling.specs.Views.{vectors}
 use Rattle.settling.proofs.Views.{vectors_drop}
 
 -- ---- leads that rise
-module _ (B : Basis) (l : List ℤ) (c s : ℕ) (h : s < B.vectors) (a : Rising c (drop s (vectors B l))) where
-  rising : Rising c (vector (vectors B l) s ∷ drop (suc s) (vectors B l))
-  rising = subst (Rising c) (vectors_drop B l s h) a
+module _ (B : Basis) (c s : ℕ) (h : s < B.vectors) (a : Rising c (drop s (vectors B))) where
+  rising : Rising c (vector (vectors B) s ∷ drop (suc s) (vectors B))
+  rising = subst (Rising c) (vectors_drop B s h) a
 
-  pub rises_row : c ≤ lead (vector (vectors B l) s)
+  pub rises_row : c ≤ lead (vector (vectors B) s)
   rises_row = rising.0
 
-  pub rises_on : Rising (lead (vector (vectors B l) s) + 1) (drop (s + 1) (vectors B l))
-  rises_on = rw (add-one (lead (vector (vectors B l) s)), add-one s) rising.1
-
--- ---- an addition, and what it tells
-abbrev is_far : Seated → Bool
-is_far (seated u) = false
-is_far far = true
-
-abbrev values : List ℤ → Seated → List ℤ
-values v (seated u) = u
-values v far = v
-
-module _ (v : List ℤ) where
-  pub within_true : (u : List ℤ) → seated u ≡ within v → (any_beyond v ≡ false) × (u ≡ v)
-  within_true u e = go (any_beyond v) e
-    where
-      go : (b : Bool) → seated u ≡ cond b far (seated v) → (b ≡ false) × (u ≡ v)
-      go true f = absurd (true≢false (ap (λ (z : Seated). is_far z) (sym f)))
-      go false f = (refl, ap (values v) f)
-
-  pub within_false : far ≡ within v → any_beyond v ≡ true
-  within_false e = go (any_beyond v) e
-    where
-      go : (b : Bool) → far ≡ cond b far (seated v) → b ≡ true
-      go true f = refl
-      go false f = absurd (true≢false (ap (λ (z : Seated). is_far z) f))
+  pub rises_on : Rising (lead (vector (vectors B) s) + 1) (drop (s + 1) (vectors B))
+  rises_on = rw (add-one (lead (vector (vectors B) s)), add-one s) rising.1
 
 -- ---- the numbers before a lead
 lead_most : (r : List ℤ) → lead r ≤ length r
@@ -82,11 +62,6 @@ zero_before (pos zero ∷ r) zero h = refl
 zero_before (pos zero ∷ r) (suc x) h = zero_before r x (omega arith)
 zero_before (pos (suc n) ∷ r) x h = absurd (omega arith)
 zero_before (negsuc n ∷ r) x h = absurd (omega arith)
-
-zero_behind : (r : List ℤ) (i x : ℕ) → i ≤ x → x < i + lead (drop i r) → entry x r ≡ pos 0
-zero_behind r i x a b =
-    let e : i + (x - i) ≡ x = omega arith in
-    sym (get_or-drop i r (x - i) (pos 0) ∙ ap (λ (k : ℕ). entry k r) e) ∙ zero_before (drop i r) (x - i) (omega arith)
 
 -- ---- a value beyond ±M, or none
 beyond_at : (r : List ℤ) (i : ℕ) → i < length r → M < nat_abs (entry i r) → any_beyond r ≡ true
@@ -106,49 +81,71 @@ all_within (x ∷ r) a =
     ap (λ (t : Bool). t || any_beyond r) (le-ltb M (nat_abs x) (a 0 (omega arith)))
     ∙ all_within r (λ i h. a (suc i) (omega arith))
 
--- ---- the loop
-pub record Adds (q : ℤ) (r v w : List ℤ) (j : ℕ) : Type 0 where
-  pub written : WrittenTo v (plus q r v) w j
-  pub small : (x : ℕ) → x < j → nat_abs (entry x (plus q r v)) ≤ M
+-- ---- the loops
+pub record Added (q : ℤ) (r v w : List ℤ) (j : ℕ) : Type 0 where
+  pub long : length w ≡ length v
+  pub done : (x : ℕ) → x < j → entry x w ≡ entry x (plus q r v)
+  pub rest : (x : ℕ) → j ≤ x → entry x w ≡ entry x v
 
+module _ (q : ℤ) (r v : List ℤ) (e : length r ≡ length v) where
+  pub added_none : Added q r v v 0
+  added_none = record { long = refl; done = λ x h. absurd (omega arith); rest = λ x h. refl }
+
+  -- before the row's lead nothing changes
+  pub unmoved : (x : ℕ) → x < lead r → entry x (plus q r v) ≡ entry x v
+  unmoved x h =
+      entry_plus x q r v (omega (arith, lead_most r)) ∙ add_none q (entry x v) (entry x r) (zero_before r x h)
+
+  pub added_from : (c : ℕ) → c ≤ lead r → Added q r v v c
+  added_from c h = record { long = refl; done = λ x m. sym (unmoved x (omega arith)); rest = λ x m. refl }
+
+  module _ (w : List ℤ) (j : ℕ) (d : Added q r v w j) where
+    pub added_on : (y : ℤ) → j < length r → y ≡ entry j v +ℤ q *ℤ entry j r → Added q r v (set w j y) (j + 1)
+    added_on y h f = record {
+      long = length-set w j y ∙ d.long;
+      done = below_more (λ x. entry x (set w j y) ≡ entry x (plus q r v)) j
+          (λ x m. get_or-set_other w j x y (pos 0) (λ p. omega arith) ∙ d.done x m)
+          (get_or-set_same w j y (pos 0) (omega (arith, d.long)) ∙ f ∙ sym (entry_plus j q r v (omega arith)));
+      rest = λ x m. get_or-set_other w j x y (pos 0) (λ p. omega arith) ∙ d.rest x (omega arith);
+    }
+
+    pub added_all : length r ≤ j → w ≡ plus q r v
+    added_all h = ext_get_or (pos 0) w (plus q r v) (d.long ∙ sym (length_plus q r v)) (λ x m. d.done x (omega (arith, d.long)))
+
+    -- as the machine makes it of a factor k that it reads back as q
+    module _ (k : ℤ) (f : q ≡ k) (h : j < length r) (a : nat_abs k ≤ M + max_bound + 1) (b : nat_abs (entry j v) ≤ 2 * M)
+        (m : nat_abs (entry j r) ≤ M) where
+      abbrev made : ℤ
+      made = to_z w64 (of_z w64 (to_z w64 (of_z w64 (entry j w)) +ℤ to_z w64 (of_z w64 (to_z w64 (of_z w64 k) *ℤ to_z w64 (of_z w64 (entry j r))))))
+
+      pub turn_makes : made ≡ entry j v +ℤ q *ℤ entry j r
+      turn_makes =
+          let n : nat_abs (entry j w) ≤ 2 * M = rw (d.rest j (le_refl j)) b in
+          added_read (entry j w) k (entry j r) n a m ∙ (λ i. d.rest j (le_refl j) i +ℤ sym f i *ℤ entry j r)
+
+      pub added_turn : Added q r v (set w j made) (j + 1)
+      added_turn = added_on made h turn_makes
+
+pub ruleset row_loop = (added_none, added_all)
+
+-- ---- so long as no value lies beyond ±M
 module _ (q : ℤ) (r v : List ℤ) (a : Addable v r) where
-  -- where the row is 0 nothing changes
-  unmoved : (x : ℕ) → x < length v → entry x r ≡ pos 0 → entry x (plus q r v) ≡ entry x v
-  unmoved x h e = entry_plus x q r v h ∙ add_none q (entry x v) (entry x r) e
+  pub small_from : (c : ℕ) → c ≤ lead r → (x : ℕ) → x < c → nat_abs (entry x (plus q r v)) ≤ M
+  small_from c h x m = rw (unmoved q r v a.long x (omega arith)) (a.values_small x)
 
-  -- so a list that is written up to i, and within ±M, is so up to the row's next number other than 0
-  onward : (w : List ℤ) (i k : ℕ) → i ≤ length r → k ≡ i + lead (drop i r) → Adds q r v w i → Adds q r v w k
-  onward w i k h e d =
-      let n : k ≤ length v = omega (arith, lead_most (drop i r), length-drop i r, a.long) in
-      record {
-        written =
-            passes k d.written (omega arith) (omega (arith, length_plus q r v))
-            (λ x l m. sym (unmoved x (omega arith) (zero_behind r i x l (omega arith))));
-        small = λ x m.
-            ⊎_elim (λ l. d.small x l) (λ l. rw (unmoved x (omega arith) (zero_behind r i x l (omega arith))) (a.values_small x)) (lt_or_ge x i);
-      }
+  pub small_on :
+      (j : ℕ) (y : ℤ) → ((x : ℕ) → x < j → nat_abs (entry x (plus q r v)) ≤ M) → j < length r → y ≡ entry j v +ℤ q *ℤ entry j r → nat_abs y ≤ M
+      → (x : ℕ) → x < j + 1 → nat_abs (entry x (plus q r v)) ≤ M
+  small_on j y s h e m =
+      below_more (λ x. nat_abs (entry x (plus q r v)) ≤ M) j s (rw (entry_plus j q r v (omega (arith, a.long)), sym e) m)
 
-  pub adds_from : (c : ℕ) → c ≡ lead r → Adds q r v v c
-  adds_from c e =
-      onward v 0 c (omega arith) (omega arith) (record { written = starts (sym (length_plus q r v)); small = λ x h. absurd (omega arith) })
+  pub far_at : (j : ℕ) → j < length r → M < nat_abs (entry j v +ℤ q *ℤ entry j r) → Err Seating ≡ within (plus q r v)
+  far_at j h l =
+      let m : M < nat_abs (entry j (plus q r v)) = rw (entry_plus j q r v (omega (arith, a.long))) l in
+      rw (beyond_at (plus q r v) j (omega (arith, length_plus q r v, a.long)) m)
 
-  module _ (w : List ℤ) (j : ℕ) (d : Adds q r v w j) where
-    pub adds_on :
-        (y : ℤ) (k : ℕ) → j < length r → y ≡ entry j (plus q r v) → nat_abs y ≤ M → k ≡ (j + 1) + lead (drop (j + 1) r)
-        → Adds q r v (set w j y) k
-    adds_on y k h e l m =
-        onward (set w j y) (j + 1) k (omega arith) m
-        (record {
-          written = goes_on d.written (omega (arith, length_plus q r v, a.long)) e;
-          small = below_more (λ x. nat_abs (entry x (plus q r v)) ≤ M) j d.small (rw (sym e) l);
-        })
-
-    pub adds_beyond : j < length r → M < nat_abs (entry j (plus q r v)) → far ≡ within (plus q r v)
-    adds_beyond h l =
-        sym (ap (λ (t : Bool). cond t far (seated (plus q r v))) (beyond_at (plus q r v) j (omega (arith, length_plus q r v, a.long)) l))
-
-    pub adds_all : length r ≤ j → seated w ≡ within (plus q r v)
-    adds_all h =
-        let n : length (plus q r v) ≤ j = omega (arith, length_plus q r v, a.long) in
-        ap seated (ends d.written n)
-        ∙ sym (ap (λ (t : Bool). cond t far (seated (plus q r v))) (all_within (plus q r v) (λ x m. d.small x (omega arith))))
+  pub within_all :
+      (w : List ℤ) (j : ℕ) → Added q r v w j → ((x : ℕ) → x < j → nat_abs (entry x (plus q r v)) ≤ M) → length r ≤ j → Ok w ≡ within (plus q r v)
+  within_all w j d s h =
+      rw (all_within (plus q r v) (λ x m. s x (omega (arith, length_plus q r v, a.long))))
+      (ap (λ (u : List ℤ). Ok u) (added_all q r v a.long w j d h))

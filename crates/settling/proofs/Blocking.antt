@@ -22,7 +22,8 @@ use Rattle.settling.specs.declared.Move.{Move}
 use Rattle.settling.specs.declared.Measure.{Measure}
 use Rattle.settling.specs.declared.Part.{Part}
 use Rattle.settling.specs.declared.Part.TheVariants.{Bounds, Goals}
-use Rattle.settling.specs.Columns.{Column, Columns, valued}
+use Rattle.settling.specs.declared.Column.{Column}
+use Rattle.settling.specs.Columns.{Columns, valued}
 use Rattle.settling.specs.Moves.{changes}
 use Rattle.settling.specs.Measures.{fraction, below, distance, ratio, measure}
 use Rattle.settling.specs.Steps.{is_ranked, is_compared, is_allowed, passes, measure_at, larger_at, passes_at, improves}

@@ -1,4 +1,4 @@
--- The first w numbers of a buffer t, lent and put back; and a case on two numbers.
+-- The first w items of a buffer t, lent and put back; and a case on two numbers.
 --   part_length          how many there are
 --   part_back, -fits     they come back as u, and are read again
 --   lt_or_ge             x lies below k, or does not
@@ -11,17 +11,16 @@ use Prim.Native.Nat.{ℕ, ◌<◌, ◌≤◌}
 use native.Mathlib.Omega.{arith}
 use borrow.Author.Tests.{ltb-true, ltb-false}
 use lib.Dec.{ltb}
-use lib.IntN.{ℤ}
 use lib.ListN.{length, take, drop, length-take, length-append}
 use lib.Seq.{take_at}
 
-pub part_length : (w : ℕ) (t : List ℤ) → w ≤ length t → w ≡ length (take w t)
+pub part_length : {X : Type 0} (w : ℕ) (t : List X) → w ≤ length t → w ≡ length (take w t)
 part_length w t h = sym (length-take w t ∙ omega arith)
 
-pub part_back : (w : ℕ) (u t : List ℤ) → length u ≡ w → take w (u ++ drop w t) ≡ u
+pub part_back : {X : Type 0} (w : ℕ) (u t : List X) → length u ≡ w → take w (u ++ drop w t) ≡ u
 part_back w u t h = take_at u (drop w t) w h
 
-pub part_fits : (w : ℕ) (u t : List ℤ) → length u ≡ w → w ≤ length (u ++ drop w t)
+pub part_fits : {X : Type 0} (w : ℕ) (u t : List X) → length u ≡ w → w ≤ length (u ++ drop w t)
 part_fits w u t h = omega (arith, length-append u (drop w t))
 
 pub lt_or_ge : (x k : ℕ) → (x < k) ⊎ (k ≤ x)

@@ -3,6 +3,8 @@
 --   seat_keeps      seating keeps such a property
 --   settle_keeps    and so do the steps of settling
 -- Assumes nothing.
+use Rattle.std.specs.Prelude.{Ok, Err}
+use Rattle.problem.specs.declared.Refusal.TheVariants.{Seating}
 use mathlib.Core.Path.{◌≡◌, subst}
 use mathlib.Core.Bool.{Bool, true, false, cond}
 use mathlib.Core.List.{List, [], ◌∷◌}
@@ -14,12 +16,12 @@ use Rattle.lattice.specs.Rows.{plus}
 use Rattle.lattice.specs.Span.{All}
 use Rattle.problem.specs.Limits.{any_beyond}
 use Rattle.problem.specs.declared.Counts.{Counts}
-use Rattle.problem.specs.declared.Answer.TheVariants.{Spent}
+use Rattle.problem.specs.declared.Verdict.TheVariants.{Spent}
 use Rattle.settling.specs.declared.Move.{Move}
 use Rattle.settling.specs.declared.Step.{Step}
-use Rattle.settling.specs.declared.Step.TheVariants.{Rest, Take}
+use Rattle.std.specs.Prelude.{Option, Some, None}
 use Rattle.settling.specs.Columns.{Columns}
-use Rattle.settling.specs.Seating.{seated, far, seat_one, seat}
+use Rattle.settling.specs.Seating.{seat_one, seat}
 use Rattle.settling.specs.Moves.{vector, moved}
 use Rattle.settling.specs.Steps.{part_of, next_step}
 use Rattle.settling.specs.Settle.{ended, at_rest, counted, on_step, settle_from}
@@ -33,12 +35,12 @@ module _ (Q : List ℤ → Type 0) where
   keeps_rest r N k = record { adds = λ c v q. (k.adds c v q).1 }
 
   module _ (C : Columns) where
-    pub seat_keeps : (N : List (List ℤ)) (v u : List ℤ) → Keeps Q N → Q v → seat C N v ≡ seated u → Q u
+    pub seat_keeps : (N : List (List ℤ)) (v u : List ℤ) → Keeps Q N → Q v → seat C N v ≡ Ok u → Q u
     unfolding seat seat_one
     seat_keeps [] v u k q e = subst Q (cc) q
     seat_keeps (r ∷ N) v u k q e = go (any_beyond (seat_one C r v)) e (seat_keeps N (seat_one C r v) u (keeps_rest r N k) (k.adds _ v q).0)
       where
-        go : (t : Bool) → cond t far (seat C N (seat_one C r v)) ≡ seated u → (seat C N (seat_one C r v) ≡ seated u → Q u) → Q u
+        go : (t : Bool) → cond t (Err Seating) (seat C N (seat_one C r v)) ≡ Ok u → (seat C N (seat_one C r v) ≡ Ok u → Q u) → Q u
         go true e f = never (cc)
         go false e f = f e
 
@@ -60,12 +62,12 @@ module _ (Q : List ℤ → Type 0) where
     unfolding settle_from
     settle_keeps zero x v q = go (next_step C N v)
       where
-        go : (z : Step) → Q (on_step z (ended (at_rest (part_of C v) x) v) (λ o. ended (Spent x) v)).values
-        go Rest = q
-        go (Take i o) = q
+        go : (z : Option Step) → Q (on_step z (ended (at_rest (part_of C v) x) v) (λ o. ended (Spent x) v)).values
+        go None = q
+        go (Some s) = q
     settle_keeps (suc g) x v q = go (next_step C N v) (λ o. settle_keeps g (counted (part_of C v) x) (moved N o v) (moved_keeps o v q))
       where
-        go : (z : Step) → ((o : Move) → Q (settle_from g C N (counted (part_of C v) x) (moved N o v)).values)
+        go : (z : Option Step) → ((o : Move) → Q (settle_from g C N (counted (part_of C v) x) (moved N o v)).values)
             → Q (on_step z (ended (at_rest (part_of C v) x) v) (λ o. settle_from g C N (counted (part_of C v) x) (moved N o v))).values
-        go Rest f = q
-        go (Take i o) f = f o
+        go None f = q
+        go (Some s) f = f s.o

@@ -18,19 +18,20 @@ use lib.ListN.{length, get_or-eq_default}
 use Rattle.whole.specs.Lists.{entry}
 use Rattle.problem.specs.Limits.{M, max_bound}
 use Rattle.problem.specs.declared.Counts.{Counts}
-use Rattle.problem.specs.declared.Answer.TheVariants.{Spent}
+use Rattle.problem.specs.declared.Verdict.TheVariants.{Spent}
 use Rattle.settling.specs.declared.Basis.{Basis}
 use Rattle.settling.specs.declared.Cell.{Cell}
 use Rattle.settling.specs.declared.Move.{Move}
 use Rattle.settling.specs.declared.Part.{Part}
 use Rattle.settling.specs.declared.Part.TheVariants.{Bounds, Goals}
 use Rattle.settling.specs.declared.Step.{Step}
-use Rattle.settling.specs.declared.Step.TheVariants.{Rest, Take}
+use Rattle.std.specs.Prelude.{Option, Some, None}
+use Rattle.settling.specs.declared.Column.{Column}
 use Rattle.settling.specs.Columns.{Columns, cell, columns_in}
 use Rattle.settling.proofs.Fronts.{lt_or_ge}
 use Rattle.settling.specs.Measures.{distance}
 use Rattle.settling.specs.Moves.{single, pair, sign_pairs, singles, pairs_with, pairs, moves, moved}
-use Rattle.settling.specs.Steps.{part_of, is_allowed, next_step}
+use Rattle.settling.specs.Steps.{step, part_of, is_allowed, next_step}
 use Rattle.settling.specs.Settle.{ended, at_rest, counted, on_step, settle_from}
 use Rattle.settling.specs.Verdicts.{Listed}
 use Rattle.settling.proofs.Sizes.{inside_small}
@@ -99,7 +100,7 @@ unfolding moves
 listed_moves r = all_append r (singles r 0) (pairs r 0) (listed_singles r r 0 (omega arith)) (listed_all r r 0 (omega arith))
 
 -- ---- a step's move
-step_good : (C : Columns) (N : List (List ℤ)) (v : List ℤ) (i : ℕ) (o : Move) → next_step C N v ≡ Take i o
+pub step_good : (C : Columns) (N : List (List ℤ)) (v : List ℤ) (i : ℕ) (o : Move) → next_step C N v ≡ Some (step i o)
     → OfBasis (length N) o × ((j : ℕ) → j < C.count → is_allowed (part_of C v) (cell C (moved N o v) j) ≡ true)
 step_good C N v i o e =
     let t = next_taken C N v i o e in
@@ -116,7 +117,7 @@ pub record Values (n : ℕ) (v : List ℤ) : Type 0 where
 
 pub taken_values :
     (C : Columns) (N : List (List ℤ)) (v : List ℤ) (i : ℕ) (o : Move) → ((j : ℕ) → FitColumn (C.column j)) → length v ≡ C.count
-    → next_step C N v ≡ Take i o → Values C.count (moved N o v)
+    → next_step C N v ≡ Some (step i o) → Values C.count (moved N o v)
 taken_values C N v i o f l e = record {
   long = moved_length N o v ∙ l;
   small = λ j. ⊎_elim (near j) (past j) (lt_or_ge j C.count);
@@ -129,16 +130,15 @@ taken_values C N v i o f l e = record {
     past j h = rw (get_or-eq_default (moved N o v) (pos 0) {n = j} (omega (arith, moved_length N o v, l))) (omega arith)
 
 pub taken_ready :
-    (B : Basis) (v t b : List ℤ) (i : ℕ) (o : Move) → Ready B v t b → next_step (columns_in B.columns t) (vectors B b) v ≡ Take i o
-    → OfBasis B.vectors o × Ready B (moved (vectors B b) o v) t b
-taken_ready B v t b i o r e =
+    (B : Basis) (v : List ℤ) (t : List Column) (i : ℕ) (o : Move) → Ready B v t → next_step (columns_in B.columns t) (vectors B) v ≡ Some (step i o)
+    → OfBasis B.vectors o × Ready B (moved (vectors B) o v) t
+taken_ready B v t i o r e =
     let C = columns_in B.columns t in
-    let u = taken_values C (vectors B b) v i o r.columns r.values_long e in (
-      subst (λ (k : ℕ). OfBasis k o) (rows_length B.vectors B.columns B.stride b) (step_good C (vectors B b) v i o e).0,
+    let u = taken_values C (vectors B) v i o r.columns r.values_long e in (
+      subst (λ (k : ℕ). OfBasis k o) (rows_length B.vectors B.columns B.stride B.numbers.now) (step_good C (vectors B) v i o e).0,
       record {
         few = r.few;
         few_vectors = r.few_vectors;
-        basis = r.basis;
         values_long = u.long;
         values_small = u.small;
         table_long = r.table_long;
@@ -148,25 +148,25 @@ taken_ready B v t b i o r e =
 
 -- ---- by what the next step is
 module _ (C : Columns) (N : List (List ℤ)) (k : Counts) (v : List ℤ) where
-  pub settle_rest : (g : ℕ) → next_step C N v ≡ Rest → settle_from g C N k v ≡ ended (at_rest (part_of C v) k) v
+  pub settle_rest : (g : ℕ) → next_step C N v ≡ None → settle_from g C N k v ≡ ended (at_rest (part_of C v) k) v
   unfolding settle_from
-  settle_rest zero e = ap (λ (z : Step). on_step z (ended (at_rest (part_of C v) k) v) (λ o. ended (Spent k) v)) e
+  settle_rest zero e = ap (λ (z : Option Step). on_step z (ended (at_rest (part_of C v) k) v) (λ o. ended (Spent k) v)) e
   settle_rest (suc g) e =
-      ap (λ (z : Step). on_step z (ended (at_rest (part_of C v) k) v) (λ o. settle_from g C N (counted (part_of C v) k) (moved N o v))) e
+      ap (λ (z : Option Step). on_step z (ended (at_rest (part_of C v) k) v) (λ o. settle_from g C N (counted (part_of C v) k) (moved N o v))) e
 
-  pub settle_spent : (g i : ℕ) (o : Move) → g ≡ 0 → next_step C N v ≡ Take i o → settle_from g C N k v ≡ ended (Spent k) v
+  pub settle_spent : (g i : ℕ) (o : Move) → g ≡ 0 → next_step C N v ≡ Some (step i o) → settle_from g C N k v ≡ ended (Spent k) v
   unfolding settle_from
   settle_spent g i o h e =
       ap (λ (n : ℕ). settle_from n C N k v) h
-      ∙ ap (λ (z : Step). on_step z (ended (at_rest (part_of C v) k) v) (λ u. ended (Spent k) v)) e
+      ∙ ap (λ (z : Option Step). on_step z (ended (at_rest (part_of C v) k) v) (λ u. ended (Spent k) v)) e
 
   pub settle_on_lem :
-      (g i : ℕ) (o : Move) → (g ≡ 0 → ⊥) → next_step C N v ≡ Take i o
+      (g i : ℕ) (o : Move) → (g ≡ 0 → ⊥) → next_step C N v ≡ Some (step i o)
       → settle_from g C N k v ≡ settle_from (g - 1) C N (counted (part_of C v) k) (moved N o v)
   unfolding settle_from
   settle_on_lem zero i o h e = absurd (h refl)
   settle_on_lem (suc g) i o h e =
-      ap (λ (z : Step). on_step z (ended (at_rest (part_of C v) k) v) (λ u. settle_from g C N (counted (part_of C v) k) (moved N u v))) e
+      ap (λ (z : Option Step). on_step z (ended (at_rest (part_of C v) k) v) (λ u. settle_from g C N (counted (part_of C v) k) (moved N u v))) e
       ∙ ap (λ (n : ℕ). settle_from n C N (counted (part_of C v) k) (moved N o v)) down
     where
       down : g ≡ suc g - 1

@@ -1,5 +1,5 @@
 -- How large distances and measures are.
---   distance_under, -over, -inside   the three cases of the distance
+--   abs_less            how large a difference is
 --   between, inside_small   a value in bounds is no larger than they are; `inside_above` nor 0, where the lower bound is 1 or more
 --   measure_room        the measure of a sized column has room
 --   allowed_sized       a value that a move may leave in part p can be measured there; `sized_near` one that can be measured is near
@@ -18,22 +18,14 @@ use Rattle.problem.specs.Limits.{max_bound, max_goal}
 use Rattle.settling.specs.declared.Cell.{Cell}
 use Rattle.settling.specs.declared.Part.{Part}
 use Rattle.settling.specs.declared.Part.TheVariants.{Bounds, Goals}
-use Rattle.settling.specs.Columns.{Column, valued}
+use Rattle.settling.specs.declared.Column.{Column}
+use Rattle.settling.specs.Columns.{valued}
 use Rattle.settling.specs.Measures.{fraction, below, distance, ratio, measure}
 use Rattle.settling.specs.Steps.{is_allowed}
 use Rattle.settling.specs.Ready.{FitColumn}
 use Rattle.settling.specs.Sizes.{Crossable, FitCell, reach}
 
 -- ---- distances
-pub distance_under : (c : Cell) → lt_z c.value c.lower ≡ true → distance c ≡ nat_abs (c.lower -ℤ c.value)
-distance_under c e = rw e
-
-pub distance_over : (c : Cell) → lt_z c.value c.lower ≡ false → lt_z c.upper c.value ≡ true → distance c ≡ nat_abs (c.value -ℤ c.upper)
-distance_over c e f = rw (e, f)
-
-pub distance_inside : (c : Cell) → lt_z c.value c.lower ≡ false → lt_z c.upper c.value ≡ false → distance c ≡ 0
-distance_inside c e f = rw (e, f)
-
 pub abs_less : (x y : ℤ) → nat_abs (x -ℤ y) ≤ nat_abs x + nat_abs y
 abs_less x y = omega (arith, abs_add x (neg_ℤ y), abs_neg y)
 

@@ -23,50 +23,55 @@ use Rattle.settling.specs.Rankings.{Each}
 use Rattle.settling.specs.declared.Move.{Move}
 use Rattle.settling.specs.declared.Part.{Part}
 use Rattle.settling.specs.declared.Step.{Step}
-use Rattle.settling.specs.declared.Step.TheVariants.{Rest, Take}
+use Rattle.std.specs.Prelude.{Option, Some, None}
 use Rattle.settling.specs.Columns.{Columns, cell}
 use Rattle.settling.proofs.Fronts.{lt_or_ge}
 use Rattle.settling.specs.Moves.{moves, change, changes, moved}
 use Rattle.settling.specs.Measures.{below}
-use Rattle.settling.specs.Steps.{part_of, is_compared, is_allowed, passes, measure_at, ranked_at, larger_at, passes_at, improves}
+use Rattle.settling.specs.Steps.{step, part_of, is_compared, is_allowed, passes, measure_at, ranked_at, larger_at, passes_at, improves}
 use Rattle.settling.specs.Steps.{ranking, or_else, first_move, first_column, step_at, step_of, next_step}
 use Rattle.settling.specs.Verdicts.{Listed, Improving}
 use Rattle.settling.proofs.Views.{moved_length, moved_at}
 use Rattle.settling.proofs.Insertion.{each_ranked}
 use Rattle.settling.proofs.Passing.{passes_measured}
 
-not_take : {i : ℕ} {o : Move} → Rest ≡ Take i o → ⊥
+not_take : {i : ℕ} {o : Move} → None ≡ Some (step i o) → ⊥
 not_take {i} {o} e = never (cc)
 
-same_column : {i j : ℕ} {o u : Move} → Take i o ≡ Take j u → i ≡ j
-same_column {i} {j} {o} {u} e = cc
+same_step : {s t : Step} → Some s ≡ Some t → s ≡ t
+same_step {s} {t} e = cc
 
-same_move : {i j : ℕ} {o u : Move} → Take i o ≡ Take j u → u ≡ o
-same_move {i} {j} {o} {u} e = cc
+same_column : {i j : ℕ} {o u : Move} → Some (step i o) ≡ Some (step j u) → i ≡ j
+same_column e = ap (λ (s : Step). s.column) (same_step e)
 
-first_move_lem : (good : Move → Bool) (j i : ℕ) (o : Move) (R : List Move) → first_move good j R ≡ Take i o → (j ≡ i) × (good o ≡ true) × Listed o R
+same_move : {i j : ℕ} {o u : Move} → Some (step i o) ≡ Some (step j u) → u ≡ o
+same_move e = ap (λ (s : Step). s.o) (sym (same_step e))
+
+first_move_lem : (good : Move → Bool) (j i : ℕ) (o : Move) (R : List Move) → first_move good j R ≡ Some (step i o)
+    → (j ≡ i) × (good o ≡ true) × Listed o R
 unfolding first_move
 first_move_lem good j i o [] e = absurd (not_take e)
 first_move_lem good j i o (u ∷ R) e = go (good u) refl e (first_move_lem good j i o R)
   where
-    go : (b : Bool) → good u ≡ b → cond b (Take j u) (first_move good j R) ≡ Take i o
-        → (first_move good j R ≡ Take i o → (j ≡ i) × (good o ≡ true) × Listed o R) → (j ≡ i) × (good o ≡ true) × Listed o (u ∷ R)
+    go : (b : Bool) → good u ≡ b → cond b (Some (step j u)) (first_move good j R) ≡ Some (step i o)
+        → (first_move good j R ≡ Some (step i o) → (j ≡ i) × (good o ≡ true) × Listed o R) → (j ≡ i) × (good o ≡ true) × Listed o (u ∷ R)
     go true g e ih = (same_column e, ap good (same_move e) ∙ g, inl (same_move e))
     go false g e ih = ((ih e).0, (ih e).1, inr (ih e).2)
 
-first_column_lem : (Q : ℕ → Type 0) (f : ℕ → Step) (i : ℕ) (o : Move) (L : List ℕ) → Each Q L → first_column f L ≡ Take i o
-    → (j : ℕ) × Q j × (f j ≡ Take i o)
+first_column_lem : (Q : ℕ → Type 0) (f : ℕ → Option Step) (i : ℕ) (o : Move) (L : List ℕ) → Each Q L → first_column f L ≡ Some (step i o)
+    → (j : ℕ) × Q j × (f j ≡ Some (step i o))
 unfolding first_column
 first_column_lem Q f i o [] a e = absurd (not_take e)
 first_column_lem Q f i o (j ∷ L) a e = go (f j) refl e (first_column_lem Q f i o L a.1)
   where
-    go : (z : Step) → f j ≡ z → or_else z (first_column f L) ≡ Take i o → (first_column f L ≡ Take i o → (c : ℕ) × Q c × (f c ≡ Take i o))
-        → (c : ℕ) × Q c × (f c ≡ Take i o)
-    go Rest g e ih = ih e
-    go (Take k u) g e ih = (j, a.0, g ∙ e)
+    go : (z : Option Step) → f j ≡ z → or_else z (first_column f L) ≡ Some (step i o)
+        → (first_column f L ≡ Some (step i o) → (c : ℕ) × Q c × (f c ≡ Some (step i o)))
+        → (c : ℕ) × Q c × (f c ≡ Some (step i o))
+    go None g e ih = ih e
+    go (Some s) g e ih = (j, a.0, g ∙ e)
 
 module _ (p : Part) (C : Columns) (N : List (List ℤ)) (v : List ℤ) where
-  pub step_taken : (i : ℕ) (o : Move) → step_of p C N v ≡ Take i o → Improving p C N v i o
+  pub step_taken : (i : ℕ) (o : Move) → step_of p C N v ≡ Some (step i o) → Improving p C N v i o
   unfolding step_of step_at
   step_taken i o e =
       let c = first_column_lem Ranked (step_at p C N v) i o (ranking p C v)
@@ -77,7 +82,8 @@ module _ (p : Part) (C : Columns) (N : List (List ℤ)) (v : List ℤ) where
       Ranked : ℕ → Type 0
       Ranked j = (j < C.count) × (ranked_at p C v j ≡ true)
 
-pub next_taken : (C : Columns) (N : List (List ℤ)) (v : List ℤ) (i : ℕ) (o : Move) → next_step C N v ≡ Take i o → Improving (part_of C v) C N v i o
+pub next_taken : (C : Columns) (N : List (List ℤ)) (v : List ℤ) (i : ℕ) (o : Move) → next_step C N v ≡ Some (step i o)
+    → Improving (part_of C v) C N v i o
 unfolding next_step
 next_taken C N v i o e = step_taken (part_of C v) C N v i o e
 

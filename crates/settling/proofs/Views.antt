@@ -2,30 +2,31 @@
 --   rows_length         there are as many as the view says
 --   vectors_is, -drop   vector s, and those from s on
 --   vectors_at          the number at column j of vector s
---   vector_end, -part   where it ends in the slice, if there are columns, and that the part of the slice up to there is it
 --   vector_long, -small   it has a number for each column, none beyond ±M
---   unit_small, sum_small   how large a signed number, and so the sum of two, can be
 --   moved_length, -at   the values after a move
+--   moved_none, -alone  none where there are no columns; those of a move of one vector
+--   plus_near           how large a value is after one vector
+--   moving              these
 -- Assumes nothing.
 use mathlib.Core.Path.{◌≡◌, refl, sym, ◌∙◌, ap}
 use mathlib.Core.Logic.{⊎_elim}
 use mathlib.Core.List.{List, [], ◌∷◌}
-use Prim.Native.Nat.{ℕ, zero, suc, ◌+◌, ◌-◌, ◌*◌, ◌<◌, ◌≤◌}
-use native.Mathlib.Nat.{mul-le-mul}
+use Prim.Native.Nat.{ℕ, zero, suc, ◌+◌, ◌*◌, ◌<◌, ◌≤◌}
 use native.Mathlib.Omega.{arith}
 use lib.IntN.{ℤ, pos, nat_abs, ◌+ℤ◌, ◌*ℤ◌, +ℤ_assoc}
 use lib.ListN.{length, take, drop, length-take, length-drop, get_or-eq_default}
 use lib.Seq.{get_or-drop, get_or-take, drop-cons, drop-drop}
 use Rattle.whole.specs.Lists.{entry}
-use Rattle.whole.proofs.Signed.{abs_add, abs_mul}
+use Rattle.whole.proofs.Signed.{abs_add}
 use Rattle.lattice.specs.Rows.{plus}
-use Rattle.lattice.proofs.RowLaws.{length_plus, entry_plus}
+use Rattle.lattice.proofs.RowLaws.{length_plus, entry_plus, plus_none}
 use Rattle.problem.specs.Limits.{M}
 use Rattle.settling.specs.declared.Basis.{Basis}
 use Rattle.settling.specs.declared.Move.{Move}
 use Rattle.settling.specs.Moves.{vector, change, moved}
 use Rattle.settling.proofs.Fronts.{lt_or_ge}
-use Rattle.settling.specs.Views.{Viewed, rows_of, vectors}
+use Rattle.settling.proofs.Fitting.{unit_small}
+use Rattle.settling.specs.Views.{rows_of, vectors}
 
 -- ---- the vectors
 pub rows_length : (r n w : ℕ) (l : List ℤ) → length (rows_of r n w l) ≡ r
@@ -53,50 +54,35 @@ rows_vector (suc r) n w l (suc s) h =
     more : w + s * w ≡ suc s * w
     more = omega arith
 
-pub vectors_is : (B : Basis) (l : List ℤ) (s : ℕ) → s < B.vectors → vector (vectors B l) s ≡ take B.columns (drop (s * B.stride) l)
-vectors_is B l s h = rows_vector B.vectors B.columns B.stride l s h
+pub vectors_is : (B : Basis) (s : ℕ) → s < B.vectors → vector (vectors B) s ≡ take B.columns (drop (s * B.stride) B.numbers.now)
+vectors_is B s h = rows_vector B.vectors B.columns B.stride B.numbers.now s h
 
 -- the vectors from s on
-pub vectors_drop : (B : Basis) (l : List ℤ) (s : ℕ) → s < B.vectors → drop s (vectors B l) ≡ vector (vectors B l) s ∷ drop (suc s) (vectors B l)
-vectors_drop B l s h = drop-cons (vectors B l) s [] (omega (arith, rows_length B.vectors B.columns B.stride l))
+pub vectors_drop : (B : Basis) (s : ℕ) → s < B.vectors → drop s (vectors B) ≡ vector (vectors B) s ∷ drop (suc s) (vectors B)
+vectors_drop B s h = drop-cons (vectors B) s [] (omega (arith, rows_length B.vectors B.columns B.stride B.numbers.now))
 
-pub vectors_at : (B : Basis) (l : List ℤ) (s j : ℕ) → s < B.vectors → j < B.columns → entry j (vector (vectors B l) s) ≡ entry (s * B.stride + j) l
-vectors_at B l s j h k = rows_at B.vectors B.columns B.stride l s j h k
+pub vectors_at : (B : Basis) (s j : ℕ) → s < B.vectors → j < B.columns → entry j (vector (vectors B) s) ≡ entry (s * B.stride + j) B.numbers.now
+vectors_at B s j h k = rows_at B.vectors B.columns B.stride B.numbers.now s j h k
 
 -- ---- one vector
-module _ (B : Basis) (l : List ℤ) (s : ℕ) where
-  pub vector_end : Viewed B l → s < B.vectors → 0 < B.columns → s * B.stride + B.columns ≤ length l
-  vector_end v h k = omega (arith, v.lies s (B.columns - 1) h (omega arith))
-
-  pub vector_part : s < B.vectors → take (s * B.stride + B.columns - s * B.stride) (drop (s * B.stride) l) ≡ vector (vectors B l) s
-  vector_part h = ap (λ (k : ℕ). take k (drop (s * B.stride) l)) same ∙ sym (vectors_is B l s h)
-    where
-      same : s * B.stride + B.columns - s * B.stride ≡ B.columns
-      same = omega arith
-
-  long : (n : ℕ) → ((j : ℕ) → j < n → s * B.stride + j < length l) → length (take n (drop (s * B.stride) l)) ≡ n
+module _ (B : Basis) (s : ℕ) (h : s < B.vectors) where
+  long : (n : ℕ) → ((j : ℕ) → j < n → s * B.stride + j < length B.numbers.now) → length (take n (drop (s * B.stride) B.numbers.now)) ≡ n
   long zero f = refl
   long (suc n) f =
-      length-take (suc n) (drop (s * B.stride) l) ∙ omega (arith, length-drop (s * B.stride) l, f n (omega arith))
+      length-take (suc n) (drop (s * B.stride) B.numbers.now) ∙ omega (arith, length-drop (s * B.stride) B.numbers.now, f n (omega arith))
 
-  pub vector_long : Viewed B l → s < B.vectors → length (vector (vectors B l) s) ≡ B.columns
-  vector_long v h = ap length (vectors_is B l s h) ∙ long B.columns (λ j k. v.lies s j h k)
+  pub vector_long : length (vector (vectors B) s) ≡ B.columns
+  vector_long = ap length (vectors_is B s h) ∙ long B.columns (λ j k. B.laid.lies s j h k)
 
   -- past its end a row's numbers are 0
-  pub vector_small : Viewed B l → s < B.vectors → (j : ℕ) → nat_abs (entry j (vector (vectors B l) s)) ≤ M
-  vector_small v h j =
+  pub vector_small : (j : ℕ) → nat_abs (entry j (vector (vectors B) s)) ≤ M
+  vector_small j =
       ⊎_elim
-      (λ g. rw (vectors_at B l s j h g) (v.small (s * B.stride + j)))
-      (λ g. rw (get_or-eq_default (vector (vectors B l) s) (pos 0) {n = j} (omega (arith, vector_long v h))) (omega arith))
+      (λ g. rw (vectors_at B s j h g) (B.laid.small (s * B.stride + j)))
+      (λ g. rw (get_or-eq_default (vector (vectors B) s) (pos 0) {n = j} (omega (arith, vector_long))) (omega arith))
       (lt_or_ge j B.columns)
 
 -- ---- what a move does
-pub unit_small : (a x : ℤ) → nat_abs a ≤ 1 → nat_abs x ≤ M → nat_abs (a *ℤ x) ≤ M
-unit_small a x h k = rw abs_mul (omega (arith, mul-le-mul h k))
-
-pub sum_small : (a x b y : ℤ) → nat_abs a ≤ 1 → nat_abs b ≤ 1 → nat_abs x ≤ M → nat_abs y ≤ M → nat_abs (a *ℤ x +ℤ b *ℤ y) ≤ 2 * M
-sum_small a x b y h k p q = omega (arith, unit_small a x h p, unit_small b y k q, abs_add (a *ℤ x) (b *ℤ y))
-
 pub moved_length : (N : List (List ℤ)) (o : Move) (v : List ℤ) → length (moved N o v) ≡ length v
 unfolding moved
 moved_length N o v =
@@ -108,3 +94,27 @@ moved_at N o v j h =
     entry_plus j o.b (vector N o.t) (plus o.a (vector N o.s) v) (omega (arith, length_plus o.a (vector N o.s) v))
     ∙ ap (λ (z : ℤ). z +ℤ o.b *ℤ entry j (vector N o.t)) (entry_plus j o.a (vector N o.s) v h)
     ∙ +ℤ_assoc (entry j v) (o.a *ℤ entry j (vector N o.s)) (o.b *ℤ entry j (vector N o.t))
+
+-- without columns nothing is moved, and 0 times a vector changes nothing
+pub moved_none : (N : List (List ℤ)) (o : Move) (v : List ℤ) → length v ≡ 0 → v ≡ moved N o v
+moved_none N o v h = length_none v h ∙ sym (length_none (moved N o v) (moved_length N o v ∙ h))
+  where
+    length_none : (l : List ℤ) → length l ≡ 0 → l ≡ []
+    length_none [] e = refl
+    length_none (x ∷ l) e = absurd (omega arith)
+
+pub moved_alone : (N : List (List ℤ)) (o : Move) (v : List ℤ) → o.b ≡ pos 0 → plus o.a (vector N o.s) v ≡ moved N o v
+unfolding moved
+moved_alone N o v e = sym (ap (λ (z : ℤ). plus z (vector N o.t) (plus o.a (vector N o.s) v)) e ∙ plus_none (vector N o.t) (plus o.a (vector N o.s) v))
+
+pub plus_near : (a : ℤ) (r v : List ℤ) → nat_abs a ≤ 1 → ((j : ℕ) → nat_abs (entry j v) ≤ M) → ((j : ℕ) → nat_abs (entry j r) ≤ M)
+    → (j : ℕ) → nat_abs (entry j (plus a r v)) ≤ 2 * M
+plus_near a r v h f g j = ⊎_elim inside past (lt_or_ge j (length v))
+  where
+    inside : j < length v → nat_abs (entry j (plus a r v)) ≤ 2 * M
+    inside l = rw (entry_plus j a r v l) (omega (arith, abs_add (entry j v) (a *ℤ entry j r), f j, unit_small a (entry j r) h (g j)))
+
+    past : length v ≤ j → nat_abs (entry j (plus a r v)) ≤ 2 * M
+    past l = rw (get_or-eq_default (plus a r v) (pos 0) {n = j} (omega (arith, length_plus a r v))) (omega arith)
+
+pub ruleset moving = (moved_none, moved_alone, plus_near, length_plus)

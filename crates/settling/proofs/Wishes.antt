@@ -3,6 +3,8 @@
 --   settle_unwished     settling, the next step and the part that is reached are theirs
 --   seat_same           columns with the same ideals, at whatever values, are seated alike
 -- Assumes nothing.
+use Rattle.std.specs.Prelude.{None, Err}
+use Rattle.problem.specs.declared.Refusal.TheVariants.{Seating}
 use mathlib.Core.Path.{◌≡◌, refl, ◌∙◌, ap}
 use mathlib.Core.Bool.{cond}
 use mathlib.Core.List.{List, [], ◌∷◌}
@@ -14,11 +16,10 @@ use Rattle.lattice.specs.Rows.{plus, lead}
 use Rattle.problem.specs.Answers.{no_steps}
 use Rattle.problem.specs.Limits.{any_beyond}
 use Rattle.problem.specs.declared.Counts.{Counts}
-use Rattle.problem.specs.declared.Answer.TheVariants.{Spent}
-use Rattle.goals.specs.declared.Wish.TheVariants.{Unset}
+use Rattle.problem.specs.declared.Verdict.TheVariants.{Spent}
 use Rattle.settling.specs.Columns.{Columns}
 use Rattle.settling.specs.Moves.{moved}
-use Rattle.settling.specs.Seating.{ideal_at, seat_one, far, seat}
+use Rattle.settling.specs.Seating.{ideal_at, seat_one, seat}
 use Rattle.settling.specs.Settle.{ended, at_rest, counted, on_step, settle_from, settle}
 use Rattle.settling.specs.Steps.{improves, step_at, step_of, part_of, next_step}
 
@@ -30,7 +31,7 @@ unwished C = record {
     upper = (C.column j).upper;
     low = (C.column j).low;
     high = (C.column j).high;
-    wish = Unset;
+    wish = None;
   };
 }
 
@@ -59,5 +60,5 @@ module _ (C D : Columns) (e : (v : List ℤ) (c : ℕ) → ideal_at C v c ≡ id
   unfolding seat
   seat_same [] v = refl
   seat_same (r ∷ N) v =
-      (λ i. cond (any_beyond (one_same r v i)) far (seat C N (one_same r v i)))
-      ∙ ap (cond (any_beyond (seat_one D r v)) far) (seat_same N (seat_one D r v))
+      (λ i. cond (any_beyond (one_same r v i)) (Err Seating) (seat C N (one_same r v i)))
+      ∙ ap (cond (any_beyond (seat_one D r v)) (Err Seating)) (seat_same N (seat_one D r v))

@@ -1,31 +1,22 @@
 -- The columns of a problem as seating and settling see them, and the table in which they are lent.
 --   Column             what a problem says of one column, "Each column's record now holds a low and a high goal" (document 02, (v)): its bounds,
---                      its goals, both 0 for none, and its wish
+--                      its goals, both 0 for none, and its wish (declared in src/)
 --   Columns            their count n, and each of them; a list of values has n numbers
 --   Cell               a column's bounds and goals, and its value (declared in src/)
 --   valued c x         a column with the value x; cell C v j, column j with its value in the list v
 --   column_of lo hi a b w   the column with the bounds lo and hi and the goals a and b, where the wish w is handed in
 --   listed n lo ..     the n columns of a list of lower bounds, one of upper bounds, one of low and one of high goals, and of ideals one of marks
 --                      and one of numbers
---   width              how many numbers the record of a column has in a table: lower bound, upper bound, low goal, high goal, whether a wish is set,
---                      wish
---   column_at t j      the column whose record is the j-th of the table t
+--   blank_column       bounds of 0, no goal and no wish
+--   column_at t j      the j-th column of the table t, blank behind its end
 --   columns_in n t     the n columns of a table
---   record_of c        the record of a column
---   packed C           the table of the columns C, record after record; packed_from f k j, of k columns from column j on
+--   packed C           the table of the columns C, one after the other; packed_from f k j, of k columns from column j on
 -- Assumes nothing.
-use Rattle.std.specs.Prelude.{List, [], ◌∷◌, ◌++◌, ℕ, zero, suc, ◌+◌, ◌*◌, ℤ}
+use Rattle.std.specs.Prelude.{List, [], ◌∷◌, ℕ, zero, suc, ℤ, pos, None, get_or}
 use Rattle.whole.specs.Lists.{entry}
 use Rattle.settling.specs.declared.Cell.{Cell}
-use Rattle.goals.specs.declared.Wish.{Wish}
-use Rattle.goals.specs.Wishes.{wish_of, wish_mark, wish_number, column_wish}
-
-pub record Column : Type 0 where
-  pub lower : ℤ
-  pub upper : ℤ
-  pub low : ℤ
-  pub high : ℤ
-  pub wish : Wish
+use Rattle.settling.specs.declared.Column.{Column}
+use Rattle.goals.specs.Wishes.{Wish, wish_of, column_wish}
 
 pub record Columns : Type 0 where
   pub count : ℕ
@@ -48,28 +39,18 @@ listed n lo hi gs hs ms xs = record {
 }
 
 -- ---- in a table
-abbrev pub width : ℕ
-width = 6
+abbrev pub blank_column : Column
+blank_column = record { lower = pos 0; upper = pos 0; low = pos 0; high = pos 0; wish = None }
 
-abbrev pub column_at : List ℤ → ℕ → Column
-column_at t j =
-    record {
-      lower = entry (width * j + 0) t;
-      upper = entry (width * j + 1) t;
-      low = entry (width * j + 2) t;
-      high = entry (width * j + 3) t;
-      wish = wish_of (entry (width * j + 4) t) (entry (width * j + 5) t);
-    }
+abbrev pub column_at : List Column → ℕ → Column
+column_at t j = get_or t j blank_column
 
-abbrev pub columns_in : ℕ → List ℤ → Columns
+abbrev pub columns_in : ℕ → List Column → Columns
 columns_in n t = record { count = n; column = column_at t }
 
-abbrev pub record_of : Column → List ℤ
-record_of c = c.lower ∷ c.upper ∷ c.low ∷ c.high ∷ wish_mark c.wish ∷ wish_number c.wish ∷ []
-
-unfoldable pub packed_from : (ℕ → Column) → ℕ → ℕ → List ℤ
+unfoldable pub packed_from : (ℕ → Column) → ℕ → ℕ → List Column
 packed_from f zero j = []
-packed_from f (suc k) j = record_of (f j) ++ packed_from f k (suc j)
+packed_from f (suc k) j = f j ∷ packed_from f k (suc j)
 
-abbrev pub packed : Columns → List ℤ
+abbrev pub packed : Columns → List Column
 packed C = packed_from C.column C.count 0

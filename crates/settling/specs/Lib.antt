@@ -9,6 +9,7 @@ pub mod Rankings
 pub mod Settle
 pub mod Verdicts
 pub mod Strides
+pub mod Laid
 pub mod Views
 pub mod Ready
 pub mod Sizes

@@ -1,17 +1,19 @@
 -- Document 01, "Seating", its own term: each basis vector is added so often that its lead column comes nearest to its ideal.
 --   ideal_at, gap_at C v c   the ideal of column c, and that less the present value
 --   seat_one C r v    the values v after the addition for the vector r
---   Seated            the seated list; or `far`, "a value beyond ±M after a seating addition" (refusal 9)
+--   Seated            the seated list; or refusal 9, "a value beyond ±M after a seating addition"
 --   seat C N v        "For N1 to Nr in order"
---   SeatDone          what the call returns, whether the list is seated, and what the lent list then holds; `seat_done` makes one
---   leaves z v        so of the outcome z, for the lent list v: the seated list, or the list as it was
+--   outcome r v       what is seated by a call that returns r and leaves the values v: these, or a refusal
+--   leaves z v        what the call returns, and what the lent list v then holds, for the outcome z: the seated list, or the list as it was
 -- Seating reads the columns' wishes and not their goals, so that a wish may come from elsewhere too.
 -- Assumes nothing.
-use Rattle.std.specs.Prelude.{Bool, true, false, cond, List, [], ◌∷◌, ℕ, ℤ, ◌-ℤ◌}
+use Rattle.std.specs.Prelude.{cond, List, [], ◌∷◌, ℕ, ℤ, ◌-ℤ◌, Result, Ok, Err}
 use Rattle.whole.specs.Lists.{entry}
 use Rattle.whole.specs.Quotient.{nearest_quotient}
 use Rattle.lattice.specs.Rows.{plus, lead}
 use Rattle.problem.specs.Limits.{any_beyond}
+use Rattle.problem.specs.declared.Refusal.{Refusal}
+use Rattle.problem.specs.declared.Refusal.TheVariants.{Seating}
 use Rattle.settling.specs.Columns.{Columns}
 use Rattle.goals.specs.Wishes.{ideal}
 
@@ -26,21 +28,17 @@ gap_at C v c = ideal_at C v c -ℤ entry c v
 unfoldable pub seat_one : Columns → List ℤ → List ℤ → List ℤ
 seat_one C r v = plus (nearest_quotient (gap_at C v (lead r)) (entry (lead r) r)) r v
 
-pub data Seated : Type 0 where
-  seated : List ℤ → Seated
-  far : Seated
+abbrev pub Seated : Type 0
+Seated = Result (List ℤ) Refusal
 
 unfoldable pub seat : Columns → List (List ℤ) → List ℤ → Seated
-seat C [] v = seated v
-seat C (r ∷ N) v = cond (any_beyond (seat_one C r v)) far (seat C N (seat_one C r v))
+seat C [] v = Ok v
+seat C (r ∷ N) v = cond (any_beyond (seat_one C r v)) (Err Seating) (seat C N (seat_one C r v))
 
-pub record SeatDone : Type 0 where
-  pub ok : Bool
-  pub values : List ℤ
+abbrev pub outcome : Result Unit Refusal → List ℤ → Seated
+outcome (Ok done) v = Ok v
+outcome (Err why) v = Err why
 
-abbrev pub seat_done : Bool → List ℤ → SeatDone
-seat_done ok v = record { ok = ok; values = v }
-
-abbrev pub leaves : Seated → List ℤ → SeatDone
-leaves (seated u) v = seat_done true u
-leaves far v = seat_done false v
+abbrev pub leaves : Seated → List ℤ → Result Unit Refusal × List ℤ
+leaves (Ok u) v = (Ok tt, u)
+leaves (Err why) v = (Err why, v)

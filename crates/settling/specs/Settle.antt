@@ -7,28 +7,27 @@
 -- "FITTED: all in bounds and no move improves. OUTSIDE: some column out of bounds and no move improves. SPENT: limit reached and some move still
 -- improves."
 -- Assumes nothing.
-use Rattle.std.specs.Prelude.{List, ℕ, zero, suc, ℤ}
+use Rattle.std.specs.Prelude.{List, ℕ, zero, suc, ℤ, Option, Some, None}
 use Rattle.problem.specs.Answers.{no_steps}
 use Rattle.problem.specs.declared.Counts.{Counts}
-use Rattle.problem.specs.declared.Answer.{Answer}
-use Rattle.problem.specs.declared.Answer.TheVariants.{Fitted, Outside, Spent}
+use Rattle.problem.specs.declared.Verdict.{Verdict}
+use Rattle.problem.specs.declared.Verdict.TheVariants.{Fitted, Outside, Spent}
 use Rattle.settling.specs.declared.Move.{Move}
 use Rattle.settling.specs.declared.Part.{Part}
 use Rattle.settling.specs.declared.Part.TheVariants.{Bounds, Goals}
 use Rattle.settling.specs.declared.Step.{Step}
-use Rattle.settling.specs.declared.Step.TheVariants.{Rest, Take}
 use Rattle.settling.specs.Columns.{Columns}
 use Rattle.settling.specs.Moves.{moved}
 use Rattle.settling.specs.Steps.{part_of, next_step}
 
 pub record Settled : Type 0 where
-  pub answer : Answer
+  pub verdict : Verdict
   pub values : List ℤ
 
-abbrev pub ended : Answer → List ℤ → Settled
-ended a v = record { answer = a; values = v }
+abbrev pub ended : Verdict → List ℤ → Settled
+ended a v = record { verdict = a; values = v }
 
-abbrev pub at_rest : Part → Counts → Answer
+abbrev pub at_rest : Part → Counts → Verdict
 at_rest Goals k = Fitted k
 at_rest Bounds k = Outside k
 
@@ -36,9 +35,9 @@ abbrev pub counted : Part → Counts → Counts
 counted Bounds k = record { bounds = suc k.bounds; goals = k.goals }
 counted Goals k = record { bounds = k.bounds; goals = suc k.goals }
 
-abbrev pub on_step : Step → Settled → (Move → Settled) → Settled
-on_step Rest z f = z
-on_step (Take i o) z f = f o
+abbrev pub on_step : Option Step → Settled → (Move → Settled) → Settled
+on_step None z f = z
+on_step (Some s) z f = f s.o
 
 -- "Then the ranking is made anew"
 unfoldable pub settle_from : ℕ → Columns → List (List ℤ) → Counts → List ℤ → Settled

@@ -8,12 +8,12 @@
 --   ranking part C v   the columns in the order in which they are tried; `insert` and rank_from sort them
 --   first_move, first_column   the first good move, and the first column with a step; or_else, the one step or else the other
 --   step_at, step_of   the step of a column, and of a part
---   Step               the column and its move, or that no move improves (declared in src/)
---   next_step C N v    "A step takes the first column with an improving move, and its first such move, once."
+--   Step               a column and a move that improves it (declared in src/); `step` makes one
+--   next_step C N v    none where no move improves; "A step takes the first column with an improving move, and its first such move, once."
 --   Turn               a step with the part that it belongs to (declared in src/)
 --   turn_of C N v      the next one
 -- Assumes nothing.
-use Rattle.std.specs.Prelude.{Bool, true, false, not, cond, ◌&&◌, ◌||◌, List, [], ◌∷◌, ℕ, zero, suc, ltb, eqb, ℤ, length}
+use Rattle.std.specs.Prelude.{Bool, true, false, not, cond, ◌&&◌, ◌||◌, List, [], ◌∷◌, ℕ, zero, suc, ltb, eqb, ℤ, length, Option, Some, None}
 use Rattle.whole.specs.Tests.{is_zero, every}
 use Rattle.problem.specs.Limits.{beyond}
 use Rattle.settling.specs.declared.Cell.{Cell}
@@ -22,7 +22,6 @@ use Rattle.settling.specs.declared.Measure.{Measure}
 use Rattle.settling.specs.declared.Part.{Part}
 use Rattle.settling.specs.declared.Part.TheVariants.{Bounds, Goals}
 use Rattle.settling.specs.declared.Step.{Step}
-use Rattle.settling.specs.declared.Step.TheVariants.{Rest, Take}
 use Rattle.settling.specs.declared.Turn.{Turn}
 use Rattle.settling.specs.Columns.{Columns, cell}
 use Rattle.settling.specs.Moves.{moves, change, changes, moved}
@@ -90,27 +89,30 @@ abbrev pub ranking : Part → Columns → List ℤ → List ℕ
 ranking p C v = rank_from (ranked_at p C v) (larger_at p C v) C.count 0
 
 -- ---- the step
-abbrev pub or_else : Step → Step → Step
-or_else Rest z = z
-or_else (Take i o) z = Take i o
+abbrev pub step : ℕ → Move → Step
+step i o = record { column = i; o = o }
+
+abbrev pub or_else : Option Step → Option Step → Option Step
+or_else None z = z
+or_else (Some s) z = Some s
 
 -- for column i the first move of the list that is good
-unfoldable pub first_move : (Move → Bool) → ℕ → List Move → Step
-first_move good i [] = Rest
-first_move good i (o ∷ L) = cond (good o) (Take i o) (first_move good i L)
+unfoldable pub first_move : (Move → Bool) → ℕ → List Move → Option Step
+first_move good i [] = None
+first_move good i (o ∷ L) = cond (good o) (Some (step i o)) (first_move good i L)
 
 -- what the first column of the list with a step has
-unfoldable pub first_column : (ℕ → Step) → List ℕ → Step
-first_column f [] = Rest
+unfoldable pub first_column : (ℕ → Option Step) → List ℕ → Option Step
+first_column f [] = None
 first_column f (i ∷ R) = or_else (f i) (first_column f R)
 
-unfoldable pub step_at : Part → Columns → List (List ℤ) → List ℤ → ℕ → Step
+unfoldable pub step_at : Part → Columns → List (List ℤ) → List ℤ → ℕ → Option Step
 step_at p C N v i = first_move (λ o. improves p C N v o i) i (moves (length N))
 
-unfoldable pub step_of : Part → Columns → List (List ℤ) → List ℤ → Step
+unfoldable pub step_of : Part → Columns → List (List ℤ) → List ℤ → Option Step
 step_of p C N v = first_column (step_at p C N v) (ranking p C v)
 
-unfoldable pub next_step : Columns → List (List ℤ) → List ℤ → Step
+unfoldable pub next_step : Columns → List (List ℤ) → List ℤ → Option Step
 next_step C N v = step_of (part_of C v) C N v
 
 -- the part that is reached, and its step

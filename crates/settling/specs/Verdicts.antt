@@ -7,10 +7,10 @@
 --   SomeMoveImproves C N v   "some move still improves"
 --   Means limit C N a v      what the answer a means, where settling under the limit leaves the values v
 -- Assumes nothing.
-use Rattle.std.specs.Prelude.{◌≡◌, ◌⊎◌, true, List, [], ◌∷◌, ℕ, ◌+◌, ◌<◌, ℤ, length}
+use Rattle.std.specs.Prelude.{◌≡◌, ◌⊎◌, true, List, [], ◌∷◌, ℕ, ◌+◌, ◌<◌, ℤ, length, Ok}
 use Rattle.problem.specs.declared.Counts.{Counts}
-use Rattle.problem.specs.declared.Answer.{Answer}
-use Rattle.problem.specs.declared.Answer.TheVariants.{Fitted, Outside, Spent}
+use Rattle.problem.specs.Answers.{Answer}
+use Rattle.problem.specs.declared.Verdict.TheVariants.{Fitted, Outside, Spent}
 use Rattle.settling.specs.declared.Move.{Move}
 use Rattle.settling.specs.declared.Part.{Part}
 use Rattle.settling.specs.Columns.{Columns, cell}
@@ -48,8 +48,8 @@ pub record SomeMoveImproves (C : Columns) (N : List (List ℤ)) (v : List ℤ) :
 -- ---- the verdicts
 pub record Means (limit : ℕ) (C : Columns) (N : List (List ℤ)) (a : Answer) (v : List ℤ) : Type 0 where
   -- "FITTED: all in bounds and no move improves."
-  pub fitted : (k : Counts) → a ≡ Fitted k → AllInBounds C v × NoMoveImproves C N v
+  pub fitted : (k : Counts) → a ≡ Ok (Fitted k) → AllInBounds C v × NoMoveImproves C N v
   -- "OUTSIDE: some column out of bounds and no move improves."
-  pub outside : (k : Counts) → a ≡ Outside k → SomeOutside C v × NoMoveImproves C N v
+  pub outside : (k : Counts) → a ≡ Ok (Outside k) → SomeOutside C v × NoMoveImproves C N v
   -- "SPENT: limit reached and some move still improves." "The limit covers both parts together."
-  pub spent : (k : Counts) → a ≡ Spent k → (k.bounds + k.goals ≡ limit) × SomeMoveImproves C N v
+  pub spent : (k : Counts) → a ≡ Ok (Spent k) → (k.bounds + k.goals ≡ limit) × SomeMoveImproves C N v

@@ -1,46 +1,29 @@
-ghost use Rattle.std.specs.Prelude.{◌≡◌, ◌≤◌, nat_abs, ◌-ℤ◌};
-ghost use Rattle.whole.specs.Tests.{is_zero};
+ghost use Rattle.std.specs.Prelude.{◌≡◌, ◌≤◌};
 ghost use Rattle.problem.specs.Limits.{max_bound, max_goal};
 ghost use Rattle.settling.specs.declared.Part.TheVariants.{Bounds};
 ghost use Rattle.settling.specs.Measures as Measures;
 ghost use Rattle.settling.specs.Steps.{is_ranked, is_allowed, is_compared};
 ghost use Rattle.settling.specs.Steps as Steps;
-ghost use Rattle.settling.specs.Sizes.{Near, FitCell, Crossable};
+ghost use Rattle.settling.specs.Sizes.{FitCell, Crossable};
 
 use crate::{Cell, Measure, Part};
 use problem::Problem;
-use whole::{less, magnitude};
-
-// Whether x is 0.
-pub fn is_zero(x: i64) -> bool
-    ensures { result ≡ is_zero x }
-{
-    magnitude(x) == 0
-}
-
-// The magnitude of a − b.
-fn gap(a: i64, b: i64) -> u64
-    requires { Near a × Near b }
-    ensures { result ≡ nat_abs (a -ℤ b) }
-{
-    magnitude(a - b)
-}
 
 // How far a column lies outside its bounds.
 fn distance(c: Cell) -> u64
     requires { FitCell Bounds c }
     ensures { result ≡ Measures.distance c }
 {
-    if less(c.value, c.lower) {
-        return gap(c.lower, c.value);
+    if c.value < c.lower {
+        (c.lower - c.value).unsigned_abs()
+    } else if c.upper < c.value {
+        (c.value - c.upper).unsigned_abs()
+    } else {
+        0
     }
-    if less(c.upper, c.value) {
-        return gap(c.value, c.upper);
-    }
-    0
 }
 
-// Whether p is the smaller measure, by cross products.
+// Whether p is the smaller measure, by cross products. Not the `<` of a derive, which compares tops first.
 pub fn below(p: Measure, q: Measure) -> bool
     requires { Crossable p × Crossable q }
     ensures { result ≡ Measures.below p q }
@@ -65,6 +48,7 @@ fn ratio(low: u64, high: u64, v: u64) -> Measure
 }
 
 // A column's distance, over 1, or its ratio.
+#[tactic(auto, unfolding(crate::specs::Measures::measure))]
 pub fn measure(part: Part, c: Cell) -> Measure
     requires { FitCell part c }
     ensures { result ≡ Measures.measure part c }
@@ -74,18 +58,23 @@ pub fn measure(part: Part, c: Cell) -> Measure
             top: distance(c),
             bottom: 1,
         },
-        Part::Goals => ratio(magnitude(c.low), magnitude(c.high), magnitude(c.value)),
+        Part::Goals => ratio(
+            c.low.unsigned_abs(),
+            c.high.unsigned_abs(),
+            c.value.unsigned_abs(),
+        ),
     }
 }
 
 // Whether a column is tried.
+#[tactic(auto, unfolding(crate::specs::Steps::is_ranked))]
 pub fn is_ranked(part: Part, c: Cell) -> bool
     requires { FitCell Bounds c }
     ensures { result ≡ is_ranked part c }
 {
     match part {
         Part::Bounds => 0 < distance(c),
-        Part::Goals => !is_zero(c.low),
+        Part::Goals => c.low != 0,
     }
 }
 
@@ -95,7 +84,7 @@ fn is_allowed(part: Part, c: Cell) -> bool
     ensures { result ≡ is_allowed part c }
 {
     match part {
-        Part::Bounds => magnitude(c.value) <= Problem::MAX_NUMBER,
+        Part::Bounds => c.value.unsigned_abs() <= Problem::MAX_NUMBER,
         Part::Goals => distance(c) == 0,
     }
 }
@@ -107,23 +96,15 @@ fn is_compared(part: Part, c: Cell) -> bool
 {
     match part {
         Part::Bounds => true,
-        Part::Goals => !is_zero(c.low),
+        Part::Goals => c.low != 0,
     }
 }
 
 // Whether a column passes under a move that adds `change` to it, after which it is c, where it has to come below q.
+#[tactic(auto, using(crate::proofs::Sizes::allowed_sized), unfolding(crate::specs::Steps::passes))]
 pub fn passes(part: Part, c: Cell, change: i64, q: Measure) -> bool
     requires { FitCell Bounds c × Crossable q }
     ensures { result ≡ Steps.passes part c change q }
 {
-    if !is_allowed(part, c) {
-        return false;
-    }
-    if is_zero(change) {
-        return true;
-    }
-    if !is_compared(part, c) {
-        return true;
-    }
-    below(measure(part, c), q)
+    is_allowed(part, c) && (change == 0 || !is_compared(part, c) || below(measure(part, c), q))
 }

@@ -1,79 +1,80 @@
-ghost use Rattle.std.specs.Prelude.{◌≡◌, ℕ, ◌*◌, ◌<◌, ◌≤◌, nat_abs, ◌+ℤ◌, ◌*ℤ◌, length};
+ghost use Rattle.std.specs.Prelude.{◌≡◌, ℕ, ◌*◌, ◌<◌, ◌≤◌, nat_abs, length};
 ghost use Rattle.whole.specs.Lists.{entry};
 ghost use Rattle.lattice.specs.Rows.{plus};
 ghost use Rattle.problem.specs.Limits.{M};
 ghost use Rattle.settling.specs.Moves as Moves;
-ghost use Rattle.settling.specs.Views.{vectors, Viewed, OfBasis};
+ghost use Rattle.settling.specs.Moves.{vector};
+ghost use Rattle.settling.specs.Views.{vectors, OfBasis};
 
-use crate::measures::is_zero;
-use crate::seating::plus_product;
 use crate::{Basis, Move};
 
-// a x + b y.
-fn combine(a: i64, x: i64, b: i64, y: i64) -> i64
-    requires { (nat_abs a ≤ 1) × (nat_abs b ≤ 1) × (nat_abs x ≤ M) × (nat_abs y ≤ M) }
-    ensures { result ≡ a *ℤ x +ℤ b *ℤ y }
-{
-    a * x + b * y
+impl<'a> Basis<'a> {
+    // Vector s. A vector without columns may lie anywhere.
+    #[tactic(auto, using(crate::proofs::Views::vectors_is, crate::proofs::Views::vector_long, crate::proofs::Views::vector_small))]
+    pub fn vector(self, s: usize) -> &'a [i64]
+        requires { (s < self.vectors) × (0 < self.columns) }
+        ensures value { result.now ≡ vector (vectors self.entry) s }
+        ensures long { length result.now ≡ self.entry.columns }
+        ensures small { (j : ℕ) → nat_abs (entry j result.now) ≤ M }
+    {
+        let at = s * self.stride;
+        &self.numbers[at..at + self.columns]
+    }
+
+    // Number j of vector s.
+    #[tactic(auto, using(crate::proofs::Views::vectors_at))]
+    pub fn number(self, s: usize, j: usize) -> i64
+        requires { (s < self.vectors) × (j < self.columns) }
+        ensures value { result ≡ entry j (vector (vectors self.entry) s) }
+        ensures small { nat_abs result ≤ M }
+    {
+        self.numbers[s * self.stride + j]
+    }
+
+    // What a move adds to column j.
+    #[tactic(auto, using(crate::proofs::Fitting::products, crate::proofs::Fitting::reads))]
+    pub fn change(self, o: Move, j: usize) -> i64
+        requires { OfBasis self.vectors o × (j < self.columns) }
+        ensures value { result ≡ Moves.change (vectors self.entry) o j }
+        ensures small { nat_abs result ≤ 2 * M }
+    {
+        o.a * self.number(o.s, j) + o.b * self.number(o.t, j)
+    }
+
+    // Whether a move changes column j.
+    pub fn changes(self, o: Move, j: usize) -> bool
+        requires { OfBasis self.vectors o × (j < self.columns) }
+        ensures { result ≡ Moves.changes (vectors self.entry) o j }
+    {
+        self.change(o, j) != 0
+    }
 }
 
-// What a move adds to column j.
-pub fn change(basis: &[i64], view: Basis, o: Move, j: usize) -> i64
-    requires { Viewed view basis.now × OfBasis view.vectors o × (j < view.columns) }
-    ensures { result ≡ Moves.change (vectors view basis.now) o j }
-{
-    let s = o.s * view.stride + j;
-    let t = o.t * view.stride + j;
-    combine(o.a, basis[s], o.b, basis[t])
-}
-
-// Whether a move changes column j.
-pub fn changes(basis: &[i64], view: Basis, o: Move, j: usize) -> bool
-    requires { Viewed view basis.now × OfBasis view.vectors o × (j < view.columns) }
-    ensures { result ≡ Moves.changes (vectors view basis.now) o j }
-{
-    !is_zero(change(basis, view, o, j))
-}
-
-// A value after a change.
-pub fn sum(x: i64, e: i64) -> i64
-    requires { (nat_abs x ≤ M) × (nat_abs e ≤ 2 * M) }
-    ensures { result ≡ x +ℤ e }
-{
-    x + e
-}
-
-// Adds a times a row to the values.
+// Adds a times a row to the values. The one of seating stops beyond M; this one does not: after the first of two vectors a value may lie
+// beyond, and the second brings it back.
+#[tactic(auto, using(crate::proofs::Fitting::products, crate::proofs::Fitting::reads, crate::proofs::Adding::row_loop))]
 fn add_row(values: &mut [i64], row: &[i64], a: i64)
     requires { (length row.now ≡ length values.old) × (nat_abs a ≤ 1)
         × ((j : ℕ) → nat_abs (entry j values.old) ≤ 2 * M) × ((j : ℕ) → nat_abs (entry j row.now) ≤ M) }
     ensures { values.new ≡ plus a row.now values.old }
 {
-    let mut j = 0;
-    while j < row.len() {
-        let y = plus_product(values[j], a, row[j]);
-        values[j] = y;
-        j += 1;
+    for (j, x) in row.iter().enumerate() {
+        values[j] += a * x;
     }
 }
 
-// Takes a move once, vector by vector. A vector without columns may lie anywhere.
-pub fn take_move(values: &mut [i64], basis: &[i64], view: Basis, o: Move)
-    requires viewed { Viewed view basis.now × OfBasis view.vectors o × (length values.old ≡ view.columns) }
+// Takes a move once, vector by vector.
+#[tactic(auto, using(crate::proofs::Fitting::products, crate::proofs::Views::moving), unfolding(crate::specs::Moves::moved))]
+pub fn take_move(values: &mut [i64], basis: Basis, o: Move)
+    requires viewed { OfBasis basis.vectors o × (length values.old ≡ basis.columns) }
     requires by_index { (j : ℕ) → nat_abs (entry j values.old) ≤ M }
-    ensures { values.new ≡ Moves.moved (vectors view basis.now) o values.old }
+    ensures { values.new ≡ Moves.moved (vectors basis.entry) o values.old }
 {
-    let n = view.columns;
-    if n == 0 {
+    if basis.columns == 0 {
         return;
     }
-    let at = o.s * view.stride;
-    let end = at + n;
-    add_row(values, &basis[at..end], o.a);
-    if is_zero(o.b) {
-        return;
+    add_row(values, basis.vector(o.s), o.a);
+    if o.b != 0 {
+        add_row(values, basis.vector(o.t), o.b);
     }
-    let from = o.t * view.stride;
-    let to = from + n;
-    add_row(values, &basis[from..to], o.b);
 }

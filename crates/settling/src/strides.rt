@@ -1,22 +1,19 @@
-ghost use Rattle.std.specs.Prelude.{◌≡◌, ◌<◌};
+ghost use Rattle.std.specs.Prelude.{◌≡◌, ◌<◌, length};
 ghost use Rattle.settling.specs.Strides as Strides;
-ghost use Rattle.settling.specs.Ready.{StridesReady};
-ghost use Rattle.settling.specs.Views.{vectors, Viewed};
+ghost use Rattle.settling.specs.Views.{vectors};
 
 use crate::Basis;
-use whole::{divisor, magnitude};
+use whole::divisor;
 
 // The stride of column j: from the last vector up, the divisor of a number and those behind it. A 0 needs no division, and 1 stays 1.
-fn stride(basis: &[i64], view: Basis, j: usize) -> u64
-    requires { Viewed view basis.now × (j < view.columns) }
-    ensures { result ≡ Strides.stride (vectors view basis.now) j }
+#[tactic(auto, using(crate::proofs::StrideLaws::stride_loop))]
+fn stride(basis: Basis, j: usize) -> u64
+    requires { j < basis.columns }
+    ensures { result ≡ Strides.stride (vectors basis.entry) j }
 {
-    let mut d: u64 = 0;
-    let mut s = view.vectors;
-    while 0 < s {
-        s -= 1;
-        let at = s * view.stride + j;
-        let x = magnitude(basis[at]);
+    let mut d = 0;
+    for s in (0..basis.vectors).rev() {
+        let x = basis.number(s, j).unsigned_abs();
         if x != 0 {
             d = divisor(x, d);
             if d == 1 {
@@ -28,14 +25,12 @@ fn stride(basis: &[i64], view: Basis, j: usize) -> u64
 }
 
 // Writes the strides of all columns.
-pub fn strides(out: &mut [u64], basis: &[i64], view: Basis)
-    requires { StridesReady view out.old basis.now }
-    ensures { out.new ≡ Strides.strides view.columns (vectors view basis.now) }
+#[tactic(auto, using(crate::proofs::StrideLaws::strides_all))]
+pub fn strides(out: &mut [u64], basis: Basis)
+    requires { length out.old ≡ basis.columns }
+    ensures { out.new ≡ Strides.strides basis.entry.columns (vectors basis.entry) }
 {
-    let n = view.columns;
-    let mut j = 0;
-    while j < n {
-        out[j] = stride(basis, view, j);
-        j += 1;
+    for (j, d) in out.iter_mut().enumerate() {
+        *d = stride(basis, j);
     }
 }

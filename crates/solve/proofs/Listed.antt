@@ -2,8 +2,9 @@
 --   longest                the longest listing that numbers of these sizes have
 --   assigned_short         the listing of a whole assignment is short; refused-short, and so is that of a refusal
 --   every_text_is_listed   of every list of numbers, bytes or not
---   never_uneven, never_full   so a call on a buffer with that room returns neither; length-fits, but a length within the room
+--   returned, length_fits   so a call on a buffer with that room returns its length, which is within the room
 -- Assumes nothing.
+use Rattle.std.specs.Prelude.{Ok, Err}
 use mathlib.Core.Path.{◌≡◌, refl, ◌∙◌, ap}
 use mathlib.Core.Bool.{true}
 use mathlib.Core.List.{List, []}
@@ -14,20 +15,15 @@ use lib.IntN.{ℤ, nat_abs}
 use lib.ListN.{length, get_or}
 use Rattle.whole.specs.Lists.{entry}
 use Rattle.problem.specs.Limits.{M, max_columns}
-use Rattle.problem.specs.Answers.{answer_counts, is_verdict}
+use Rattle.problem.specs.Answers.{Answer, answer_counts, is_verdict}
 use Rattle.problem.specs.Checks.{Posed}
 use Rattle.problem.specs.declared.Refusal.{Refusal}
-use Rattle.problem.specs.declared.Answer.{Answer}
-use Rattle.problem.specs.declared.Answer.TheVariants.{Fitted, Outside, Spent, Refused}
-use Rattle.sections.specs.Rules.{Outcome, ok, no}
+use Rattle.sections.specs.Rules.{Outcome}
 use Rattle.deck.specs.Posing.{Deck, read_deck, posed}
 use Rattle.engine.specs.Assign.{Buffers, Done, assign}
 use Rattle.engine.proofs.Leaving.{Leaves, assign_leaves}
-use Rattle.whole.proofs.Never.{never}
 use Rattle.settling.proofs.Leaving.{total}
-use Rattle.report.specs.Listing.{listing, ListingDone, listing_done}
-use Rattle.report.specs.declared.Written.{Written}
-use Rattle.report.specs.declared.Written.TheVariants.{Bytes, Uneven, NoRoom}
+use Rattle.report.specs.Listing.{Written, listing, ListingDone, listing_done}
 use Rattle.report.proofs.Lengths.{listing_most}
 use Rattle.solve.specs.Program.{program_limit, zero_buffers, listed, on_deck, printed, print_into, listing_room, longest_listing, ListedWhole}
 
@@ -41,9 +37,9 @@ longest a v d n x y k =
     omega (arith, listing_most 4 1 9 9 v d (omega arith) (λ j. omega (arith, x j)) (λ j. omega (arith, y j)) a (omega arith) (omega arith))
 
 -- a refusal lists no column
-refused_short : (why : Refusal) (v : List ℤ) (d : List ℕ) → Short (listing (Refused why) v d)
+refused_short : (why : Refusal) (v : List ℤ) (d : List ℕ) → Short (listing (Err why) v d)
 unfolding listing
-refused_short why v d = longest (Refused why) [] [] (omega arith) (λ j. omega arith) (λ j. omega arith) (omega arith)
+refused_short why v d = longest (Err why) [] [] (omega arith) (λ j. omega arith) (λ j. omega arith) (omega arith)
 
 leaves_short : (P : Posed) (d : Done) → P.problem.limit ≤ program_limit → Leaves P d → Short (listed d)
 leaves_short P d h l =
@@ -53,18 +49,16 @@ by_answer : (d : Done) → (is_verdict d.answer ≡ true → Short (listed d)) �
 by_answer d f = go d.answer f
   where
     go : (a : Answer) → (is_verdict a ≡ true → Short (listing a d.values d.strides)) → Short (listing a d.values d.strides)
-    go (Fitted k) f = f refl
-    go (Outside k) f = f refl
-    go (Spent k) f = f refl
-    go (Refused why) f = refused_short why d.values d.strides
+    go (Ok verdict) f = f refl
+    go (Err why) f = refused_short why d.values d.strides
 
 assigned_short : (P : Posed) (B : Buffers) → P.problem.limit ≤ program_limit → Short (listed (assign P B))
 assigned_short P B h = by_answer (assign P B) (λ v. leaves_short P (assign P B) h (assign_leaves P B v))
 
 deck_short : (x : Outcome Deck) → Short (on_deck x)
 unfolding posed
-deck_short (ok d at) = assigned_short (posed program_limit d) (zero_buffers (posed program_limit d)) (omega arith)
-deck_short (no why) = refused_short why [] []
+deck_short (Ok (d, at)) = assigned_short (posed program_limit d) (zero_buffers (posed program_limit d)) (omega arith)
+deck_short (Err why) = refused_short why [] []
 
 printed_short : (s : List ℕ) → Short (printed s)
 unfolding printed
@@ -79,17 +73,11 @@ every_text_is_listed s = record {
 
 -- ---- what a call returns, where the buffer has room
 module _ (o s : List ℕ) (h : listing_room ≤ length o) where
-  returned : (w : Written) (p : List ℕ) → listing_done w p ≡ print_into o s → w ≡ Bytes (length (printed s))
+  pub returned : (w : Written) (p : List ℕ) → listing_done w p ≡ print_into o s → w ≡ Ok (length (printed s))
   returned w p e = ap (λ (x : ListingDone). x.written) (e ∙ (every_text_is_listed s).whole o h)
 
-  pub never_uneven : {A : Type 0} (p : List ℕ) → listing_done Uneven p ≡ print_into o s → A
-  never_uneven p e = let q : Uneven ≡ Bytes (length (printed s)) = returned Uneven p e in never (cc)
-
-  pub never_full : {A : Type 0} (p : List ℕ) → listing_done NoRoom p ≡ print_into o s → A
-  never_full p e = let q : NoRoom ≡ Bytes (length (printed s)) = returned NoRoom p e in never (cc)
-
-  pub length_fits : (n : ℕ) (p : List ℕ) → listing_done (Bytes n) p ≡ print_into o s → n ≤ listing_room
+  pub length_fits : (n : ℕ) (p : List ℕ) → listing_done (Ok n) p ≡ print_into o s → n ≤ listing_room
   length_fits n p e =
-      let q : Bytes n ≡ Bytes (length (printed s)) = returned (Bytes n) p e in
+      let q : ◌≡◌ {A = Written} (Ok n) (Ok (length (printed s))) = returned (Ok n) p e in
       let l : n ≡ length (printed s) = cc in
       omega (arith, printed_short s)

@@ -8,15 +8,15 @@
 --   sum_and_difference, three_two, tied, paving_text, paving_listing   problems, a text and its listing; curve, a line of the text
 --   DeckCases       the cases, one to a field, in document 01's order
 -- Assumes nothing.
-use Rattle.std.specs.Prelude.{◌≡◌, List, [], ◌∷◌, ◌++◌, map, ℕ, ◌+◌, ◌*◌, ℤ, pos, negsuc, replicate}
+use Rattle.std.specs.Prelude.{◌≡◌, List, [], ◌∷◌, ◌++◌, map, ℕ, ◌+◌, ◌*◌, ℤ, pos, negsuc, replicate, Ok, Err}
 use Rattle.whole.specs.Lists.{zeros}
+use Rattle.problem.specs.Answers.{Answer}
 use Rattle.problem.specs.Checks.{Posed}
-use Rattle.problem.specs.declared.Refusal.TheVariants.{NoWholeNumbers}
-use Rattle.problem.specs.declared.Answer.{Answer}
-use Rattle.problem.specs.declared.Answer.TheVariants.{Fitted, Outside, Spent, Refused}
+use Rattle.problem.specs.declared.Refusal.TheVariants.{NoWholeNumbers, Seating}
+use Rattle.problem.specs.declared.Verdict.TheVariants.{Fitted, Outside, Spent}
 use Rattle.tableau.specs.RightSide.{Found, none, some}
 use Rattle.settling.specs.Columns.{Columns, listed}
-use Rattle.settling.specs.Seating.{Seated, seated, far, ideal_at, seat}
+use Rattle.settling.specs.Seating.{Seated, ideal_at, seat}
 use Rattle.engine.specs.Assign.{Buffers, Done, posed_by, n, m, columns, solved, assign}
 use Rattle.report.specs.Listing.{counts_of}
 use Rattle.solve.specs.Program.{printed}
@@ -42,9 +42,9 @@ assigned P = shown (assign P (used P))
 abbrev pub gives : Answer → List ℤ → List ℕ → Shown
 gives a v d = record { answer = a; values = v; strides = d }
 
--- where none is found, nothing is seated
+-- where none is found, nothing is seated: the call refuses before (8, not 9), and no case looks at this
 abbrev pub seat_found : Posed → Found → Seated
-seat_found P none = far
+seat_found P none = Err Seating
 seat_found P (some start N) = seat (columns P) N start
 
 abbrev pub seated_of : Posed → Seated
@@ -93,31 +93,31 @@ pub record DeckCases : Type 0 where
   -- "2v = 1: 8."
   pub half :
       assigned (problem 1 1 (pos 2 ∷ []) (pos 1 ∷ []) (pos 1 ∷ []) (pos 9 ∷ []) (pos 0 ∷ []) 10000)
-      ≡ gives (Refused NoWholeNumbers) (pos 7 ∷ []) (7 ∷ [])
+      ≡ gives (Err NoWholeNumbers) (pos 7 ∷ []) (7 ∷ [])
   -- "2v = 2, bounds 1..9, no goal: FITTED 0 0 with 1, stride 0."
   pub whole :
       assigned (problem 1 1 (pos 2 ∷ []) (pos 2 ∷ []) (pos 1 ∷ []) (pos 9 ∷ []) (pos 0 ∷ []) 10000)
-      ≡ gives (Fitted (counts_of 0 0)) (pos 1 ∷ []) (0 ∷ [])
+      ≡ gives (Ok (Fitted (counts_of 0 0))) (pos 1 ∷ []) (0 ∷ [])
   -- "v1 + v2 = 1 with v1 − v2 = 0: 8."
-  pub crossed : assigned sum_and_difference ≡ gives (Refused NoWholeNumbers) (pos 7 ∷ pos 7 ∷ []) (7 ∷ 7 ∷ [])
+  pub crossed : assigned sum_and_difference ≡ gives (Err NoWholeNumbers) (pos 7 ∷ pos 7 ∷ []) (7 ∷ 7 ∷ [])
   -- "v = 1 with v = 2: 8."
   pub twice :
       assigned (problem 1 2 (pos 1 ∷ pos 1 ∷ []) (pos 1 ∷ pos 2 ∷ []) (pos 1 ∷ []) (pos 9 ∷ []) (pos 0 ∷ []) 10000)
-      ≡ gives (Refused NoWholeNumbers) (pos 7 ∷ []) (7 ∷ [])
+      ≡ gives (Err NoWholeNumbers) (pos 7 ∷ []) (7 ∷ [])
   -- "No rows, bounds 3..5, no goal: FITTED 0 0 with 3, stride 1."
-  pub free : assigned (problem 1 0 [] [] (pos 3 ∷ []) (pos 5 ∷ []) (pos 0 ∷ []) 10000) ≡ gives (Fitted (counts_of 0 0)) (pos 3 ∷ []) (1 ∷ [])
+  pub free : assigned (problem 1 0 [] [] (pos 3 ∷ []) (pos 5 ∷ []) (pos 0 ∷ []) 10000) ≡ gives (Ok (Fitted (counts_of 0 0))) (pos 3 ∷ []) (1 ∷ [])
   -- "Goals 400, 1414, 1415, 2449, 2450: ideals 1, 1, 2, 2, 3."
   pub ideals : (v : List ℤ) → five_ideals v ≡ pos 1 ∷ pos 1 ∷ pos 2 ∷ pos 2 ∷ pos 3 ∷ []
   -- "3v1 = 2v2, bounds 1..100, goals 2500 and 4000: seated 4, 6; FITTED 0 1 with 2, 3; strides 2, 3."
   pub basis : (solved three_two).found ≡ some (pos 0 ∷ pos 0 ∷ []) ((pos 2 ∷ pos 3 ∷ []) ∷ [])
-  pub seats : seated_of three_two ≡ seated (pos 4 ∷ pos 6 ∷ [])
-  pub three_two_lem : assigned three_two ≡ gives (Fitted (counts_of 0 1)) (pos 2 ∷ pos 3 ∷ []) (2 ∷ 3 ∷ [])
+  pub seats : seated_of three_two ≡ Ok (pos 4 ∷ pos 6 ∷ [])
+  pub three_two_lem : assigned three_two ≡ gives (Ok (Fitted (counts_of 0 1))) (pos 2 ∷ pos 3 ∷ []) (2 ∷ 3 ∷ [])
   -- "v1 = 2v2, bounds 1..1 and 1..10, no goals: OUTSIDE 0 0 with 2, 1."
   pub outside :
       assigned (problem 2 1 (pos 1 ∷ negsuc 1 ∷ []) (pos 0 ∷ []) (pos 1 ∷ pos 1 ∷ []) (pos 1 ∷ pos 10 ∷ []) (pos 0 ∷ pos 0 ∷ []) 10000)
-      ≡ gives (Outside (counts_of 0 0)) (pos 2 ∷ pos 1 ∷ []) (2 ∷ 1 ∷ [])
+      ≡ gives (Ok (Outside (counts_of 0 0))) (pos 2 ∷ pos 1 ∷ []) (2 ∷ 1 ∷ [])
   -- "v1 = v2, bounds 1..10 and 5..10, no goals: FITTED 4 0 with 5, 5." "Limit 3: SPENT 3 0 with 4, 4."
-  pub fitted : assigned (tied 10000) ≡ gives (Fitted (counts_of 4 0)) (pos 5 ∷ pos 5 ∷ []) (1 ∷ 1 ∷ [])
-  pub spent : assigned (tied 3) ≡ gives (Spent (counts_of 3 0)) (pos 4 ∷ pos 4 ∷ []) (1 ∷ 1 ∷ [])
+  pub fitted : assigned (tied 10000) ≡ gives (Ok (Fitted (counts_of 4 0))) (pos 5 ∷ pos 5 ∷ []) (1 ∷ 1 ∷ [])
+  pub spent : assigned (tied 3) ≡ gives (Ok (Spent (counts_of 3 0))) (pos 4 ∷ pos 4 ∷ []) (1 ∷ 1 ∷ [])
   -- "Paving."
   pub paving : printed paving_text ≡ paving_listing

@@ -5,12 +5,11 @@
 --   refused_goal    refusal 5, with both lists as before
 --   GoalCases       the cases, one to a field
 -- Assumes nothing.
-use Rattle.std.specs.Prelude.{◌≡◌, List, [], ◌∷◌, ℕ, ℤ, pos, negsuc}
+use Rattle.std.specs.Prelude.{◌≡◌, List, [], ◌∷◌, ℕ, ℤ, pos, negsuc, Ok, Err}
 use Rattle.whole.specs.Lists.{zeros}
 use Rattle.problem.specs.Checks.{Posed}
 use Rattle.problem.specs.declared.Refusal.TheVariants.{Bound, Goal}
-use Rattle.problem.specs.declared.Answer.TheVariants.{Fitted, Refused}
-use Rattle.settling.specs.Seating.{seated}
+use Rattle.problem.specs.declared.Verdict.TheVariants.{Fitted}
 use Rattle.engine.specs.Assign.{posed_by}
 use Rattle.report.specs.Listing.{counts_of}
 use Rattle.solve.specs.Cases.{Shown, assigned, gives, seated_of}
@@ -34,16 +33,16 @@ abbrev pub two_goals_listing : List ℕ
 two_goals_listing = 70 ∷ 73 ∷ 84 ∷ 84 ∷ 69 ∷ 68 ∷ 32 ∷ 48 ∷ 32 ∷ 48 ∷ 10 ∷ 49 ∷ 32 ∷ 50 ∷ 32 ∷ 49 ∷ 10 ∷ []
 
 abbrev pub refused_goal : Shown
-refused_goal = gives (Refused Goal) (pos 7 ∷ []) (7 ∷ [])
+refused_goal = gives (Err Goal) (pos 7 ∷ []) (7 ∷ [])
 
 pub record GoalCases : Type 0 where
   -- the root of 1,000 × 4,000 is 2,000: not the low goal, nor the high one, nor their mean
-  pub between : assigned (curve (pos 1) (pos 1000) (pos 4000)) ≡ gives (Fitted (counts_of 0 0)) (pos 2 ∷ []) (1 ∷ [])
+  pub between : assigned (curve (pos 1) (pos 1000) (pos 4000)) ≡ gives (Ok (Fitted (counts_of 0 0))) (pos 2 ∷ []) (1 ∷ [])
   -- 2 × 3 × 1,000,000 = 2,000 × 3,000, so that it is 2
-  pub edge : assigned (curve (pos 1) (pos 2000) (pos 3000)) ≡ gives (Fitted (counts_of 0 0)) (pos 2 ∷ []) (1 ∷ [])
+  pub edge : assigned (curve (pos 1) (pos 2000) (pos 3000)) ≡ gives (Ok (Fitted (counts_of 0 0))) (pos 2 ∷ []) (1 ∷ [])
   -- "The ratio is the larger of 1000v/low and high/1000v": at 2 they are 2 and 5/2, and at 3 the first one's is 3, which is not below 5/2
-  pub seats : seated_of tied_curves ≡ seated (pos 2 ∷ pos 2 ∷ [])
-  pub tied : assigned tied_curves ≡ gives (Fitted (counts_of 0 0)) (pos 2 ∷ pos 2 ∷ []) (1 ∷ 1 ∷ [])
+  pub seats : seated_of tied_curves ≡ Ok (pos 2 ∷ pos 2 ∷ [])
+  pub tied : assigned tied_curves ≡ gives (Ok (Fitted (counts_of 0 0))) (pos 2 ∷ pos 2 ∷ []) (1 ∷ 1 ∷ [])
   -- "both 0 or both set, low at most high", and what 5 was before
   pub crossed : assigned (curve (pos 1) (pos 4000) (pos 1000)) ≡ refused_goal
   pub high_alone : assigned (curve (pos 1) (pos 0) (pos 4000)) ≡ refused_goal
@@ -52,8 +51,8 @@ pub record GoalCases : Type 0 where
   pub negative : assigned (curve (pos 1) (negsuc 0) (pos 1000)) ≡ refused_goal
   pub lower_zero : assigned (curve (pos 0) (pos 1000) (pos 4000)) ≡ refused_goal
   -- no goal asks nothing of the lower bound
-  pub none : assigned (curve (pos 0) (pos 0) (pos 0)) ≡ gives (Fitted (counts_of 0 0)) (pos 0 ∷ []) (1 ∷ [])
+  pub none : assigned (curve (pos 0) (pos 0) (pos 0)) ≡ gives (Ok (Fitted (counts_of 0 0))) (pos 0 ∷ []) (1 ∷ [])
   -- a text: "1", "1 99 1000 4000", "0", "0"; listing: "FITTED 0 0", "1 2 1"
   pub text : printed two_goals_text ≡ two_goals_listing
   -- 4 comes first
-  pub bound_first : assigned (curve (pos 101) (pos 4000) (pos 1000)) ≡ gives (Refused Bound) (pos 7 ∷ []) (7 ∷ [])
+  pub bound_first : assigned (curve (pos 101) (pos 4000) (pos 1000)) ≡ gives (Err Bound) (pos 7 ∷ []) (7 ∷ [])

@@ -4,11 +4,11 @@
 --   crossing, crossing_turned   two rows, and the same in the other order
 --   RoundCases      the cases, one to a field
 -- Assumes nothing.
-use Rattle.std.specs.Prelude.{◌≡◌, [], ◌∷◌, ℕ, pos, negsuc, replicate}
+use Rattle.std.specs.Prelude.{◌≡◌, [], ◌∷◌, ℕ, pos, negsuc, replicate, Ok, Err}
+use Rattle.problem.specs.Answers.{Answer}
 use Rattle.problem.specs.Checks.{Posed}
 use Rattle.problem.specs.declared.Refusal.TheVariants.{Elimination, NoWholeNumbers, Seating}
-use Rattle.problem.specs.declared.Answer.{Answer}
-use Rattle.problem.specs.declared.Answer.TheVariants.{Fitted, Spent, Refused}
+use Rattle.problem.specs.declared.Verdict.TheVariants.{Fitted, Spent}
 use Rattle.engine.specs.Assign.{assign}
 use Rattle.report.specs.Listing.{counts_of}
 use Rattle.solve.specs.Cases.{problem, used, sum_and_difference, three_two, tied}
@@ -47,15 +47,19 @@ crossing_turned =
 
 pub record RoundCases : Type 0 where
   -- 2v = 2: a lone entry
-  pub lone : returned_by (problem 1 1 (pos 2 ∷ []) (pos 2 ∷ []) (pos 1 ∷ []) (pos 9 ∷ []) (pos 0 ∷ []) 10000) ≡ returns (Fitted (counts_of 0 0)) 1
+  pub lone :
+      returned_by (problem 1 1 (pos 2 ∷ []) (pos 2 ∷ []) (pos 1 ∷ []) (pos 9 ∷ []) (pos 0 ∷ []) 10000)
+      ≡ returns (Ok (Fitted (counts_of 0 0))) 1
   -- 3v1 = 2v2: 2, then 1, in the first column of the table, and 2 in the second
-  pub three_two_lem : returned_by three_two ≡ returns (Fitted (counts_of 0 1)) 3
+  pub three_two_lem : returned_by three_two ≡ returns (Ok (Fitted (counts_of 0 1))) 3
   -- v1 = v2: one for each column, whatever the limit is
-  pub fitted : returned_by (tied 10000) ≡ returns (Fitted (counts_of 4 0)) 2
-  pub spent : returned_by (tied 3) ≡ returns (Spent (counts_of 3 0)) 2
+  pub fitted : returned_by (tied 10000) ≡ returns (Ok (Fitted (counts_of 4 0))) 2
+  pub spent : returned_by (tied 3) ≡ returns (Ok (Spent (counts_of 3 0))) 2
   -- "A refusal returns 0 rounds.": 8, 9 and 7
-  pub none : returned_by sum_and_difference ≡ returns (Refused NoWholeNumbers) 0
-  pub far : returned_by chain_of_three ≡ returns (Refused Seating) 0
-  pub over : returned_by chain_of_five ≡ returns (Refused Elimination) 0
+  pub none : returned_by sum_and_difference ≡ returns (Err NoWholeNumbers) 0
+  pub far : returned_by chain_of_three ≡ returns (Err Seating) 0
+  pub over : returned_by chain_of_five ≡ returns (Err Elimination) 0
   -- "Restated problems may differ in rounds": the rows of the one in the other's order
-  pub restated : (returned_by crossing ≡ returns (Fitted (counts_of 0 0)) 3) × (returned_by crossing_turned ≡ returns (Fitted (counts_of 0 0)) 2)
+  pub restated :
+      (returned_by crossing ≡ returns (Ok (Fitted (counts_of 0 0))) 3)
+      × (returned_by crossing_turned ≡ returns (Ok (Fitted (counts_of 0 0))) 2)

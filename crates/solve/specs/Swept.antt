@@ -4,9 +4,8 @@
 --   VolumesSatisfied   so it is for every text that is read, with whatever step limit
 -- The theorem is `volumes_satisfied`, in proofs/Swept.
 -- Assumes nothing.
-use Rattle.std.specs.Prelude.{◌≡◌, ◌↔◌, List, [], ℕ, ℤ}
+use Rattle.std.specs.Prelude.{◌≡◌, ◌↔◌, List, [], ℕ, ℤ, Ok}
 use Rattle.engine.specs.Demand.{SatisfiesRows}
-use Rattle.sections.specs.Rules.{ok}
 use Rattle.volumes.specs.Sweeping.{Sweeps}
 use Rattle.deck.specs.Posing.{Deck, read_deck, columns_of, posed}
 
@@ -19,4 +18,4 @@ pub record Enlarged (limit : ℕ) (d : Deck) : Type 0 where
   pub rows : (x : List ℤ) → SatisfiesRows (posed limit d) x ↔ (SatisfiesRows (posed limit (unswept d)) x × Sweeps x d.volumes)
 
 abbrev pub VolumesSatisfied : Type 0
-VolumesSatisfied = (s : List ℕ) (d : Deck) (at limit : ℕ) → read_deck s ≡ ok d at → Enlarged limit d
+VolumesSatisfied = (s : List ℕ) (d : Deck) (at limit : ℕ) → read_deck s ≡ Ok (d, at) → Enlarged limit d

@@ -1,17 +1,18 @@
 #![tactic(auto)]
 
 // From a text to the listing's bytes. Each function has the arrays that it lends.
-ghost use Rattle.std.specs.Prelude.{◌≡◌, [], ◌≤◌};
+ghost use Rattle.std.specs.Prelude.{◌≡◌, ◌≤◌, true, length};
+ghost use Rattle.problem.specs.Checks.{posed};
 ghost use Rattle.sections.specs.Sections.{deck_columns, deck_rows};
-ghost use Rattle.engine.specs.Assign.{posed_by};
-ghost use Rattle.problem.specs.declared.Answer.TheVariants.{Refused};
-ghost use Rattle.report.specs.Listing.{listing, listing_done, placed_in};
-ghost use Rattle.solve.specs.Program.{program_limit, print_into, list_into};
+ghost use Rattle.report.specs.Listing.{listing_done, placed_in};
+ghost use Rattle.engine.specs.Assign.{assign, buffers};
+ghost use Rattle.deck.specs.Reader.{lengths_fit};
+ghost use Rattle.solve.specs.Program.{listed, print_into, list_into, lent_by, parts_of};
 
-use deck::{Reading, read_deck};
-use engine::assign;
-use problem::{Answer, Problem, Refusal};
-use report::{Written, write_listing};
+use deck::read_deck;
+use engine::{Buffers, assign};
+use problem::{Lists, ListsMut, Problem};
+use report::{WriteError, write_listing};
 use sections::Sizes;
 
 // The step limit of the listing program.
@@ -20,69 +21,68 @@ const LIMIT: u32 = 10000;
 // The numbers of the largest tableau: 4,608.
 const TABLEAU: usize = Sizes::COLUMNS * (Sizes::ROWS + Sizes::COLUMNS);
 
-// A problem with the program's step limit.
-fn program_problem(n: usize, m: usize) -> Problem
-    ensures { result ≡ record { columns = n; rows = m; limit = program_limit } }
+// Assigns a problem in lent buffers and lists the answer. They are parameters of their own: of what is lent within a struct a proof knows what the
+// call left only where whole parameters stand in it, and not parts of arrays.
+fn list_in(
+    p: Problem,
+    lists: Lists<'_>,
+    tableau: &mut [i64],
+    values: &mut [i64],
+    strides: &mut [u64],
+    out: &mut [u8],
+) -> Result<usize, WriteError>
+    requires { length values.old ≡ length strides.old }
+    ensures { listing_done result out.new ≡ placed_in out.old (listed (assign (posed p lists.entry) (buffers tableau.old values.old strides.old))) }
 {
-    Problem {
-        columns: n,
-        rows: m,
-        limit: LIMIT,
-    }
+    let lent = Buffers {
+        tableau,
+        values: &mut *values,
+        strides: &mut *strides,
+    };
+    let answer = assign(p, lists, lent).map(|x| x.verdict);
+    write_listing(out, answer, values, strides)
 }
 
 // Assigns a problem in buffers of its own, which hold 0, and lists the answer.
-fn list_assigned(
-    p: Problem,
-    coefficients: &[i64],
-    rights: &[i64],
-    lower: &[i64],
-    upper: &[i64],
-    low: &[i64],
-    high: &[i64],
-    given: &[i64],
-    ideals: &[i64],
-    out: &mut [u8],
-) -> Written
+fn list_assigned(p: Problem, lists: Lists<'_>, out: &mut [u8]) -> Result<usize, WriteError>
     requires { (p.columns ≤ deck_columns) × (p.rows ≤ deck_rows) }
-    ensures { listing_done result out.new ≡ list_into out.old
-        (posed_by p coefficients.now rights.now lower.now upper.now
-        low.now high.now given.now ideals.now) }
+    ensures { listing_done result out.new ≡ list_into out.old (posed p lists.entry) }
 {
     let mut tableau = [0i64; TABLEAU];
     let mut values = [0i64; Sizes::COLUMNS];
     let mut strides = [0u64; Sizes::COLUMNS];
     let n = p.columns;
     let room = n * (p.rows + n);
-    let reply = assign(
+    list_in(
         p,
-        coefficients,
-        rights,
-        lower,
-        upper,
-        low,
-        high,
-        given,
-        ideals,
+        lists,
         &mut tableau[..room],
         &mut values[..n],
         &mut strides[..n],
-    );
-    let answer = reply.answer;
-    write_listing(out, answer, &values[..n], &strides[..n])
+        out,
+    )
 }
 
-// Lists why a text is turned back: no column.
-fn list_refused(why: Refusal, out: &mut [u8]) -> Written
-    ensures { listing_done result out.new ≡ placed_in out.old (listing (Refused why) [] []) }
+// Of the reader's lists the parts that a problem of these sizes has.
+fn parts(p: Problem, lists: Lists<'_>) -> Lists<'_>
+    requires sizes { (p.columns ≤ deck_columns) × (p.rows ≤ deck_rows) }
+    requires long { lengths_fit (lent_by lists) ≡ true }
+    ensures { posed p result ≡ parts_of p (lent_by lists.entry) }
 {
-    let values = [0i64; 1];
-    let strides = [0u64; 1];
-    write_listing(out, Answer::Refused(why), &values, &strides)
+    Lists {
+        coefficients: &lists.coefficients[..p.rows * p.columns],
+        rights: &lists.rights[..p.rows],
+        lower: &lists.lower[..p.columns],
+        upper: &lists.upper[..p.columns],
+        low: &lists.low[..p.columns],
+        high: &lists.high[..p.columns],
+        given: &lists.given[..p.columns],
+        ideals: &lists.ideals[..p.columns],
+    }
 }
 
 // Puts the listing of a text at the front of a buffer.
-pub fn list_text(text: &[u8], out: &mut [u8]) -> Written
+pub fn list_text(text: &[u8], out: &mut [u8]) -> Result<usize, WriteError>
     ensures { listing_done result out.new ≡ print_into out.old text.now }
 {
     let mut coefficients = [0i64; Sizes::COEFFICIENTS];
@@ -93,34 +93,34 @@ pub fn list_text(text: &[u8], out: &mut [u8]) -> Written
     let mut high = [0i64; Sizes::COLUMNS];
     let mut given = [0i64; Sizes::COLUMNS];
     let mut ideals = [0i64; Sizes::COLUMNS];
-    let reading = read_deck(
-        text,
-        &mut coefficients,
-        &mut rights,
-        &mut lower,
-        &mut upper,
-        &mut low,
-        &mut high,
-        &mut given,
-        &mut ideals,
-    );
-    match reading {
-        Reading::Refused(why) => list_refused(why, out),
-        Reading::Read(n, m, _) => {
-            let p = program_problem(n, m);
-            let size = m * n;
-            list_assigned(
-                p,
-                &coefficients[..size],
-                &rights[..m],
-                &lower[..n],
-                &upper[..n],
-                &low[..n],
-                &high[..n],
-                &given[..n],
-                &ideals[..n],
-                out,
-            )
-        }
-    }
+    let lent = &mut ListsMut {
+        coefficients: &mut coefficients,
+        rights: &mut rights,
+        lower: &mut lower,
+        upper: &mut upper,
+        low: &mut low,
+        high: &mut high,
+        given: &mut given,
+        ideals: &mut ideals,
+    };
+    let shape = match read_deck(text, lent) {
+        Ok(shape) => shape,
+        Err(why) => return write_listing(out, Err(why), &[], &[]),
+    };
+    let p = Problem {
+        columns: shape.columns,
+        rows: shape.rows,
+        limit: LIMIT,
+    };
+    let lists = Lists {
+        coefficients: &coefficients,
+        rights: &rights,
+        lower: &lower,
+        upper: &upper,
+        low: &low,
+        high: &high,
+        given: &given,
+        ideals: &ideals,
+    };
+    list_assigned(p, parts(p, lists), out)
 }

@@ -1,70 +1,36 @@
 -- Laws of the choice of a row.
---   sighted_none, -some   the choice that the code holds, by its count
---   below_first, -taken, -left   an entry below rows, by the tests that the code makes: the first one, a smaller one, another
---   counted_up     and the count then
 --   no_rows        no rows
 --   next_row       one row more, at the code's numbers
 --   chosen_size    the size that it holds is that of the choice
+--   Looking        the loop that looks for the choice; by look_starts, -on and -ends, at first, after a row, and past the last one
+--   chosen_rows    the rows of a list, by their number
 --   few            there are no more entries other than 0 than rows
 -- Assumes nothing.
-use mathlib.Core.Path.{◌≡◌, refl, sym, ◌∙◌, ap, ap₂}
+use mathlib.Core.Path.{◌≡◌, refl, sym, ◌∙◌, ap, ap₂, subst}
 use mathlib.Core.Bool.{Bool, true, false, cond}
 use mathlib.Core.List.{List, [], ◌∷◌, ◌++◌}
-use Prim.Native.Nat.{ℕ, zero, suc, ◌+◌, ◌*◌, ◌<◌, ◌≤◌}
+use Prim.Native.Nat.{ℕ, zero, suc, ◌+◌, ◌-◌, ◌*◌, ◌/◌, ◌<◌, ◌≤◌}
+use native.Mathlib.Nat.{zero-mul, suc-mul, le-div_iff_mul-le, div-lt_iff_lt-mul, mul-div_cancel}
+use native.Mathlib.Numerals.{add-one}
 use native.Mathlib.Omega.{arith}
-use borrow.Author.Tests.{ltb-true, ltb-false, leb-true, leb-false, lt-ltb, le-ltb, le-leb, lt-leb}
+use lib.Seq.{take_at, drop_at, drop-drop}
+use borrow.Author.Tests.{ltb-true, ltb-false, leb-true, leb-false, le-ltb, le-leb, lt-leb}
 use lib.Dec.{ltb, leb}
 use lib.IntN.{ℤ, nat_abs}
-use lib.ListN.{length, take, drop}
+use lib.ListN.{length, take, drop, length-append, length-drop}
 use Rattle.whole.specs.Lists.{entry}
 use Rattle.lattice.specs.Rows.{chop}
 use Rattle.lattice.proofs.FlatLaws.{chop_split, chop_next, row_number, length_chop}
 use Rattle.tableau.specs.Elimination.{Choice, none, at, shifted, prefer, choose}
-use Rattle.tableau.specs.Choices.{sighted, choice_of, below, counted, nonzeros, Chooses}
+use Rattle.std.specs.Prelude.{Option, Some, None}
+use Rattle.tableau.specs.Choices.{choice_of, count_of, below, counted, nonzeros, Chooses}
 use Rattle.tableau.specs.Tails.{Picked}
 use Rattle.tableau.specs.declared.gathering.Choice as code
 
-pub sighted_none : {n : ℕ} (j p : ℕ) → n ≡ 0 → sighted n j p ≡ none
-sighted_none j p e = ap (λ (n : ℕ). sighted n j p) e
-
-pub sighted_some : (n j p : ℕ) → (n ≡ 0 → ⊥) → sighted n j p ≡ at j p
-sighted_some zero j p e = absurd (e refl)
-sighted_some (suc n) j p e = refl
-
-sighted_size : (n j p i q : ℕ) → sighted n j p ≡ at i q → p ≡ q
-sighted_size zero j p i q e = let z : ◌≡◌ {A = ℕ} 0 1 = cc in absurd (omega arith)
-sighted_size (suc n) j p i q e = cc
-
-pub chosen_size : {k w c i : ℕ} {t : List ℤ} {z : code.Choice} (g : Picked k w c t i) → Chooses c (chop k w t) z → z.size ≡ g.size
+pub chosen_size : {k w c i : ℕ} {t : List ℤ} {z : code.Choice} (g : Picked k w c t i) → Chooses c (chop k w t) (Some z)
+    → z.size ≡ g.size
 chosen_size {k} {w} {c} {i} {t} {z} g h =
-    sighted_size z.count z.row z.size i g.size (h.is ∙ ap (choose c) (chop_next k w t g.some) ∙ g.is.choice)
-
--- ---- an entry below
-pub counted_up : (n k : ℕ) → (k ≡ 0 → ⊥) → n + 1 ≡ n + counted k
-counted_up n zero e = absurd (e refl)
-counted_up n (suc k) e = refl
-
-some_more : (n j p : ℕ) → sighted (n + 1) j p ≡ at j p
-some_more n j p = sighted_some (n + 1) j p (λ e. omega (arith, e))
-
-first_below : (i k : ℕ) → (k ≡ 0 → ⊥) → below none i k ≡ at i k
-first_below i zero e = absurd (e refl)
-first_below i (suc k) e = refl
-
-pub below_taken : (n j p i k : ℕ) → (k ≡ 0 → ⊥) → k < p → sighted (n + 1) i k ≡ below (sighted n j p) i k
-below_taken zero j p i k e h = some_more zero i k ∙ sym (first_below i k e)
-below_taken (suc n) j p i zero e h = absurd (e refl)
-below_taken (suc n) j p i (suc k) e h = some_more (suc n) i (suc k) ∙ rw (lt-ltb (suc k) p h)
-
-pub below_first : (n j p i k : ℕ) → (k ≡ 0 → ⊥) → n ≡ 0 → sighted (n + 1) i k ≡ below (sighted n j p) i k
-below_first n j p i k e h = some_more n i k ∙ sym (ap (λ (z : Choice). below z i k) (sighted_none j p h) ∙ first_below i k e)
-
-pub below_left : (n j p i k : ℕ) → (n ≡ 0 → ⊥) → p ≤ k → sighted (n + 1) j p ≡ below (sighted n j p) i k
-below_left n j p i k e h = some_more n j p ∙ sym (ap (λ (z : Choice). below z i k) (sighted_some n j p e) ∙ go k h)
-  where
-    go : (k : ℕ) → p ≤ k → below (at j p) i k ≡ at j p
-    go zero l = refl
-    go (suc k) l = rw (le-ltb (suc k) p l)
+    let e : at z.row z.size ≡ at i g.size = h.is ∙ ap (choose c) (chop_next k w t g.some) ∙ g.is.choice in cc
 
 -- ---- rows from the first on
 above_below : (m k n : ℕ) → prefer (suc m) (at n (suc k)) ≡ below (at 0 (suc m)) (suc n) (suc k)
@@ -121,15 +87,22 @@ few c (r ∷ B) = omega (arith, few c B, most (nat_abs (entry c r)))
     most zero = omega arith
     most (suc k) = omega arith
 
-pub no_rows : (c w j p : ℕ) (t : List ℤ) → Chooses c (chop 0 w t) (record { row = j; size = p; count = 0 })
+pub no_rows : (c w : ℕ) (t : List ℤ) → Chooses c (chop 0 w t) None
 unfolding choose nonzeros
-no_rows c w j p t = record { is = refl; count = refl }
+no_rows c w t = record { is = refl; count = refl }
 
 rows_next : (i w : ℕ) (t : List ℤ) → chop (i + 1) w t ≡ chop i w t ++ (take w (drop (i * w) t) ∷ [])
 rows_next i w t = chop_split i 1 w t ∙ ap (λ (X : List (List ℤ)). chop i w t ++ X) (chop_next 1 w (drop (i * w) t) (omega arith))
 
-pub next_row : (c w i : ℕ) (t : List ℤ) {z y : code.Choice} (k : ℕ) → c < w → Chooses c (chop i w t) z → k ≡ nat_abs (entry (i * w + c) t)
-    → (choice_of y ≡ below (choice_of z) i k) × (y.count ≡ z.count + counted k) → Chooses c (chop (i + 1) w t) y
+-- ---- the rows taken from the front of the list, one after the other: i of them, and the rest
+pub record Looking (t : List ℤ) (w c : ℕ) (z : Option code.Choice) (rest : List ℤ) (size i : ℕ) : Type 0 where
+  pub wide : size ≡ w
+  pub is : rest ≡ drop (i * w) t
+  pub room : i * w ≤ length t
+  pub chooses : Chooses c (chop i w t) z
+
+pub next_row : (c w i : ℕ) (t : List ℤ) {z y : Option code.Choice} (k : ℕ) → c < w → Chooses c (chop i w t) z → k ≡ nat_abs (entry (i * w + c) t)
+    → (choice_of y ≡ below (choice_of z) i k) × (count_of y ≡ count_of z + counted k) → Chooses c (chop (i + 1) w t) y
 next_row c w i t {z} {y} k h a e b =
     let n : nat_abs (entry c (take w (drop (i * w) t))) ≡ k = ap nat_abs (row_number w i c t h) ∙ sym e in
     record {
@@ -143,3 +116,38 @@ next_row c w i t {z} {y} k h a e b =
           ∙ ap₂ (λ (x m : ℕ). x + counted m) a.count (sym n)
           ∙ sym (ap (nonzeros c) (rows_next i w t) ∙ last_count c (chop i w t) (take w (drop (i * w) t)));
     }
+
+pub look_starts : (t : List ℤ) (w c : ℕ) → Looking t w c None t w 0
+look_starts t w c = record { wide = refl; is = rw zero-mul refl; room = rw zero-mul (omega arith); chooses = no_rows c w t }
+
+pub look_on : {t rest : List ℤ} {w c size size' i : ℕ} {z y : Option code.Choice} (x rest' : List ℤ) (k : ℕ) → Looking t w c z rest size i
+    → rest ≡ x ++ rest' → length x ≡ size → size' ≡ size → c < w → k ≡ nat_abs (entry c x)
+    → (choice_of y ≡ below (choice_of z) i k) × (count_of y ≡ count_of z + counted k) → Looking t w c y rest' size' (i + 1)
+look_on {t} {rest} {w} {c} {size} {size'} {i} x rest' k v e l s h f b =
+    let wide : length x ≡ w = l ∙ v.wide in
+    let next : (i + 1) * w ≡ i * w + w = rw (add-one) (omega (arith, suc-mul i w)) in
+    let same : x ++ rest' ≡ drop (i * w) t = sym e ∙ v.is in
+    let row : x ≡ take w (drop (i * w) t) = sym (take_at x rest' w wide) ∙ ap (take w) same in
+    record {
+      wide = s ∙ v.wide;
+      is = rw next (sym (drop_at x rest' w wide) ∙ ap (drop w) same ∙ drop-drop w (i * w) t);
+      room = rw next (omega (arith, ap length same, length-append x rest', length-drop (i * w) t, wide, v.room));
+      chooses = next_row c w i t k h v.chooses (f ∙ ap (λ (r : List ℤ). nat_abs (entry c r)) row ∙ ap nat_abs (row_number w i c t h)) b;
+    }
+
+pub look_ends : {t rest : List ℤ} {w c size i : ℕ} {z : Option code.Choice} → Looking t w c z rest size i → c < w → length rest < size
+    → Chooses c (chop (length t / w) w t) z
+look_ends {t} {rest} {w} {c} {size} {i} {z} v h l =
+    let r : length rest ≡ length t - i * w = ap length v.is ∙ length-drop (i * w) t in
+    let p : 0 < w = omega arith in
+    let n : (i + 1) * w ≡ i * w + w = rw (add-one) (omega (arith, suc-mul i w)) in
+    let a : i ≤ length t / w = (le-div_iff_mul-le p).1 v.room in
+    let b : length t / w < i + 1 = (div-lt_iff_lt-mul p).1 (omega (arith, v.wide, v.room)) in
+    let e : i ≡ length t / w = omega arith in
+    subst (λ (n : ℕ). Chooses c (chop n w t) z) e v.chooses
+
+pub chosen_rows : {c w : ℕ} {z : Option code.Choice} (m : ℕ) (u : List ℤ) → length u ≡ m * w → c < w → Chooses c (chop (length u / w) w u) z
+    → Chooses c (chop m w u) z
+chosen_rows {c} {w} {z} m u l h v =
+    let p : 0 < w = omega arith in
+    subst (λ (n : ℕ). Chooses c (chop n w u) z) (ap (λ (n : ℕ). n / w) l ∙ mul-div_cancel m p) v

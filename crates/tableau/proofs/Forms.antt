@@ -1,10 +1,9 @@
 -- Laws of the form of a problem, as it lies in the lent buffer.
 --   span_within    numbers within a limit no larger than M; coefficients-within, the rows of a matrix of coefficients
---   form_outcome   what elimination of the filled table answers and leaves is the form's
+--   form_value, form_left   what elimination of the filled table answers and leaves is the form's
 --   Formed         what stands in the tableau's buffer then: the form's rows, each with a lead above 0, within ±M
 --   formed         so it is, where no number beyond ±M was met
 --   form_over, form_kept   what the buffer holds, by the mark
---   outcome_by     the outcome of steps, from an answer and what it says of the buffer
 -- Assumes nothing.
 use mathlib.Core.Path.{◌≡◌, refl, sym, ◌∙◌, ap, ap₂, subst}
 use mathlib.Core.Bool.{Bool, true, false, cond}
@@ -33,10 +32,9 @@ use Rattle.tableau.specs.Elimination.{Run, eliminate}
 use Rattle.tableau.specs.RightSide.{form}
 use Rattle.tableau.proofs.TableLaws.{tableau_count, tableau_length}
 use Rattle.tableau.proofs.Theorems.{problem_form, problem_count, problem_wide}
-use Rattle.tableau.specs.RowSteps.{Leads}
-use Rattle.tableau.specs.LentTable.{Formable, matrix_of, form_of, form_after, tally_of, Outcome, outcome, eliminated_of, rounds_in}
-use Rattle.tableau.specs.RoundCount.{rounds, form_rounds, refused_none}
-use Rattle.tableau.specs.declared.Tally.{Tally}
+use Rattle.tableau.specs.RowSteps.{unless, Leads}
+use Rattle.tableau.specs.LentTable.{Formable, matrix_of, form_of, form_after, form_answer, eliminated_of, rounds_in}
+use Rattle.tableau.specs.RoundCount.{rounds, form_rounds}
 use Rattle.tableau.proofs.Staying.{flat_all, all_flat, eliminate_all}
 use Rattle.tableau.proofs.Tableaus.{tableau_within}
 
@@ -57,12 +55,6 @@ hermite_leads : (H : Echelon) → Hermite H → All Leads (rows H)
 hermite_leads H h = all_map (Led (width H)) Leads (λ r l. l.above) (rows H) (rows_led H h)
 
 -- ---- the form
-abbrev by_length : Run → ℕ → ℕ → Outcome
-by_length x k i = record { tally = tally_of x k; left = cond x.over (zeros i) (flat x.table) }
-
-abbrev told : Tally → List ℤ → Outcome
-told r u = record { tally = r; left = u }
-
 pub record Formed (p : Problem) (F : Run) (t : List ℤ) : Type 0 where
   pub rows : chop p.columns (p.rows + p.columns) t ≡ F.table
   pub leads : All Leads (chop p.columns (p.rows + p.columns) t)
@@ -98,11 +90,18 @@ module _ {p : Problem} {t a : List ℤ} (h : Formable p t a) where
   unfolding form_rounds
   rounds_is = ap (λ (i : ℕ). rounds (i + n) (tableau n A)) (sym count)
 
-  pub form_outcome : {u : List ℤ} → u ≡ flat (tableau n A) → length u ≡ length t
-      → outcome (eliminated_of n w u) (rounds_in n w u) u ≡ outcome (form_of p a) (form_rounds n A) t
-  form_outcome {u} e l =
-      let T : chop n w u ≡ tableau n A = ap (chop n w) e ∙ table_rows in
-      λ i. by_length ((ap (eliminate w) T ∙ form_is) i) ((ap (rounds w) T ∙ rounds_is) i) (l i)
+  module _ {u : List ℤ} (e : u ≡ flat (tableau n A)) where
+    rows_are : chop n w u ≡ tableau n A
+    rows_are = ap (chop n w) e ∙ table_rows
+
+    run_is : eliminated_of n w u ≡ form_of p a
+    run_is = ap (eliminate w) rows_are ∙ form_is
+
+    pub form_value : unless (eliminated_of n w u).over (rounds_in n w u) ≡ form_answer p a
+    form_value = ap₂ (λ (x : Run) (k : ℕ). unless x.over k) run_is (ap (rounds w) rows_are ∙ rounds_is)
+
+    pub form_left : length u ≡ length t → form_after (eliminated_of n w u) u ≡ form_after (form_of p a) t
+    form_left l = simp (run_is, l)
 
   form_rows : (form_of p a).table ≡ rows (problem_form n A).form
   unfolding form
@@ -126,12 +125,6 @@ module _ {p : Problem} {t a : List ℤ} (h : Formable p t a) where
       }
 
 -- ---- the buffer
-pub outcome_by : (x : Run) (k : ℕ) (t : List ℤ) {r : Tally} {u : List ℤ} → r.over ≡ x.over → r.rounds ≡ refused_none r.over k
-    → u ≡ cond r.over (zeros (length t)) (flat x.table) → told r u ≡ outcome x k t
-outcome_by x k t e c f =
-    ap₂ told (λ i. record { over = e i; rounds = (c ∙ ap (λ (o : Bool). refused_none o k) e) i })
-    (f ∙ ap (λ (o : Bool). cond o (zeros (length t)) (flat x.table)) e)
-
 pub form_over : (p : Problem) (a t : List ℤ) → (form_of p a).over ≡ true → form_after (form_of p a) t ≡ zeros (length t)
 form_over p a t e = ap (λ (o : Bool). cond o (zeros (length t)) (flat (form_of p a).table)) e
 

@@ -1,5 +1,8 @@
 -- The root of the laws that the proofs cite.
 pub mod Bits
+pub mod Machine
+pub mod Written
+pub mod Told
 pub mod Stepping
 pub mod Walking
 pub mod Choosing
@@ -9,6 +12,7 @@ pub mod Turns
 pub mod Lone
 pub mod Staying
 pub mod Passing
+pub mod Columns
 pub mod Counting
 pub mod Tableaus
 pub mod Forms

@@ -4,6 +4,7 @@
 -- Assumes nothing.
 use mathlib.Core.Path.{◌≡◌, refl, sym, ◌∙◌, ap, ap₂, subst}
 use mathlib.Core.Bool.{false, ◌||◌}
+use Rattle.std.specs.Prelude.{Ok}
 use mathlib.Core.List.{List, [], ◌∷◌, ◌++◌}
 use Prim.Native.Nat.{ℕ, zero, suc, ◌+◌, ◌*◌, ◌-◌, ◌<◌}
 use native.Mathlib.Omega.{arith}
@@ -103,11 +104,10 @@ module _ {k w c j : ℕ} {t p u : List ℤ} (h : Tail k w c t) (g : Picked k w c
   pub lone_round : gathering_rounds_of k w c t ≡ 1
   lone_round = finished_rounds h g none_below
 
-  pub lone_stops : Gathers (gathering_of k w c t) false u p
+  pub lone_stops : Gathers {A = ℕ} (gathering_of k w c t) (Ok 1) u p
   lone_stops =
-      subst (λ (y : Gathered). Gathers y false u p)
-      (sym (finished h g none_below ∙ round_here)) (record {
-        answer = refl;
-        left = λ _. l.tail ∙ ap₂ (λ (x y : List ℤ). x ++ y) l.pivot (sym (flat_chop (k - 1) w (drop w (lower_first w j t)) (below_wide h g)));
-        row = λ _. l.pivot;
-      })
+      subst (λ (y : Gathered). Gathers {A = ℕ} y (Ok 1) u p)
+      (sym (finished h g none_below ∙ round_here)) (
+        refl,
+        (l.tail ∙ ap₂ (λ (x y : List ℤ). x ++ y) l.pivot (sym (flat_chop (k - 1) w (drop w (lower_first w j t)) (below_wide h g))), l.pivot),
+      )

@@ -7,7 +7,7 @@
 --   skipped_on     and so it does past a column with no choice
 --   starts, starts_all   the first column
 --   picked_of      a choice in the tail
---   ends_columns, -rows   no column or no row left
+--   ends_columns   no column left
 -- Assumes nothing.
 use mathlib.Core.Path.{◌≡◌, refl, sym, ◌∙◌, ap, ap₂, subst}
 use mathlib.Core.Bool.{Bool, true, false, ◌||◌}
@@ -36,6 +36,8 @@ use Rattle.tableau.proofs.Within.{within_append, within_take, within_drop}
 use Rattle.tableau.specs.RowSteps.{StopsRun, each_of, Pivot}
 use Rattle.tableau.specs.Tails.{Tail, Picked, gathering_of}
 use Rattle.tableau.specs.ColumnPass.{Standing, above_of, below_of, passed_of, rejoined}
+use Rattle.std.specs.Prelude.{Result, Ok, Err}
+use Rattle.tableau.specs.declared.Beyond.{Beyond}
 use Rattle.tableau.specs.declared.rows.Way.TheVariants.{Above}
 use Rattle.tableau.proofs.Walking.{stepping, each_wide, each_count}
 use Rattle.tableau.proofs.Staying.{flat_all, all_flat, each_all, gather_all}
@@ -72,11 +74,6 @@ module _ (d c : ℕ) (A B : List (List ℤ)) where
 columns_end : (d c : ℕ) (A B : List (List ℤ)) → d ≡ 0 → pass_columns d c A B ≡ record { table = A ++ B; over = false }
 unfolding pass_columns_by
 columns_end d c A B e = rw e
-
-columns_none : (d c : ℕ) (A : List (List ℤ)) → pass_columns d c A [] ≡ record { table = A ++ []; over = false }
-unfolding pass_columns_by pass_column_by choose
-columns_none zero c A = refl
-columns_none (suc d) c A = columns_none d (suc c) A
 
 -- ---- the rows that are not done
 split : (n k w : ℕ) → k ≤ n → n * w ≡ k * w + (n - k) * w
@@ -151,6 +148,9 @@ module _ {n w c k j : ℕ} {t : List ℤ} (h : Standing n w c k t) (l : c < w) (
       ∙ ap flat (append_assoc A.table (G.pivot ∷ []) G.below)
       ∙ flat_append A.table (G.pivot ∷ G.below)
 
+  over_is : G.over ≡ false → (passed_of n w c k t).over ≡ A.over
+  over_is o = ap (λ (x : Passed). x.over) passed_is ∙ ap (λ (b : Bool). b || A.over) o
+
   -- the rows above, as the code takes them
   above_is : {p : List ℤ} → p ≡ G.pivot → each_of Above c p k (take (k * w) t) ≡ A
   above_is {p} e =
@@ -158,15 +158,13 @@ module _ {n w c k j : ℕ} {t : List ℤ} (h : Standing n w c k t) (l : c < w) (
       ∙ ap (each (reduced c G.pivot))
       (ap (λ (m : ℕ). chop k m (take (k * w) t)) rows_of.wide.0 ∙ chop_take k w (k * w) t (le_refl (k * w)))
 
-  pub passed_stops : {p v u : List ℤ} {r : Bool} → G.over ≡ false → p ≡ G.pivot → u ≡ flat (G.pivot ∷ G.below)
+  pub passed_stops : (p v u : List ℤ) (r : Result (Unit {0}) Beyond) → G.over ≡ false → p ≡ G.pivot → u ≡ flat (G.pivot ∷ G.below)
       → StopsRun (each_of Above c p k (take (k * w) t)) r v → StopsRun (rejoined (passed_of n w c k t)) r (v ++ u)
-  passed_stops o e f s = record {
-    answer =
-        s.answer
-        ∙ ap (λ (x : Run). x.over) (above_is e)
-        ∙ sym (ap (λ (x : Passed). x.over) passed_is ∙ ap (λ (b : Bool). b || A.over) o);
-    left = λ q. ap₂ (λ (x y : List ℤ). x ++ y) (s.left q ∙ ap (λ (x : Run). flat x.table) (above_is e)) f ∙ sym table_is;
-  }
+  passed_stops p v u (Ok a) o e f s = (
+    over_is o ∙ ap (λ (x : Run). x.over) (sym (above_is e)) ∙ s.0,
+    ap₂ (λ (x y : List ℤ). x ++ y) (s.1 ∙ ap (λ (x : Run). flat x.table) (above_is e)) f ∙ sym table_is,
+  )
+  passed_stops p v u (Err a) o e f s = over_is o ∙ ap (λ (x : Run). x.over) (sym (above_is e)) ∙ s
 
   -- ---- the table then
   module _ {u : List ℤ} (o : (passed_of n w c k t).over ≡ false) (s : u ≡ flat (rejoined (passed_of n w c k t)).table) (m : length u ≡ length t) where
@@ -286,17 +284,8 @@ whole {n} {w} {c} {k} {t} h =
 -- where the columns left change nothing more
 module _ {n w c k : ℕ} {t : List ℤ} {E : Run} (d : ℕ) (h : Standing n w c k t) (r : pass_columns d c (above_of w k t) (below_of n w k t) ≡ E) where
   stop : pass_columns d c (above_of w k t) (below_of n w k t) ≡ record { table = above_of w k t ++ below_of n w k t; over = false }
-      → StopsRun E false t
-  stop e = record {
-    answer = ap (λ (x : Run). x.over) (sym e ∙ r);
-    left = λ _. sym (whole h) ∙ ap (λ (x : Run). flat x.table) (sym e ∙ r);
-  }
+      → (E.over ≡ false) × (t ≡ flat E.table)
+  stop e = (ap (λ (x : Run). x.over) (sym r ∙ e), sym (whole h) ∙ ap (λ (x : Run). flat x.table) (sym e ∙ r))
 
-  pub ends_columns : d ≡ 0 → StopsRun E false t
+  pub ends_columns : d ≡ 0 → (E.over ≡ false) × (t ≡ flat E.table)
   ends_columns e = stop (columns_end d c (above_of w k t) (below_of n w k t) e)
-
-  pub ends_rows : k ≡ n → StopsRun E false t
-  ends_rows e = stop (rw (nothing) (columns_none d c (above_of w k t)))
-    where
-      nothing : below_of n w k t ≡ []
-      nothing = let z : n - k ≡ 0 = omega arith in rw z

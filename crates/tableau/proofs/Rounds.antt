@@ -8,7 +8,7 @@
 --   round_stops   and what it answers and leaves once it has taken the pivot from the lower rows
 -- Assumes nothing.
 use mathlib.Core.Path.{◌≡◌, refl, sym, ◌∙◌, ap, ap₂, subst}
-use mathlib.Core.Bool.{Bool}
+use Rattle.std.specs.Prelude.{Result, Ok, Err}
 use mathlib.Core.List.{List, [], ◌∷◌, ◌++◌}
 use Prim.Native.Nat.{ℕ, zero, suc, ◌+◌, ◌*◌, ◌-◌, ◌<◌, ◌≤◌}
 use native.Mathlib.Nat.{zero-mul, suc-mul}
@@ -32,6 +32,7 @@ use Rattle.tableau.specs.Within.{Within}
 use Rattle.tableau.proofs.Within.{within_take, within_drop, within_append}
 use Rattle.tableau.specs.RowSteps.{StopsRun, each_of, Pivot}
 use Rattle.tableau.specs.Tails.{Tail, Picked, lower_first, lifted_row, Lifted, Gathers, round_of}
+use Rattle.tableau.specs.declared.Beyond.{Beyond}
 use Rattle.tableau.specs.declared.rows.Way.TheVariants.{Below}
 use Rattle.tableau.proofs.Lifting.{lowered_first, lowered_next}
 use Rattle.tableau.proofs.Staying.{signed_all}
@@ -164,10 +165,14 @@ module _ {k w c j : ℕ} {t p u : List ℤ} (h : Tail k w c t) (g : Picked k w c
       ∙ ap₂ (λ (r : List ℤ) (B : List (List ℤ)). clear c r B) (sym l.pivot)
       (ap₂ (λ (n : ℕ) (v : List ℤ). chop (k - 1) n v) (sym pivot_wide) (sym below_is))
 
-  pub round_stops : (b : Bool) (v : List ℤ) → StopsRun (each_of Below c p (k - 1) (drop w u)) b v → Gathers (round_of k w c t) b (take w u ++ v) p
+  pub round_stops : (b : Result (Unit {0}) Beyond) (v : List ℤ) → StopsRun (each_of Below c p (k - 1) (drop w u)) b v
+      → Gathers (round_of k w c t) b (take w u ++ v) p
   unfolding clear_by
-  round_stops b v s = record {
-    answer = s.answer ∙ ap (λ (x : Gathered). x.over) (sym same_rows);
-    left = λ e. ap₂ (λ (x y : List ℤ). x ++ y) top_is (s.left e) ∙ ap (λ (x : Gathered). flat (x.pivot ∷ x.below)) (sym same_rows);
-    row = λ e. ap (λ (x : Gathered). x.pivot) (sym same_rows);
-  }
+  round_stops (Ok a) v s = (
+    ap (λ (x : Gathered). x.over) same_rows ∙ s.0,
+    (
+      ap₂ (λ (x y : List ℤ). x ++ y) top_is s.1 ∙ ap (λ (x : Gathered). flat (x.pivot ∷ x.below)) (sym same_rows),
+      ap (λ (x : Gathered). x.pivot) (sym same_rows),
+    ),
+  )
+  round_stops (Err e) v s = ap (λ (x : Gathered). x.over) same_rows ∙ s

@@ -1,24 +1,22 @@
 -- Laws of a row's step by a pivot.
 --   inside            the pivot's column lies in the row
 --   quotient_small    the quotient is no larger than the entry
---   quotient_one      by 1 it is the entry
 --   step_none         a row with a 0 there stays
 --   step_idle         so does a row whose quotient is 0
 --   step_parts        else the subtraction changes only the numbers from the pivot's column on
---   left_by           what the row's buffer holds then, by the mark
 -- Assumes nothing.
 use mathlib.Core.Path.{◌≡◌, refl, sym, ◌∙◌, ap, ap₂}
-use mathlib.Core.Bool.{Bool, true, false, cond, ◌||◌}
+use mathlib.Core.Bool.{Bool, true, false, ◌||◌}
 use mathlib.Core.List.{List, [], ◌∷◌, ◌++◌}
 use Prim.Native.Nat.{ℕ, zero, suc, ◌<◌, ◌≤◌}
-use native.Mathlib.Nat.{zero-div, div-one}
+use native.Mathlib.Nat.{zero-div}
 use native.Mathlib.Omega.{arith}
 use borrow.Author.Tests.{ltb-true, ltb-false, eq-eqb, ne_eqb}
 use lib.Dec.{ltb}
-use lib.IntN.{ℤ, pos, negsuc, neg_ℤ, nat_abs}
+use lib.IntN.{ℤ, pos, neg_ℤ, nat_abs}
 use lib.ListN.{length, take, drop, take-append-drop, get_or-eq_default}
-use Rattle.whole.specs.Lists.{entry, zeros}
-use Rattle.whole.specs.Quotient.{floor_quotient, nearest_quotient}
+use Rattle.whole.specs.Lists.{entry}
+use Rattle.whole.specs.Quotient.{floor_quotient}
 use Rattle.whole.specs.Tests.{positive, Positive}
 use Rattle.whole.proofs.Integers.{positive_nonzero, nat_abs_zero, floor_quotient_left, add_none}
 use Rattle.whole.proofs.Nearest as Nearest
@@ -30,7 +28,9 @@ use Rattle.tableau.specs.Within.{Within}
 use Rattle.tableau.specs.Elimination.{lowered_by}
 use Rattle.tableau.specs.Elimination.{Left, subtract, kept, reduced}
 use Rattle.tableau.proofs.Within.{within_take, beyond_append}
-use Rattle.tableau.specs.RowSteps.{Stops, quotient_of, row_step, Pivot, left_after}
+use Rattle.std.specs.Prelude.{Result, Ok, Err}
+use Rattle.tableau.specs.RowSteps.{StopsRow, quotient_of, row_step, Pivot}
+use Rattle.tableau.specs.declared.Beyond.{Beyond}
 use Rattle.tableau.specs.declared.rows.Way.{Way}
 use Rattle.tableau.specs.declared.rows.Way.TheVariants.{Below, Above}
 
@@ -45,14 +45,6 @@ inside {w} {c} {r} h = go (ltb c (length r)) refl
 pub quotient_small : {p : ℤ} (way : Way) (x : ℤ) → Positive p → nat_abs (quotient_of way x p) ≤ nat_abs x
 quotient_small {p} Below x h = nearest_small x h
 quotient_small {p} Above x h = Nearest.quotient_small x (floor_quotient x p) h (floor_quotient_left x h)
-
-by_one : (x : ℤ) → floor_quotient x (pos 1) ≡ x
-by_one (pos n) = ap pos (div-one n)
-by_one (negsuc n) = ap negsuc (div-one n)
-
-pub quotient_one : {p : ℤ} (way : Way) (x : ℤ) → p ≡ pos 1 → quotient_of way x p ≡ x
-quotient_one Below x e = ap (nearest_quotient x) e ∙ nearest_one x
-quotient_one Above x e = ap (floor_quotient x) e ∙ by_one x
 
 -- ---- rows that stay
 nothing : (r s : List ℤ) → Within s → subtract (pos 0) r s ≡ kept s
@@ -94,23 +86,30 @@ front (suc c) q (y ∷ r) [] z = sym (short (drop c r))
     short (y ∷ r) = refl
 front (suc c) q (y ∷ r) (x ∷ s) z = ap₂ ◌∷◌ (add_none q x y z.0) (front c q r s z.1)
 
-pub step_parts : (way : Way) (c : ℕ) (r s u : List ℤ) (b : Bool) (q : ℤ) → ZeroTo c r → Within s → (nat_abs (entry c s) ≡ 0 → ⊥)
+parts_are : (way : Way) (c : ℕ) (r s : List ℤ) (q : ℤ) → ZeroTo c r → Within s → (nat_abs (entry c s) ≡ 0 → ⊥)
     → q ≡ quotient_of way (entry c s) (entry c r)
-    → Stops (any_beyond (plus (neg_ℤ q) (drop c r) (drop c s))) (plus (neg_ℤ q) (drop c r) (drop c s)) b u
-    → Stops (row_step way c r s).over (row_step way c r s).row b (take c s ++ u)
-step_parts way c r s u b q z h e k o =
+    → ((subtract q (drop c r) (drop c s)).over ≡ (row_step way c r s).over)
+    × (take c s ++ (subtract q (drop c r) (drop c s)).row ≡ (row_step way c r s).row)
+parts_are way c r s q z h e k =
     let f : plus (neg_ℤ q) r s ≡ take c s ++ plus (neg_ℤ q) (drop c r) (drop c s) = front c (neg_ℤ q) r s z in
-    let d : row_step way c r s ≡ subtract q r s = step_is way c r s e ∙ ap (λ (x : ℤ). subtract x r s) (sym k) in
-    record {
-      answer =
-          o.answer
-          ∙ sym
+    let d : row_step way c r s ≡ subtract q r s = step_is way c r s e ∙ ap (λ (x : ℤ). subtract x r s) (sym k) in (
+      sym
           (ap (λ (x : Left). x.over) d
           ∙ ap any_beyond f
           ∙ beyond_append (take c s) _
-          ∙ ap (λ (t : Bool). t || any_beyond (plus (neg_ℤ q) (drop c r) (drop c s))) (within_take c s h));
-      left = λ t. ap (λ (l : List ℤ). take c s ++ l) (o.left t) ∙ sym f ∙ sym (ap (λ (x : Left). x.row) d);
-    }
+          ∙ ap (λ (t : Bool). t || any_beyond (plus (neg_ℤ q) (drop c r) (drop c s))) (within_take c s h)),
+      sym f ∙ sym (ap (λ (x : Left). x.row) d),
+    )
 
-pub left_by : (x : Left) (s : List ℤ) {b : Bool} → x.over ≡ b → left_after x s ≡ cond b (zeros (length s)) x.row
-left_by x s e = ap (λ (o : Bool). cond o (zeros (length s)) x.row) e
+pub step_parts : (way : Way) (c : ℕ) (r s u : List ℤ) (b : Result (Unit {0}) Beyond) (q : ℤ) → ZeroTo c r → Within s
+    → (nat_abs (entry c s) ≡ 0 → ⊥) → q ≡ quotient_of way (entry c s) (entry c r) → StopsRow (subtract q (drop c r) (drop c s)) b u
+    → StopsRow (row_step way c r s) b (take c s ++ u)
+step_parts way c r s u b q z h e k = go b (parts_are way c r s q z h e k)
+  where
+    x : Left
+    x = subtract q (drop c r) (drop c s)
+
+    go : (b : Result (Unit {0}) Beyond) → (x.over ≡ (row_step way c r s).over) × (take c s ++ x.row ≡ (row_step way c r s).row)
+        → StopsRow x b u → StopsRow (row_step way c r s) b (take c s ++ u)
+    go (Ok a) d o = (sym d.0 ∙ o.0, ap (λ (l : List ℤ). take c s ++ l) o.1 ∙ d.1)
+    go (Err a) d o = sym d.0 ∙ o

@@ -1,6 +1,6 @@
 -- Laws of the table of a problem, and of the loop that fills it.
---   column_length, column_number, unit_set   a column of the matrix, number by number; a unit list
---   Filled n w A t₀ t at j   the first j rows of the table are in t, before the number `at`
+--   column_length, column_number, column_on, unit_set   a column of the matrix, number by number; one number more of it written; a unit list
+--   Filled n w A t₀ t j      the first j rows of the table are in t
 --   starts, goes_on, ends    it holds at first, and after one more row; past the last row t is the table
 --   tableau_within           within ±M, where the matrix is
 -- Assumes nothing.
@@ -15,6 +15,7 @@ use lib.IntN.{ℤ, pos, nat_abs}
 use lib.ListN.{length, take, drop, set, length-append, length-drop, length-map, get_or-map}
 use lib.Seq.{length-take-le, take_all}
 use Rattle.whole.specs.Lists.{entry, zeros}
+use Rattle.whole.proofs.Writing.{WrittenTo, goes_on as goes_on_written}
 use Rattle.lattice.specs.Rows.{unit, flat, chop}
 use Rattle.lattice.specs.Span.{All}
 use Rattle.lattice.proofs.FlatLaws.{chop_row, length_chop, row_number, put_take}
@@ -33,37 +34,47 @@ column_number i j m n a h l =
     ∙ ap (entry j) (chop_row m n i a [] h)
     ∙ row_number n i j a l
 
+pub column_on : {t₀ t : List ℤ} {i j n : ℕ} {x : ℤ} (a : List ℤ) → WrittenTo t₀ (column j (chop (length t₀) n a)) t i → i < length t₀ → j < n
+    → x ≡ entry (i * n + j) a → WrittenTo t₀ (column j (chop (length t₀) n a)) (set t i x) (i + 1)
+column_on {t₀} {t} {i} {j} {n} a w h l e =
+    goes_on_written w (omega (arith, column_length j (length t₀) n a)) (e ∙ sym (column_number i j (length t₀) n a h l))
+
 pub unit_set : (n j : ℕ) → j < n → set (zeros n) j (pos 1) ≡ unit n j
 unit_set zero j h = absurd (omega arith)
 unit_set (suc n) zero h = refl
 unit_set (suc n) (suc j) h = ap (λ (l : List ℤ). pos 0 ∷ l) (unit_set n j (omega arith))
 
 -- ---- filling
-pub record Filled (n w : ℕ) (A : List (List ℤ)) (t₀ t : List ℤ) (at j : ℕ) : Type 0 where
+pub record Filled (n w : ℕ) (A : List (List ℤ)) (t₀ t : List ℤ) (j : ℕ) : Type 0 where
   pub same : length t ≡ length t₀
-  pub place : at ≡ j * w
   pub most : j ≤ n
-  pub rest : take at t ++ flat (tableau_from (n - j) j n A) ≡ flat (tableau n A)
+  pub rest : take (j * w) t ++ flat (tableau_from (n - j) j n A) ≡ flat (tableau n A)
 
-pub starts : (n w : ℕ) (A : List (List ℤ)) (t₀ : List ℤ) → Filled n w A t₀ t₀ 0 0
+pub starts : (n w : ℕ) (A : List (List ℤ)) (t₀ : List ℤ) → Filled n w A t₀ t₀ 0
 unfolding tableau
 starts n w A t₀ =
     let e : n - 0 ≡ n = omega arith in
-    record { same = refl; place = sym (zero-mul w); most = omega arith; rest = rw e refl }
+    record { same = refl; most = omega arith; rest = rw (e, zero-mul w) refl }
 
 next_row : (k j n : ℕ) (A : List (List ℤ)) → 0 < k → tableau_from k j n A ≡ (column j A ++ unit n j) ∷ tableau_from (k - 1) (j + 1) n A
 unfolding tableau_from
 next_row zero j n A h = absurd (omega arith)
 next_row (suc k) j n A h = let e : suc k - 1 ≡ k = omega arith in rw (e, add-one)
 
-module _ {n w : ℕ} {A : List (List ℤ)} {t₀ t : List ℤ} {at j : ℕ} (h : Filled n w A t₀ t at j) (l : length t₀ ≡ n * w) (s : j < n) where
-  pub ahead : at + w ≤ length t
-  ahead = omega (arith, h.place, h.same, l, mul-le-mul_right w s, suc-mul j w)
+module _ {n w : ℕ} {A : List (List ℤ)} {t₀ t : List ℤ} {j : ℕ} (h : Filled n w A t₀ t j) (l : length t₀ ≡ n * w) (s : j < n) where
+  abbrev at : ℕ
+  at = j * w
+
+  next : (j + 1) * w ≡ j * w + w
+  next = rw (add-one) (omega (arith, suc-mul j w))
+
+  ahead : at + w ≤ length t
+  ahead = omega (arith, h.same, l, mul-le-mul_right w s, suc-mul j w)
 
   pub row_wide : length (take w (drop at t)) ≡ w
   row_wide = length-take-le w (drop at t) (omega (arith, length-drop at t, ahead))
 
-  pub goes_on : (u : List ℤ) → length u ≡ w → u ≡ column j A ++ unit n j → Filled n w A t₀ (take at t ++ (u ++ drop (at + w) t)) (at + w) (j + 1)
+  pub goes_on : (u : List ℤ) → length u ≡ w → u ≡ column j A ++ unit n j → Filled n w A t₀ (take (j * w) t ++ (u ++ drop (j * w + w) t)) (j + 1)
   goes_on u m e =
       let a : at ≤ length t = omega (arith, ahead) in
       let d : n - j - 1 ≡ n - (j + 1) = omega arith in
@@ -72,25 +83,25 @@ module _ {n w : ℕ} {A : List (List ℤ)} {t₀ t : List ℤ} {at j : ℕ} (h :
             length-append (take at t) (u ++ drop (at + w) t)
             ∙ ap₂ ◌+◌ (length-take-le at t a) (length-append u (drop (at + w) t) ∙ ap₂ ◌+◌ m (length-drop (at + w) t))
             ∙ omega (arith, ahead, h.same);
-        place = omega (arith, h.place);
         most = omega arith;
         rest =
-            ap₂ (λ (x : List ℤ) (k : ℕ). x ++ flat (tableau_from k (j + 1) n A)) (put_take at w t u (drop (at + w) t) a m) (sym d)
+            rw next
+            (ap₂ (λ (x : List ℤ) (k : ℕ). x ++ flat (tableau_from k (j + 1) n A)) (put_take at w t u (drop (at + w) t) a m) (sym d)
             ∙ append_assoc (take at t) u (flat (tableau_from (n - j - 1) (j + 1) n A))
             ∙ ap (λ (x : List ℤ). take at t ++ (x ++ flat (tableau_from (n - j - 1) (j + 1) n A))) e
             ∙ ap (λ (T : List (List ℤ)). take at t ++ flat T) (sym (next_row (n - j) j n A (omega arith)))
-            ∙ h.rest;
+            ∙ h.rest);
       }
 
-pub ends : {n w : ℕ} {A : List (List ℤ)} {t₀ t : List ℤ} {at j : ℕ} → Filled n w A t₀ t at j → length t₀ ≡ n * w → n ≤ j → t ≡ flat (tableau n A)
+pub ends : {n w : ℕ} {A : List (List ℤ)} {t₀ t : List ℤ} {j : ℕ} → Filled n w A t₀ t j → length t₀ ≡ n * w → n ≤ j → t ≡ flat (tableau n A)
 unfolding tableau_from
-ends {n} {w} {A} {t₀} {t} {at} {j} h l s =
+ends {n} {w} {A} {t₀} {t} {j} h l s =
     let d : n - j ≡ 0 = omega arith in
     let e : j ≡ n = omega (arith, h.most) in
-    let f : at ≡ length t = h.place ∙ ap (λ (i : ℕ). i * w) e ∙ sym (h.same ∙ l) in
+    let f : j * w ≡ length t = ap (λ (i : ℕ). i * w) e ∙ sym (h.same ∙ l) in
     sym (append-nil t)
-    ∙ ap (λ (x : List ℤ). x ++ []) (sym (take_all at t (omega arith)))
-    ∙ ap (λ (k : ℕ). take at t ++ flat (tableau_from k j n A)) (sym d)
+    ∙ ap (λ (x : List ℤ). x ++ []) (sym (take_all (j * w) t (omega arith)))
+    ∙ ap (λ (k : ℕ). take (j * w) t ++ flat (tableau_from k j n A)) (sym d)
     ∙ h.rest
 
 -- ---- within ±M

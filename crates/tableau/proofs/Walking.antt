@@ -3,7 +3,9 @@
 --   Walk f w k t₀ t at left   the rows before the number `at` of t are done, and `left` rows of w numbers are still those of t₀
 --   starts, goes_on         it holds at first, and after a row that f does not mark
 --   next_small              the row that comes next lies within ±M
---   stops, ends             at a row that f marks the answer is true; past the last row it is false, and the table is the definition's
+--   place_first, place_next   `at` and `left` at first and after a row, by the count of the rows that are done
+--   refused                 a number beyond ±M was left, and Beyond is answered
+--   stops, ends             at a row that f marks a number beyond ±M was left; past the last row none was, and the table is the definition's
 --   each_wide, each_count   the rows keep their length, and their count
 --   reduced_step, stepping the step by a pivot is such a step
 -- Assumes nothing.
@@ -11,7 +13,8 @@ use mathlib.Core.Path.{◌≡◌, refl, sym, ◌∙◌, ap, ap₂}
 use mathlib.Core.Bool.{Bool, true, false, cond, ◌||◌}
 use mathlib.Core.List.{List, [], ◌∷◌, ◌++◌, append_assoc, append-nil}
 use Prim.Native.Nat.{ℕ, suc, ◌+◌, ◌*◌, ◌-◌, ◌<◌, ◌≤◌}
-use native.Mathlib.Nat.{zero-mul}
+use native.Mathlib.Nat.{zero-mul, suc-mul}
+use native.Mathlib.Numerals.{add-one}
 use native.Mathlib.Omega.{arith}
 use lib.IntN.{ℤ, neg_ℤ}
 use lib.ListN.{length, take, drop, length-append, length-drop}
@@ -26,9 +29,12 @@ use Rattle.lattice.proofs.FlatLaws.{put_take, put_drop}
 use Rattle.lattice.proofs.RowsAhead.{RowsAhead, ahead, row, row_wide, rows, apart, behind}
 use Rattle.tableau.specs.Elimination.{lowered_by}
 use Rattle.tableau.specs.Elimination.{Left, kept, subtract, lowered, reduced, Run, each}
+use Rattle.std.specs.Prelude.{Result, Ok, Err, IsErr}
+use Rattle.std.proofs.lemmas.Bool.{false≢true}
+use Rattle.tableau.specs.declared.Beyond.{Beyond}
 use Rattle.tableau.specs.Within.{Within}
 use Rattle.tableau.proofs.Within.{within_append, within_take, within_drop}
-use Rattle.tableau.specs.RowSteps.{StopsRun, row_step}
+use Rattle.tableau.specs.RowSteps.{Stops, StopsRun, row_step}
 use Rattle.tableau.specs.declared.rows.Way.{Way}
 use Rattle.tableau.specs.declared.rows.Way.TheVariants.{Below, Above}
 
@@ -112,19 +118,34 @@ module _ {f : List ℤ → Left} {w k : ℕ} {t₀ t : List ℤ} {at left : ℕ}
             ∙ h.rows;
       }
 
-pub ends : {f : List ℤ → Left} {w k : ℕ} {t₀ t : List ℤ} {at left : ℕ} → Walk f w k t₀ t at left → left ≡ 0 → StopsRun (each f (chop k w t₀)) false t
+-- ---- the code's numbers, by the count i of the rows that are done
+pub place_first : (P : ℕ → ℕ → Type 0) (w k : ℕ) → P 0 k → P (0 * w) (k - 0)
+place_first P w k h =
+    let b : k - 0 ≡ k = omega arith in
+    rw (zero-mul, b) h
+
+pub place_next : (P : ℕ → ℕ → Type 0) (w k i : ℕ) → P (i * w + w) (k - i - 1) → P ((i + 1) * w) (k - (i + 1))
+place_next P w k i h =
+    let a : (i + 1) * w ≡ i * w + w = rw (add-one) (omega (arith, suc-mul i w)) in
+    let b : k - (i + 1) ≡ k - i - 1 = omega arith in
+    rw (a, b) h
+
+pub refused : {A : Type 0} {over : Bool} (P : Type 0) (r : Result A Beyond) → IsErr r → over ≡ true → Stops over P r
+refused P (Ok a) h e = absurd (false≢true h)
+refused P (Err b) h e = e
+
+pub ends : {f : List ℤ → Left} {w k : ℕ} {t₀ t : List ℤ} {at left : ℕ} → Walk f w k t₀ t at left → left ≡ 0
+    → StopsRun {A = Unit {0}} (each f (chop k w t₀)) (Ok tt) t
 unfolding each
 ends {f} {w} {k} {t₀} {t} {at} {left} h e =
     let z : left * w ≡ 0 = ap (λ (n : ℕ). n * w) e ∙ zero-mul w in
-    let all : each f (chop left w (drop at t)) ≡ record { table = []; over = false } = ap (λ (n : ℕ). each f (chop n w (drop at t))) e in
-    record {
-      answer = sym (ap (λ (x : Run). x.over) all) ∙ h.over;
-      left = λ _.
-          sym (take_all at t (omega (arith, h.room.room)))
+    let all : each f (chop left w (drop at t)) ≡ record { table = []; over = false } = ap (λ (n : ℕ). each f (chop n w (drop at t))) e in (
+      sym (sym (ap (λ (x : Run). x.over) all) ∙ h.over),
+      sym (take_all at t (omega (arith, h.room.room)))
           ∙ sym (append-nil (take at t))
           ∙ sym (ap (λ (x : Run). take at t ++ flat x.table) all)
-          ∙ h.rows;
-    }
+          ∙ h.rows,
+    )
 
 -- ---- the step by a pivot
 lowered_step : (c : ℕ) (r : List ℤ) → Step (lowered c r)

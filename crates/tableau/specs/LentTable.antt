@@ -3,23 +3,20 @@
 --   matrix_of p a    the matrix, its rows one after the other in the coefficients
 --   form_of p a      the form of the tableau
 --   form_after x t   what the buffer t of a table holds after the steps x
---   Tally            whether a number beyond ±M was left, and the rounds (declared in src/)
---   tally_of x k     that of the steps x, which take k rounds. Document 02, (vii): "A refusal returns 0 rounds."
---   form_tally p a   that of the form
---   Outcome          what is answered, and what the lent table holds then
---   outcome x k t    that of the steps x, which take k rounds, on the table that lay in t
+--   form_answer p a  what is answered of the form: its rounds, or Beyond where a number beyond ±M was left
 --   eliminated_of k w t, rounds_in k w t   the elimination of the k rows of w numbers in t, and its rounds
 -- Assumes nothing.
-use Rattle.std.specs.Prelude.{◌≡◌, true, cond, List, ℕ, ◌+◌, ◌*◌, ◌≤◌, ℤ, length}
+use Rattle.std.specs.Prelude.{◌≡◌, true, cond, List, ℕ, ◌+◌, ◌*◌, ◌≤◌, ℤ, length, Result}
 use Rattle.whole.specs.Lists.{zeros}
 use Rattle.lattice.specs.Rows.{flat, chop}
 use Rattle.problem.specs.Limits.{group_rows, group_columns, max_coefficient}
 use Rattle.problem.specs.Checks.{all_span}
 use Rattle.problem.specs.declared.Problem.{Problem}
 use Rattle.tableau.specs.Elimination.{Run, eliminate}
-use Rattle.tableau.specs.RoundCount.{rounds, form_rounds, refused_none}
+use Rattle.tableau.specs.RoundCount.{rounds, form_rounds}
 use Rattle.tableau.specs.RightSide.{form}
-use Rattle.tableau.specs.declared.Tally.{Tally}
+use Rattle.tableau.specs.RowSteps.{unless}
+use Rattle.tableau.specs.declared.Beyond.{Beyond}
 
 pub record Formable (p : Problem) (t a : List ℤ) : Type 0 where
   pub columns : p.columns ≤ group_columns
@@ -37,18 +34,8 @@ form_of p a = form p.columns (matrix_of p a)
 abbrev pub form_after : Run → List ℤ → List ℤ
 form_after x t = cond x.over (zeros (length t)) (flat x.table)
 
-abbrev pub tally_of : Run → ℕ → Tally
-tally_of x k = record { over = x.over; rounds = refused_none x.over k }
-
-abbrev pub form_tally : Problem → List ℤ → Tally
-form_tally p a = tally_of (form_of p a) (form_rounds p.columns (matrix_of p a))
-
-pub record Outcome : Type 0 where
-  pub tally : Tally
-  pub left : List ℤ
-
-abbrev pub outcome : Run → ℕ → List ℤ → Outcome
-outcome x k t = record { tally = tally_of x k; left = form_after x t }
+abbrev pub form_answer : Problem → List ℤ → Result ℕ Beyond
+form_answer p a = unless (form_of p a).over (form_rounds p.columns (matrix_of p a))
 
 abbrev pub eliminated_of : ℕ → ℕ → List ℤ → Run
 eliminated_of k w t = eliminate w (chop k w t)

@@ -5,9 +5,8 @@
 --   rounds w T                those of `eliminate w T`
 --   form_rounds n A           those of the form of n columns and the matrix A
 --   first_bits z              "the bit length of its first pivot", of a column whose first choice is z; 0 where the column is passed over
---   refused_none over k       "A refusal returns 0 rounds.": k, or 0 where a number lies beyond ±M
 -- Assumes nothing.
-use Rattle.std.specs.Prelude.{Bool, cond, List, [], ◌∷◌, ℕ, zero, suc, ◌+◌, ℤ, length}
+use Rattle.std.specs.Prelude.{List, [], ◌∷◌, ℕ, zero, suc, ◌+◌, ℤ, length}
 use Rattle.whole.specs.BitLength.{bit_length}
 use Rattle.tableau.specs.Table.{tableau}
 use Rattle.tableau.specs.Elimination.{Choice, none, at, choose, Gathered, round, Passed, pass_column}
@@ -39,6 +38,3 @@ form_rounds n A = rounds (length A + n) (tableau n A)
 abbrev pub first_bits : Choice → ℕ
 first_bits none = 0
 first_bits (at j p) = bit_length p
-
-abbrev pub refused_none : Bool → ℕ → ℕ
-refused_none over k = cond over 0 k

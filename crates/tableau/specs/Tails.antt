@@ -6,15 +6,18 @@
 --   lifted_row w c j t   row j, negated if its entry is negative
 --   Lifted               the row that is brought to the top, and the tail then
 --   Gathers              what a function that gathers, and stops at a number beyond ±M, answers and leaves
+--   Counts k r           what a function that counts k rounds answers, r, where it meets no number beyond ±M
 --   round_of, gathering_of   a round, and gathering, of a tail; gathering_rounds_of, its rounds
 -- Assumes nothing.
-use Rattle.std.specs.Prelude.{◌≡◌, Bool, false, List, ◌∷◌, ◌++◌, ℕ, ◌+◌, ◌*◌, ◌-◌, ◌<◌, ℤ, length, take, drop}
+use Rattle.std.specs.Prelude.{◌≡◌, List, ◌∷◌, ◌++◌, ℕ, ◌+◌, ◌*◌, ◌-◌, ◌<◌, ℤ, length, take, drop, Result, Ok, Err}
 use Rattle.whole.specs.Lists.{entry}
 use Rattle.lattice.specs.Rows.{ZeroTo, flat, chop}
 use Rattle.lattice.specs.Span.{All}
 use Rattle.tableau.specs.Elimination.{Gathered, signed, round}
 use Rattle.tableau.specs.Gathering.{Chosen, gathering, gathering_rounds}
+use Rattle.tableau.specs.RowSteps.{Stops}
 use Rattle.tableau.specs.Within.{Within}
+use Rattle.tableau.specs.declared.Beyond.{Beyond}
 
 pub record Tail (k w c : ℕ) (t : List ℤ) : Type 0 where
   pub wide : length t ≡ k * w
@@ -42,10 +45,12 @@ pub record Lifted (c j w : ℕ) (t r u : List ℤ) : Type 0 where
   pub tail : u ≡ r ++ drop w (lower_first w j t)
 
 -- what a function answers, r, and leaves in the tail, t, and in the pivot, p: where no number beyond ±M is met, what is gathered
-pub record Gathers (g : Gathered) (r : Bool) (t p : List ℤ) : Type 0 where
-  pub answer : r ≡ g.over
-  pub left : r ≡ false → t ≡ flat (g.pivot ∷ g.below)
-  pub row : r ≡ false → p ≡ g.pivot
+abbrev pub Gathers : {A : Type 0} → Gathered → Result A Beyond → List ℤ → List ℤ → Type 0
+Gathers g r t p = Stops g.over ((t ≡ flat (g.pivot ∷ g.below)) × (p ≡ g.pivot)) r
+
+abbrev pub Counts : ℕ → Result ℕ Beyond → Type 0
+Counts k (Ok n) = n ≡ k
+Counts k (Err e) = Unit {0}
 
 abbrev pub round_of : ℕ → ℕ → ℕ → List ℤ → Gathered
 round_of k w c t = round c (take w t) (chop (k - 1) w (drop w t))

@@ -10,11 +10,9 @@ fn fill_column(to: &mut [i64], coefficients: &[i64], n: usize, j: usize)
     requires { (length coefficients.now ≡ length to.old * n) × (j < n) }
     ensures { to.new ≡ column j (chop (length to.old) n coefficients.now) }
 {
-    let mut i = 0;
-    while i < to.len() {
-        let x = coefficients[i * n + j];
-        to[i] = x;
-        i += 1;
+    // By the place of each number: what is written through a `zip` with the rows, no proof knows afterwards.
+    for (i, x) in to.iter_mut().enumerate() {
+        *x = coefficients[i * n + j];
     }
 }
 
@@ -23,7 +21,7 @@ fn fill_unit(to: &mut [i64], j: usize)
     requires { j < length to.old }
     ensures { to.new ≡ unit (length to.old) j }
 {
-    whole::buffers::wipe(to);
+    to.fill(0);
     to[j] = 1;
 }
 
@@ -33,9 +31,9 @@ fn fill_row(row: &mut [i64], p: Problem, coefficients: &[i64], j: usize)
     requires coefficients_len { length coefficients.now ≡ p.rows * p.columns }
     ensures { row.new ≡ column j (matrix_of p coefficients.now) ++ unit p.columns j }
 {
-    let m = p.rows;
-    fill_column(&mut row[..m], coefficients, p.columns, j);
-    fill_unit(&mut row[m..], j);
+    let (column, unit) = row.split_at_mut(p.rows);
+    fill_column(column, coefficients, p.columns, j);
+    fill_unit(unit, j);
 }
 
 // The table of a problem before the first step.
@@ -43,14 +41,10 @@ pub(crate) fn fill(t: &mut [i64], p: Problem, coefficients: &[i64])
     requires { Formable p t.old coefficients.now }
     ensures { t.new ≡ flat (tableau p.columns (matrix_of p coefficients.now)) }
 {
-    let n = p.columns;
-    let w = p.rows + n;
-    let mut at = 0;
-    let mut j = 0;
-    while j < n {
-        let next = at + w;
-        fill_row(&mut t[at..next], p, coefficients, j);
-        at = next;
-        j += 1;
+    let w = p.rows + p.columns;
+    // By the place of each row: what is written through `chunks_exact_mut`, no proof knows afterwards.
+    for j in 0..p.columns {
+        let at = j * w;
+        fill_row(&mut t[at..at + w], p, coefficients, j);
     }
 }

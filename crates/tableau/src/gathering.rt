@@ -1,20 +1,17 @@
-ghost use Rattle.std.specs.Prelude.{◌≡◌, ◌+◌, ◌*◌, ◌-◌, ◌<◌, ◌≤◌, length, take, drop};
+ghost use Rattle.std.specs.Prelude.{◌≡◌, ◌+◌, ◌*◌, ◌/◌, ◌-◌, ◌<◌, ◌≤◌, length, take, drop};
 ghost use Rattle.whole.specs.Lists.{entry};
 ghost use Rattle.lattice.specs.Rows.{ZeroTo, chop};
 ghost use Rattle.tableau.specs.Elimination as Elimination;
-ghost use Rattle.tableau.specs.Choices.{choice_of, below, counted, Chooses};
-ghost use Rattle.tableau.specs.RoundCount.{refused_none};
-ghost use Rattle.tableau.specs.Tails.{Tail, Picked, brought, Lifted, Gathers, round_of, gathering_of, gathering_rounds_of};
+ghost use Rattle.tableau.specs.Choices.{choice_of, count_of, below, counted, Chooses};
+ghost use Rattle.tableau.specs.Tails.{Tail, Picked, brought, Lifted, Gathers, Counts, round_of, gathering_of, gathering_rounds_of};
 ghost use Rattle.tableau.specs.Within.{Within};
 
-use crate::Tally;
+use crate::Beyond;
 use crate::rows::{Way, negate};
 use crate::tables::each;
-use whole::buffers::copy;
-use whole::{bit_length, less, magnitude};
+use whole::bit_length;
 
-// The row that gathering chooses, counted from the first, the magnitude of its entry, and how many entries are other than 0. Where all are 0,
-// there is no choice.
+// The row that gathering chooses, counted from the first, the magnitude of its entry, and how many entries are other than 0.
 #[derive(Clone, Copy)]
 pub(crate) struct Choice {
     pub row: usize,
@@ -23,42 +20,40 @@ pub(crate) struct Choice {
 }
 
 // The choice with a row i of the given size put below the rows that z was chosen from. The upper row wins a tie.
-fn later(z: Choice, i: usize, size: u64) -> Choice
-    requires { z.count < 4611686018427387904 }
+fn later(z: Option<Choice>, i: usize, size: u64) -> Option<Choice>
+    requires { count_of z < usize.MAX }
     ensures result_value { choice_of result ≡ below (choice_of z) i size }
-    ensures count_value { result.count ≡ z.count + counted size }
+    ensures count_value { count_of result ≡ count_of z + counted size }
 {
     if size == 0 {
         return z;
     }
-    if z.count == 0 || size < z.size {
-        return Choice {
+    match z {
+        None => Some(Choice {
             row: i,
-            size: size,
+            size,
+            count: 1,
+        }),
+        Some(z) if size < z.size => Some(Choice {
+            row: i,
+            size,
             count: z.count + 1,
-        };
-    }
-    Choice {
-        row: z.row,
-        size: z.size,
-        count: z.count + 1,
+        }),
+        Some(z) => Some(Choice {
+            count: z.count + 1,
+            ..z
+        }),
     }
 }
 
-// The smallest magnitude other than 0 in column c.
-pub(crate) fn choose(t: &[i64], rows: usize, w: usize, c: usize) -> Choice
-    requires { (length t.now ≡ rows * w) × (c < w) }
-    ensures { Chooses c (chop rows w t.now) result }
+// The smallest magnitude other than 0 in column c; none where all are 0.
+pub(crate) fn choose(t: &[i64], w: usize, c: usize) -> Option<Choice>
+    requires { c < w }
+    ensures { Chooses c (chop (length t.now / w) w t.now) result }
 {
-    let mut z = Choice {
-        row: 0,
-        size: 0,
-        count: 0,
-    };
-    let mut i = 0;
-    while i < rows {
-        z = later(z, i, magnitude(t[i * w + c]));
-        i += 1;
+    let mut z = None;
+    for (i, row) in t.chunks_exact(w).enumerate() {
+        z = later(z, i, row[c].unsigned_abs());
     }
     z
 }
@@ -72,15 +67,8 @@ fn bring(t: &mut [i64], w: usize, c: usize, j: usize)
     if j == 0 {
         return;
     }
-    let at = j * w;
-    let mut i = c;
-    while i < w {
-        let x = t[i];
-        let y = t[at + i];
-        t[i] = y;
-        t[at + i] = x;
-        i += 1;
-    }
+    let (top, low) = t.split_at_mut(j * w);
+    top[c..w].swap_with_slice(&mut low[c..w]);
 }
 
 // Turns the row's sign if its entry at c is negative.
@@ -88,7 +76,7 @@ fn raise(row: &mut [i64], c: usize)
     requires { (c < length row.old) × Within row.old }
     ensures { row.new ≡ Elimination.signed (entry c row.old) row.old }
 {
-    if less(row[c], 0) {
+    if row[c] < 0 {
         negate(row);
     }
 }
@@ -103,11 +91,11 @@ fn lift(t: &mut [i64], pivot: &mut [i64], c: usize, j: usize)
     let w = pivot.len();
     bring(t, w, c, j);
     raise(&mut t[..w], c);
-    copy(pivot, &t[..w]);
+    pivot.copy_from_slice(&t[..w]);
 }
 
 // One round: the chosen row j comes to the top as the pivot, and is taken from the rows below.
-fn round(t: &mut [i64], rows: usize, pivot: &mut [i64], c: usize, j: usize) -> bool
+fn round(t: &mut [i64], rows: usize, pivot: &mut [i64], c: usize, j: usize) -> Result<(), Beyond>
     requires tail { Tail rows (length pivot.old) c t.old }
     requires picked { Picked rows (length pivot.old) c t.old j }
     ensures { Gathers (round_of rows (length pivot.old) c t.old) result t.new pivot.new }
@@ -119,56 +107,48 @@ fn round(t: &mut [i64], rows: usize, pivot: &mut [i64], c: usize, j: usize) -> b
 
 // The rounds of one column, from the choice z on, until the rows below the first have only 0 there. Each at least halves the magnitude chosen, so
 // that there are no more of them than the first one has binary digits: after so many nothing is left to look for.
-fn rounds(t: &mut [i64], rows: usize, pivot: &mut [i64], c: usize, z: Choice) -> Tally
+fn rounds(t: &mut [i64], rows: usize, pivot: &mut [i64], c: usize, z: Choice) -> Result<u32, Beyond>
     requires tail { Tail rows (length pivot.old) c t.old }
     requires picked { Picked rows (length pivot.old) c t.old z.row }
-    requires chooses { Chooses c (chop rows (length pivot.old) t.old) z }
-    ensures gathers { Gathers (gathering_of rows (length pivot.old) c t.old) result.over t.new pivot.new }
-    ensures rounds_value { result.rounds ≡ refused_none result.over (gathering_rounds_of rows (length pivot.old) c t.old) }
+    requires chooses { Chooses c (chop rows (length pivot.old) t.old) (Some z) }
+    ensures gathers { Gathers (gathering_of rows (length pivot.old) c t.old) result t.new pivot.new }
+    ensures rounds_value { Counts (gathering_rounds_of rows (length pivot.old) c t.old) result }
 {
     let w = pivot.len();
     let most = bit_length(z.size);
     let mut j = z.row;
     let mut count = 0;
+    // No `for`: behind the last of `most` rounds it would need an answer of its own.
     loop {
-        if round(t, rows, pivot, c, j) {
-            return Tally {
-                over: true,
-                rounds: 0,
-            };
-        }
+        round(t, rows, pivot, c, j)?;
         count += 1;
         if count == most {
-            return Tally {
-                over: false,
-                rounds: count,
-            };
+            return Ok(count);
         }
-        let next = choose(&t[w..], rows - 1, w, c);
-        if next.count == 0 {
-            return Tally {
-                over: false,
-                rounds: count,
-            };
-        }
+        let Some(next) = choose(&t[w..], w, c) else {
+            return Ok(count);
+        };
         j = next.row + 1;
     }
 }
 
 // Gathers one column, from the choice z on. A lone entry leaves nothing to take away. The first row is then in the pivot too.
-pub(crate) fn gather(t: &mut [i64], rows: usize, pivot: &mut [i64], c: usize, z: Choice) -> Tally
+pub(crate) fn gather(
+    t: &mut [i64],
+    rows: usize,
+    pivot: &mut [i64],
+    c: usize,
+    z: Choice,
+) -> Result<u32, Beyond>
     requires tail { Tail rows (length pivot.old) c t.old }
     requires picked { Picked rows (length pivot.old) c t.old z.row }
-    requires chooses { Chooses c (chop rows (length pivot.old) t.old) z }
-    ensures gathers { Gathers (gathering_of rows (length pivot.old) c t.old) result.over t.new pivot.new }
-    ensures rounds_value { result.rounds ≡ refused_none result.over (gathering_rounds_of rows (length pivot.old) c t.old) }
+    requires chooses { Chooses c (chop rows (length pivot.old) t.old) (Some z) }
+    ensures gathers { Gathers (gathering_of rows (length pivot.old) c t.old) result t.new pivot.new }
+    ensures rounds_value { Counts (gathering_rounds_of rows (length pivot.old) c t.old) result }
 {
     if z.count == 1 {
         lift(t, pivot, c, z.row);
-        return Tally {
-            over: false,
-            rounds: 1,
-        };
+        return Ok(1);
     }
     rounds(t, rows, pivot, c, z)
 }

@@ -1,18 +1,17 @@
 -- Laws of `overwritten` for any element, and of `Wrote`.
 --   length_written                  a list that fits leaves the buffer as long as it was
---   written_none, -all, -one        no element, as many as the buffer has, and one
+--   written_none, -one              no element, and one
 --   written_then                    two lists, one after the other
---   copied_none, -more, -all        a loop that copies: none, one more, and all elements stand in the buffer
 --   wrote_none, -length, -then      the same of words, each with the place after it
 --   room_first, -next, wrote_both   two words in a buffer that has room for both
 -- Assumes nothing.
 use mathlib.Core.Path.{◌≡◌, sym, ap, ◌∙◌}
-use mathlib.Core.List.{List, [], ◌∷◌, ◌++◌, append-nil, append_assoc}
+use mathlib.Core.List.{List, [], ◌∷◌, ◌++◌, append_assoc}
 use Prim.Native.Nat.{ℕ, ◌+◌, ◌≤◌, ◌<◌}
 use native.Mathlib.Numerals.{add-one}
 use native.Mathlib.Omega.{arith}
-use lib.ListN.{length, take, drop, set, get_or, length-append, length-drop, take-append-drop}
-use lib.Seq.{set_split, take_at, drop_at, drop-drop, drop-length, length-take-le, take-length, paste, paste-zero, paste-suc}
+use lib.ListN.{length, take, drop, set, length-append, length-drop, take-append-drop}
+use lib.Seq.{set_split, take_at, drop_at, drop-drop, length-take-le}
 use Rattle.text.specs.Overwriting.{overwritten, Wrote}
 
 module _ {A : Type 0} where
@@ -21,10 +20,6 @@ module _ {A : Type 0} where
 
   pub written_none : (o : List A) (at : ℕ) → o ≡ overwritten o at []
   written_none o at = let z : at + 0 ≡ at = omega arith in rw z (sym (take-append-drop at o))
-
-  -- a list that fills the buffer
-  pub written_all : (o w : List A) → length w ≡ length o → overwritten o 0 w ≡ w
-  written_all o w h = let z : 0 + length w ≡ length o = omega arith in rw (z, drop-length o) (append-nil w)
 
   -- one element
   pub written_one : (o : List A) (at : ℕ) (x : A) → at < length o → set o at x ≡ overwritten o at (x ∷ [])
@@ -45,18 +40,6 @@ module _ {A : Type 0} where
       ap (drop (length w)) (ap (drop (at + length v)) a ∙ drop_at (take at o ++ v) (drop (at + length v) o) (at + length v) s) ∙
       drop-drop (length w) (at + length v) o ∙ ap (λ (k : ℕ). drop k o) e in
       rw (t, d) (simp append_assoc)
-
-  -- ---- a loop that copies: after i turns the first i elements stand in the buffer
-  pub copied_none : (o : List A) (at : ℕ) (w : List A) → o ≡ paste o at w 0
-  copied_none o at w = paste-zero o at w
-
-  pub copied_more : (o p : List A) (at i : ℕ) (w : List A) (z : A) → at + length w ≤ length o → i < length w → p ≡ paste o at w i
-      → set p (at + i) (get_or w i z) ≡ paste o at w (i + 1)
-  copied_more o p at i w z h k e =
-      ap (λ (u : List A). set u (at + i) (get_or w i z)) e ∙ paste-suc o at w i z (omega arith) k ∙ (rw add-one)
-
-  pub copied_all : (o p : List A) (at i : ℕ) (w : List A) → i ≡ length w → p ≡ paste o at w i → p ≡ overwritten o at w
-  copied_all o p at i w h e = (rw h at e) ∙ (rw (take-length w) (append_assoc (take at o) w (drop (at + length w) o)))
 
 -- ---- words, each with the place after it
 pub wrote_none : (o : List ℕ) (at : ℕ) → Wrote o at [] at o

@@ -2,17 +2,20 @@
 --   tenth_less                        a number of two digits or more has a smaller tenth
 --   natural_small, -more              its clauses, with the room for digits out of sight
 --   length_natural, length_integer    a number below a power of ten has no more digits than the power says
---   integer_low, -high                with a sign, and without
+--   integer_low                       with a sign
+--   natural_steps                     what writing the digits of a number one by one needs
 --   length_more, wrote_small, -more   written: one digit, and the last digit behind those of the tenth
 -- Assumes nothing.
-use mathlib.Core.Path.{◌≡◌, refl, ap, subst}
+use mathlib.Core.Path.{◌≡◌, refl, ap}
 use mathlib.Core.Bool.{Bool, true, false, cond}
 use mathlib.Core.List.{List, [], ◌∷◌, ◌++◌}
 use Prim.Native.Nat.{ℕ, zero, suc, ◌+◌, ◌/◌, ◌%◌, ◌^◌, ◌≤◌, ◌<◌}
 use native.Mathlib.Omega.{arith}
 use native.Mathlib.Nat.{pow-suc, div-lt_iff_lt-mul}
 use borrow.Author.Tests.{lt-ltb, le-ltb, ltb-true, ltb-false}
-use lib.Dec.{T, ltb, lit<}
+use lib.Dec.{ltb, lit<}
+use Rattle.std.specs.Prelude.{◌<ℤ◌}
+use Rattle.std.proofs.lemmas.Int.{ints}
 use lib.IntN.{ℤ, pos, negsuc, nat_abs}
 use lib.ListN.{length, set, length-append}
 use lib.Signed.{lt_z}
@@ -65,10 +68,6 @@ pub integer_low : (v : ℤ) → lt_z v (pos 0) ≡ true → integer v ≡ 45 ∷
 integer_low (pos n) h = absurd (omega (arith, ltb-true n 0 h))
 integer_low (negsuc n) h = refl
 
-pub integer_high : (v : ℤ) → lt_z v (pos 0) ≡ false → integer v ≡ natural (nat_abs v)
-integer_high (pos n) h = refl
-integer_high (negsuc n) h = absurd (subst T h tt)
-
 pub length_integer : (k : ℕ) (v : ℤ) → nat_abs v < 10 ^ suc k → length (integer v) ≤ suc (suc k)
 length_integer k (pos n) h = omega (arith, length_natural k n h)
 length_integer k (negsuc n) h = omega (arith, length_natural k (suc n) h)
@@ -91,3 +90,11 @@ wrote_more o p at e n d h q l a =
     let b : Wrote p e ((48 + n % 10) ∷ []) (e + 1) (set p e d) =
     rw q (record { next = refl; text = written_one p e (48 + n % 10) (omega (arith, a.next)) }) in
     rw (natural_more n h) (wrote_then a b (omega arith))
+
+-- a minus, and the digits behind it
+pub wrote_low : (o p q : List ℕ) (at e r : ℕ) (v : ℤ) → v <ℤ pos 0 → Wrote o at (45 ∷ []) e p → Wrote p e (natural (nat_abs v)) r q
+    → at + length (integer v) ≤ length o → Wrote o at (integer v) r q
+wrote_low o p q at e r (pos n) h a b l = absurd (omega (arith, ints, h))
+wrote_low o p q at e r (negsuc n) h a b l = wrote_then a b (omega arith)
+
+pub ruleset natural_steps = (tenth_less, length_more, natural_small, wrote_small, wrote_more)

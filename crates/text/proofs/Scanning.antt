@@ -1,11 +1,9 @@
 -- Laws of tokens at the code's positions.
---   stretch_more, -stop, -end    a gap or a run, a byte at a time; run-le: it ends within the text
+--   stretch_more, -stop, -end (stretch_steps)   a gap or a run, a byte at a time; run-within: it ends within the text
 --   runs_blank, -gap, -first     what opens a text does not count, and then comes the first run
 --   digit_low, -high             a digit is 48 to 57
---   worth_none, -more, -stop     what digits are worth, a byte at a time; value-below, plain-below: which is below a power of ten
---   needed_none, -zero, -other   the test of a needless zero
---   unsigned_is, -not, minus_is, -not   a run's token, from what its digits are worth
---   token_none, -minus, -plain   a run by its first byte
+--   worth_none, -more, -stop (worth_steps), -below   what digits are worth, a byte at a time; value-below, plain-below: which is below a power of ten
+--   unsigned_is, minus_is        a run's token, from what its digits are worth
 --   next_is, next_end            what stands at or after a position
 --   tokens_found, tokens_end     what `next_at` finds from a position on is the head of the tokens from there, and the rest stands after it
 --   Met, found_token, end_token   and the other way round: the head of these tokens is what it finds
@@ -18,17 +16,14 @@ use Prim.Native.Nat.{ℕ, suc, ◌+◌, ◌-◌, ◌*◌, ◌^◌, ◌≤◌, �
 use native.Mathlib.Numerals.{add-one}
 use native.Mathlib.Omega.{arith}
 use native.Mathlib.Nat.{pow-zero, pow-succ', mul_assoc, one-mul, pow-le-pow_right, lt_of_lt_of_le}
-use borrow.Author.Tests.{not-true, leb-true, eq-eqb, ne_eqb, lt-ltb, le-ltb, ltb-true, ltb-false}
+use borrow.Author.Tests.{not-true, leb-true, lt-ltb, le-ltb, ltb-true, ltb-false}
 use lib.IntN.{pos, neg_ℤ}
 use lib.ListN.{length, take, drop, get_or, drop_of_length-le, length-drop}
-use lib.Dec.{T, ltb, leb, eqb, eqb-suc-suc, lit<}
+use lib.Dec.{T, ltb, leb, eqb, lit<}
 use lib.Seq.{drop-cons, drop-drop}
-use Rattle.text.specs.declared.Token.{Token}
-use Rattle.text.specs.declared.Token.TheVariants.{Number, Bad}
-use Rattle.text.specs.declared.scanner.Worth.TheVariants.{Digits, Other}
-use Rattle.text.specs.declared.Next.TheVariants.{Found, End}
+use Rattle.std.proofs.Common.{Option, Some, None}
 use Rattle.text.specs.Tokens.{is_blank, opens, join, runs, is_digit, all_digits, value}
-use Rattle.text.specs.Tokens.{no_needless_zero, is_plain, unsigned, after_minus, token_of, tokens}
+use Rattle.text.specs.Tokens.{Token, no_needless_zero, is_plain, unsigned, after_minus, token_of, tokens}
 use Rattle.text.specs.Positions.{belongs, stretch, gap, run, next_from, next_at, plain_worth}
 
 module _ (t : Bool) (s : List ℕ) (i : ℕ) where
@@ -44,6 +39,8 @@ module _ (t : Bool) (s : List ℕ) (i : ℕ) where
   unfolding stretch
   stretch_end h = rw (drop_of_length-le s h)
 
+pub ruleset stretch_steps = (stretch_more, stretch_stop, stretch_end)
+
 pub run_le : (s : List ℕ) → run s ≤ length s
 unfolding stretch
 run_le [] = zero-le
@@ -52,6 +49,9 @@ run_le (b ∷ s) = below (not (is_blank b)) (run_le s)
     below : (t : Bool) → run s ≤ length s → cond t (suc (run s)) 0 ≤ suc (length s)
     below true h = omega arith
     below false h = zero-le
+
+pub run_within : (s : List ℕ) (a : ℕ) → a ≤ length s → a + run (drop a s) ≤ length s
+run_within s a h = omega (arith, run_le (drop a s), length-drop a s)
 
 run_closed : (s : List ℕ) → opens s ≡ false → run s ≡ 0
 unfolding stretch
@@ -116,20 +116,25 @@ digit_high b h = at (leb 48 b) refl
     at true e = leb-true b 57 (rw e at h)
     at false e = absurd (subst T (sym (rw e at h)) tt)
 
-pub worth_none : (w : List ℕ) (i v : ℕ) → length w ≤ i → cond (all_digits (drop i w)) (Digits (value v (drop i w))) Other ≡ Digits v
+pub worth_below : (i v b : ℕ) → v < 10 ^ i → is_digit b ≡ true → v * 10 + (b - 48) < 10 ^ (i + 1)
+worth_below i v b h d = rw (add-one i, pow-succ' 10 i) (omega (arith, digit_high b d, digit_low b d))
+
+pub worth_none : (w : List ℕ) (i v : ℕ) → length w ≤ i → cond (all_digits (drop i w)) (Some (value v (drop i w))) None ≡ Some v
 unfolding all_digits value
 worth_none w i v h = rw (drop_of_length-le w h)
 
 pub worth_more : (w : List ℕ) (i v : ℕ) → i < length w → is_digit (get_or w i 0) ≡ true
-    → cond (all_digits (drop i w)) (Digits (value v (drop i w))) Other
-    ≡ cond (all_digits (drop (i + 1) w)) (Digits (value (v * 10 + (get_or w i 0 - 48)) (drop (i + 1) w))) Other
+    → cond (all_digits (drop i w)) (Some (value v (drop i w))) None
+    ≡ cond (all_digits (drop (i + 1) w)) (Some (value (v * 10 + (get_or w i 0 - 48)) (drop (i + 1) w))) None
 unfolding all_digits value
 worth_more w i v h e = rw (drop-cons w i 0 h, add-one i) (rw e)
 
 pub worth_stop : (w : List ℕ) (i v : ℕ) → i < length w → is_digit (get_or w i 0) ≡ false
-    → cond (all_digits (drop i w)) (Digits (value v (drop i w))) Other ≡ Other
+    → cond (all_digits (drop i w)) (Some (value v (drop i w))) None ≡ None
 unfolding all_digits value
 worth_stop w i v h e = rw (drop-cons w i 0 h) (rw e)
+
+pub ruleset worth_steps = (worth_none, worth_more, worth_stop)
 
 -- what k digits after those worth a are worth
 pub value_below : (w : List ℕ) (a p : ℕ) → all_digits w ≡ true → a < p → value a w < p * 10 ^ length w
@@ -145,27 +150,15 @@ value_below (b ∷ w) a p h k = at (is_digit b) refl (value_below w (a * 10 + (b
         subst (λ (n : ℕ). value (a * 10 + (b - 48)) w < n) m (f (rw e at h) (omega (arith, digit_high b e, digit_low b e)))
     at false e f = absurd (subst T (sym (rw e at h)) tt)
 
--- ---- the tests in front of the digits
-pub needed_none : (w : List ℕ) → length w ≡ 0 → no_needless_zero w ≡ false
-needed_none [] h = refl
-needed_none (b ∷ w) h = absurd (omega arith)
-
-pub needed_zero : (w : List ℕ) → (length w ≡ 0 → ⊥) → get_or w 0 0 ≡ 48 → no_needless_zero w ≡ eqb (length w) 1
-needed_zero [] h e = absurd (h refl)
-needed_zero (b ∷ w) h e = rw (eq-eqb b 48 e) (sym (eqb-suc-suc (length w) 0))
-
-pub needed_other : (w : List ℕ) → (length w ≡ 0 → ⊥) → (get_or w 0 0 ≡ 48 → ⊥) → no_needless_zero w ≡ true
-needed_other [] h e = absurd (h refl)
-needed_other (b ∷ w) h e = rw (ne_eqb b 48 e)
-
-same_digits : {a b : ℕ} → Digits a ≡ Digits b → a ≡ b
+-- ---- what digits are worth
+same_digits : {a b : ℕ} → Some a ≡ Some b → a ≡ b
 same_digits h = cc
 
-never : {a : ℕ} → Digits a ≡ Other → ⊥
+never : {a : ℕ} → Some a ≡ None → ⊥
 never h = let z : ◌≡◌ {A = ℕ} 0 1 = cc in omega arith
 
 -- what is worth something is below 10 ^ 10
-pub plain_below : (w : List ℕ) (v : ℕ) → plain_worth w ≡ Digits v → v < 10 ^ 12
+pub plain_below : (w : List ℕ) (v : ℕ) → plain_worth w ≡ Some v → v < 10 ^ 12
 plain_below w v h = at (leb (length w) 10) (no_needless_zero w) (all_digits w) refl refl refl
   where
     at : (l n d : Bool) → leb (length w) 10 ≡ l → no_needless_zero w ≡ n → all_digits w ≡ d → v < 10 ^ 12
@@ -179,54 +172,28 @@ plain_below w v h = at (leb (length w) 10) (no_needless_zero w) (all_digits w) r
     at false n d e₁ e₂ e₃ = absurd (never (sym h ∙ (rw e₁)))
 
 -- a run's token, from what its digits are worth
-pub unsigned_is : (w : List ℕ) (v : ℕ) → plain_worth w ≡ Digits v → unsigned w ≡ Number (pos v)
+pub unsigned_is : (w : List ℕ) (v : ℕ) → plain_worth w ≡ Some v → unsigned w ≡ Some (pos v)
 unsigned_is w v h = at (is_plain w) refl
   where
-    at : (t : Bool) → is_plain w ≡ t → unsigned w ≡ Number (pos v)
+    at : (t : Bool) → is_plain w ≡ t → unsigned w ≡ Some (pos v)
     at true e = rw e (rw (same_digits (sym (rw e at h))))
     at false e = absurd (never (sym (rw e at h)))
 
-pub unsigned_not : (w : List ℕ) → plain_worth w ≡ Other → unsigned w ≡ Bad
-unsigned_not w h = at (is_plain w) refl
-  where
-    at : (t : Bool) → is_plain w ≡ t → unsigned w ≡ Bad
-    at true e = absurd (never (rw e at h))
-    at false e = rw e
-
-pub minus_is : (w : List ℕ) (v : ℕ) → plain_worth w ≡ Digits v → after_minus w ≡ cond (not (eqb v 0)) (Number (neg_ℤ (pos v))) Bad
+pub minus_is : (w : List ℕ) (v : ℕ) → plain_worth w ≡ Some v → after_minus w ≡ cond (not (eqb v 0)) (Some (neg_ℤ (pos v))) None
 minus_is w v h = at (is_plain w) refl
   where
-    at : (t : Bool) → is_plain w ≡ t → after_minus w ≡ cond (not (eqb v 0)) (Number (neg_ℤ (pos v))) Bad
+    at : (t : Bool) → is_plain w ≡ t → after_minus w ≡ cond (not (eqb v 0)) (Some (neg_ℤ (pos v))) None
     at true e = rw e (rw (same_digits (sym (rw e at h))))
     at false e = absurd (never (sym (rw e at h)))
-
-pub minus_not : (w : List ℕ) → plain_worth w ≡ Other → after_minus w ≡ Bad
-minus_not w h = at (is_plain w) refl
-  where
-    at : (t : Bool) → is_plain w ≡ t → after_minus w ≡ Bad
-    at true e = absurd (never (rw e at h))
-    at false e = rw e
-
-pub token_none : (w : List ℕ) → length w ≡ 0 → token_of w ≡ Bad
-token_none [] h = refl
-token_none (b ∷ w) h = absurd (omega arith)
-
-pub token_minus : (w : List ℕ) → (length w ≡ 0 → ⊥) → get_or w 0 0 ≡ 45 → token_of w ≡ after_minus (drop 1 w)
-token_minus [] h e = absurd (h refl)
-token_minus (b ∷ w) h e = rw (eq-eqb b 45 e)
-
-pub token_plain : (w : List ℕ) → (length w ≡ 0 → ⊥) → (get_or w 0 0 ≡ 45 → ⊥) → token_of w ≡ unsigned w
-token_plain [] h e = absurd (h refl)
-token_plain (b ∷ w) h e = rw (ne_eqb b 45 e)
 
 -- ---- what stands at or after a position
 pub next_is : (s : List ℕ) (at a e : ℕ) (t : Token) → a ≡ at + gap (drop at s) → a < length s → e ≡ a + run (drop a s)
-    → t ≡ token_of (take (e - a) (drop a s)) → next_at s at ≡ Found t e
+    → t ≡ token_of (take (e - a) (drop a s)) → next_at s at ≡ Some (t, e)
 next_is s at a e t p q r h =
     let k : e - a ≡ run (drop a s) = omega arith in
-    ap (next_from s) (sym p) ∙ (rw (lt-ltb a (length s) q, sym (rw k at h)) (ap (Found t) (sym r)))
+    ap (next_from s) (sym p) ∙ (rw (lt-ltb a (length s) q, sym (rw k at h)) (ap (λ (k : ℕ). Some (t, k)) (sym r)))
 
-pub next_end : (s : List ℕ) (at a : ℕ) → a ≡ at + gap (drop at s) → length s ≤ a → next_at s at ≡ End
+pub next_end : (s : List ℕ) (at a : ℕ) → a ≡ at + gap (drop at s) → length s ≤ a → next_at s at ≡ None
 next_end s at a p q = ap (next_from s) (sym p) ∙ (rw (le-ltb a (length s) q))
 
 gap_opens : (s : List ℕ) → gap s < length s → opens (drop (gap s) s) ≡ true
@@ -238,7 +205,7 @@ gap_opens (b ∷ s) h = at (is_blank b) refl (gap_opens s)
     at true e f = let g = gap_blank b s e in rw g (f (omega arith))
     at false e f = rw (gap_other b s e) (rw e)
 
-never_end : {t : Token} {d : ℕ} → Found t d ≡ End → ⊥
+never_end : {x : Token × ℕ} → Some x ≡ None → ⊥
 never_end h = let z : ◌≡◌ {A = ℕ} 0 1 = cc in omega arith
 
 never_some : {t : Token} {ts : List Token} → [] ≡ t ∷ ts → ⊥
@@ -247,7 +214,7 @@ never_some {t} {ts} h = let z : 0 ≡ suc (length ts) = ap length h in omega ari
 -- the token t stands at or after a position, and behind it stand those of ts
 pub record Met (s : List ℕ) (at : ℕ) (t : Token) (ts : List Token) : Type 0 where
   pub end : ℕ
-  pub found : next_at s at ≡ Found t end
+  pub found : next_at s at ≡ Some (t, end)
   pub rest : tokens (drop end s) ≡ ts
 
 -- the token at a position is the first of those from there, and the others follow it
@@ -281,11 +248,11 @@ module _ (s : List ℕ) (at : ℕ) where
   unfolding runs
   tokens_none h = ap (map token_of) (runs_at ∙ ap runs (drop_of_length-le s h))
 
-  next_some : start < length s → next_at s at ≡ Found first stop
+  next_some : start < length s → next_at s at ≡ Some (first, stop)
   unfolding start first stop
   next_some h = rw (lt-ltb (at + gap (drop at s)) (length s) h)
 
-  next_none : length s ≤ start → next_at s at ≡ End
+  next_none : length s ≤ start → next_at s at ≡ None
   unfolding start
   next_none h = next_end s at start refl h
 
@@ -296,17 +263,17 @@ module _ (s : List ℕ) (at : ℕ) where
       by true k = f (ltb-true start (length s) k)
       by false k = g (ltb-false start (length s) k)
 
-  pub tokens_found : (t : Token) (e : ℕ) → next_at s at ≡ Found t e → tokens (drop at s) ≡ t ∷ tokens (drop e s)
+  pub tokens_found : (t : Token) (e : ℕ) → next_at s at ≡ Some (t, e) → tokens (drop at s) ≡ t ∷ tokens (drop e s)
   tokens_found t e h =
       inside (λ p. same (sym (next_some p) ∙ h) (tokens_some p)) (λ p. absurd (never_end (sym h ∙ next_none p)))
     where
-      same : Found first stop ≡ Found t e → tokens (drop at s) ≡ first ∷ tokens (drop stop s) → tokens (drop at s) ≡ t ∷ tokens (drop e s)
+      same : ◌≡◌ {A = Option (Token × ℕ)} (Some (first, stop)) (Some (t, e)) → tokens (drop at s) ≡ first ∷ tokens (drop stop s)
+          → tokens (drop at s) ≡ t ∷ tokens (drop e s)
       same k q =
-          let a : first ≡ t = cc in
-          let b : stop ≡ e = cc in
-          rw (a, b) at q
+          let p : ◌≡◌ {A = Token × ℕ} (first, stop) (t, e) = cc in
+          rw (ap (λ (x : Token × ℕ). x.0) p, ap (λ (x : Token × ℕ). x.1) p) at q
 
-  pub tokens_end : next_at s at ≡ End → tokens (drop at s) ≡ []
+  pub tokens_end : next_at s at ≡ None → tokens (drop at s) ≡ []
   tokens_end h = inside (λ p. absurd (never_end (sym (next_some p) ∙ h))) (λ p. tokens_none p)
 
   pub found_token : (t : Token) (ts : List Token) → tokens (drop at s) ≡ t ∷ ts → Met s at t ts
@@ -316,7 +283,7 @@ module _ (s : List ℕ) (at : ℕ) where
       here p k =
           let a : first ≡ t = cc in
           let b : tokens (drop stop s) ≡ ts = cc in
-          record { end = stop; found = next_some p ∙ ap (λ (u : Token). Found u stop) a; rest = b }
+          record { end = stop; found = next_some p ∙ ap (λ (u : Token). Some (u, stop)) a; rest = b }
 
-  pub end_token : tokens (drop at s) ≡ [] → next_at s at ≡ End
+  pub end_token : tokens (drop at s) ≡ [] → next_at s at ≡ None
   end_token h = inside (λ p. absurd (never_some (sym h ∙ tokens_some p))) (λ p. next_none p)

@@ -4,14 +4,13 @@
 --   runs s        the runs of other bytes, in order; `opens` tests whether one goes on, and `join` puts a byte in front
 --   is_digit, all_digits, value     a digit, digits alone, and what digits are worth after others
 --   max_digits, no_needless_zero, is_plain   "1 to 10 digits, no needless zero in front"
---   Token         a run that is a number, or one that is none (declared in src/)
+--   Token         a run that is a number, or None for one that is none
 --   token_of w    what a run is: `after_minus` or `unsigned`
 --   tokens s      what the runs of a text are, in order
 -- A text is the list of its bytes.
 -- Assumes nothing.
-use Rattle.std.specs.Prelude.{Bool, true, false, cond, not, ◌&&◌, ◌||◌, List, [], ◌∷◌, map, ℕ, ◌+◌, ◌-◌, ◌*◌, leb, eqb, pos, neg_ℤ, length}
-use Rattle.text.specs.declared.Token.{Token}
-use Rattle.text.specs.declared.Token.TheVariants.{Number, Bad}
+use Rattle.std.specs.Prelude.{Bool, true, false, cond, not, ◌&&◌, ◌||◌, List, [], ◌∷◌, map, ℕ, ◌+◌, ◌-◌, ◌*◌, leb, eqb, ℤ, pos, neg_ℤ, length, Option}
+use Rattle.std.specs.Prelude.{Some, None}
 
 -- "byte 32 or 10"
 abbrev pub is_blank : ℕ → Bool
@@ -57,16 +56,19 @@ no_needless_zero (b ∷ w) = not (eqb b 48) || eqb (length w) 0
 abbrev pub is_plain : List ℕ → Bool
 is_plain w = leb (length w) max_digits && (no_needless_zero w && all_digits w)
 
+abbrev pub Token : Type 0
+Token = Option ℤ
+
 abbrev pub unsigned : List ℕ → Token
-unsigned w = cond (is_plain w) (Number (pos (value 0 w))) Bad
+unsigned w = cond (is_plain w) (Some (pos (value 0 w))) None
 
 -- after a minus: "no −0"
 abbrev pub after_minus : List ℕ → Token
-after_minus w = cond (is_plain w && not (eqb (value 0 w) 0)) (Number (neg_ℤ (pos (value 0 w)))) Bad
+after_minus w = cond (is_plain w && not (eqb (value 0 w) 0)) (Some (neg_ℤ (pos (value 0 w)))) None
 
 -- "optional minus", byte 45
 abbrev pub token_of : List ℕ → Token
-token_of [] = Bad
+token_of [] = None
 token_of (b ∷ w) = cond (eqb b 45) (after_minus w) (unsigned (b ∷ w))
 
 abbrev pub tokens : List ℕ → List Token

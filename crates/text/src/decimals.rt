@@ -8,10 +8,9 @@ pub fn put(out: &mut [u8], at: usize, word: &[u8]) -> usize
     requires { at + length word.now ≤ length out.old }
     ensures { Wrote out.old at word.now result out.new }
 {
-    for i in 0..word.len() {
-        out[at + i] = word[i];
-    }
-    at + word.len()
+    let end = at + word.len();
+    out[at..end].copy_from_slice(word);
+    end
 }
 
 // The byte of a digit.
@@ -23,6 +22,7 @@ fn digit(d: u64) -> u8
 }
 
 // Writes the digits of n: those of its tenth, and then the last.
+#[tactic(auto, using(crate::proofs::Digits::natural_steps))]
 pub fn put_natural(out: &mut [u8], at: usize, n: u64) -> usize
     requires { at + length (natural n) ≤ length out.old }
     ensures { Wrote out.old at (natural n) result out.new }
@@ -38,14 +38,15 @@ pub fn put_natural(out: &mut [u8], at: usize, n: u64) -> usize
 }
 
 // Writes v, with a minus in front where it is below 0.
+#[tactic(auto, using(crate::proofs::Digits::integer_low))]
 pub fn put_integer(out: &mut [u8], at: usize, v: i64) -> usize
     requires { at + length (integer v) ≤ length out.old }
     ensures { Wrote out.old at (integer v) result out.new }
 {
-    if whole::less(v, 0) {
+    if v < 0 {
         let e = put(out, at, b"-");
-        put_natural(out, e, whole::magnitude(v))
+        put_natural(out, e, v.unsigned_abs())
     } else {
-        put_natural(out, at, whole::magnitude(v))
+        put_natural(out, at, v.unsigned_abs())
     }
 }

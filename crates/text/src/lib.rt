@@ -1,24 +1,11 @@
 #![tactic(auto)]
 
-// The bytes of texts and listings: numbers are read by `scanner` and written by `decimals`. Lists are copied by `buffers`.
-pub mod buffers;
+// The bytes of texts and listings: numbers are read by `scanner` and written by `decimals`.
 pub mod decimals;
 pub mod scanner;
 
 // A run of bytes in a text: a number, or none.
-#[derive(Clone, Copy)]
-pub enum Token {
-    Number(i64),
-    Bad,
-}
+pub type Token = Option<i64>;
 
-impl Token {
-    pub const MAX_DIGITS: usize = 10;
-}
-
-// What stands at or after a position: a token and where it ends, or nothing.
-#[derive(Clone, Copy)]
-pub enum Next {
-    Found(Token, usize),
-    End,
-}
+// The most digits of a number.
+pub const MAX_DIGITS: usize = 10;

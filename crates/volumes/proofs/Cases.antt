@@ -11,7 +11,8 @@ use lib.IntN.{ℤ, pos, negsuc}
 use Rattle.text.specs.Tokens.{all_digits, value}
 use Rattle.text.specs.Positions.{stretch}
 use Rattle.problem.specs.declared.Refusal.TheVariants.{Size, Layout, Volume as WrongVolume}
-use Rattle.sections.specs.Rules.{Outcome, ok, no}
+use Rattle.std.proofs.Common.{Ok, Err}
+use Rattle.sections.specs.Rules.{Outcome}
 use Rattle.sections.specs.StatedColumns.{placed, coefficient_rows}
 use Rattle.sections.proofs.Cases.{digit, minus_one}
 use Rattle.volumes.specs.Volumes.{Volume, is_on, indices, paths, volumes, volume_section}
@@ -26,7 +27,7 @@ many s = 57 ∷ 57 ∷ 57 ∷ 57 ∷ 57 ∷ 57 ∷ 57 ∷ 57 ∷ 57 ∷ digit 9 
 abbrev reads : List ℕ → Outcome (List Volume)
 reads s = volume_section s 4 1 0
 
-abbrev rows_of : List Volume → List ℤ
+abbrev rows_of : List Volume → List (List ℤ)
 rows_of vs = coefficient_rows 4 4 (swept_lines vs)
 
 -- the paths 1, 3, 2 and 4, 3, indices "in any order"
@@ -39,32 +40,32 @@ alike = ((1 ∷ []) ∷ (3 ∷ []) ∷ (1 ∷ []) ∷ []) ∷ ((4 ∷ []) ∷ []
 
 pub record VolumeCases : Type 0 where
   -- "Older texts gain a closing 0."
-  closing : reads (digit 0 []) ≡ ok [] 1
-  missing : reads [] ≡ no Layout
+  closing : reads (digit 0 []) ≡ Ok ([], 1)
+  missing : reads [] ≡ Err Layout
   -- "Path 1 less path k equals 0 .. An interval on both paths cancels and leaves no term."
-  two_paths : reads (digit 1 (digit 2 (digit 3 (digit 1 (digit 3 (digit 2 (digit 2 (digit 4 (digit 3 []))))))))) ≡ ok shared 17
-  their_row : rows_of shared ≡ pos 1 ∷ pos 1 ∷ pos 0 ∷ negsuc 0 ∷ []
+  two_paths : reads (digit 1 (digit 2 (digit 3 (digit 1 (digit 3 (digit 2 (digit 2 (digit 4 (digit 3 []))))))))) ≡ Ok (shared, 17)
+  their_row : rows_of shared ≡ (pos 1 ∷ pos 1 ∷ pos 0 ∷ negsuc 0 ∷ []) ∷ []
   -- "for each later path", "in text order": equal paths make a row of zeros, one path makes none
   three_paths : reads (digit 2 (digit 3 (digit 1 (digit 1 (digit 1 (digit 3 (digit 1 (digit 1 (digit 1 (digit 1 (digit 4 [])))))))))))
-      ≡ ok alike 21
-  two_rows : rows_of alike ≡ pos 1 ∷ pos 0 ∷ negsuc 0 ∷ pos 0 ∷ pos 0 ∷ pos 0 ∷ pos 0 ∷ pos 0 ∷ []
+      ≡ Ok (alike, 21)
+  two_rows : rows_of alike ≡ (pos 1 ∷ pos 0 ∷ negsuc 0 ∷ pos 0 ∷ []) ∷ (pos 0 ∷ pos 0 ∷ pos 0 ∷ pos 0 ∷ []) ∷ []
   -- 13
-  negative : reads (minus_one []) ≡ no WrongVolume
-  no_path : reads (digit 1 (digit 0 [])) ≡ no WrongVolume
-  no_interval : reads (digit 1 (digit 2 (digit 0 []))) ≡ no WrongVolume
-  index_below : reads (digit 1 (digit 2 (digit 1 (digit 0 [])))) ≡ no WrongVolume
-  index_above : reads (digit 1 (digit 2 (digit 1 (digit 5 [])))) ≡ no WrongVolume
-  index_twice : reads (digit 1 (digit 2 (digit 3 (digit 1 (digit 2 (digit 1 [])))))) ≡ no WrongVolume
+  negative : reads (minus_one []) ≡ Err WrongVolume
+  no_path : reads (digit 1 (digit 0 [])) ≡ Err WrongVolume
+  no_interval : reads (digit 1 (digit 2 (digit 0 []))) ≡ Err WrongVolume
+  index_below : reads (digit 1 (digit 2 (digit 1 (digit 0 [])))) ≡ Err WrongVolume
+  index_above : reads (digit 1 (digit 2 (digit 1 (digit 5 [])))) ≡ Err WrongVolume
+  index_twice : reads (digit 1 (digit 2 (digit 3 (digit 1 (digit 2 (digit 1 [])))))) ≡ Err WrongVolume
   -- an index may come again on another path
-  index_again : reads (digit 1 (digit 2 (digit 1 (digit 1 (digit 1 (digit 1 [])))))) ≡ ok (((1 ∷ []) ∷ (1 ∷ []) ∷ []) ∷ []) 11
+  index_again : reads (digit 1 (digit 2 (digit 1 (digit 1 (digit 1 (digit 1 [])))))) ≡ Ok (((1 ∷ []) ∷ (1 ∷ []) ∷ []) ∷ [], 11)
   -- "a count of paths that makes a 49th row is 1", before a path is read: with one row there, 48 paths make 48 rows, with two 49
-  row_48 : reads (digit 1 (forty_eight (digit 0 []))) ≡ no WrongVolume
-  row_49 : volume_section (digit 1 (forty_eight (digit 0 []))) 4 2 0 ≡ no Size
+  row_48 : reads (digit 1 (forty_eight (digit 0 []))) ≡ Err WrongVolume
+  row_49 : volume_section (digit 1 (forty_eight (digit 0 []))) 4 2 0 ≡ Err Size
   -- the rows of volumes before count too
-  row_later : reads (digit 2 (digit 2 (digit 1 (digit 1 (digit 1 (digit 2 (forty_eight []))))))) ≡ no Size
+  row_later : reads (digit 2 (digit 2 (digit 1 (digit 1 (digit 1 (digit 2 (forty_eight []))))))) ≡ Err Size
   -- a count that is only too large: the text ends
-  many_volumes : reads (many []) ≡ no Layout
-  many_intervals : reads (digit 1 (digit 1 (many (digit 1 [])))) ≡ no Layout
+  many_volumes : reads (many []) ≡ Err Layout
+  many_intervals : reads (digit 1 (digit 1 (many (digit 1 [])))) ≡ Err Layout
 
 pub volume_cases : VolumeCases
 unfolding all_digits value stretch placed coefficient_rows is_on indices paths volumes without terms_of swept_lines

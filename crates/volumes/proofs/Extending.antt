@@ -7,7 +7,7 @@ use Prim.Native.Nat.{ℕ, zero, suc, ◌+◌}
 use lib.Dec.{ltb}
 use lib.IntN.{pos, nat_abs}
 use lib.ListN.{length}
-use Rattle.text.specs.declared.Token.{Token}
+use Rattle.text.specs.Tokens.{Token}
 use Rattle.problem.specs.declared.Refusal.TheVariants.{Size, Volume as WrongVolume}
 use Rattle.sections.specs.Sections.{deck_rows}
 use Rattle.sections.proofs.Extending.{Extends, ok_carries, not_carries, then_carries, within_extends, no_less_extends}

@@ -1,38 +1,19 @@
--- Laws of lines end to end, and of the lines that volumes add.
---   tables_two                    the rows of lines end to end, as a table
+-- Laws of the lines that volumes add.
 --   swept_slacks, -rights, no_column_lem   a path's line is an equal row with the number 0: it has no y, and its right side is 0
 --   term_row n l                  the row of a line without a y: its terms alone; swept-table, those of the lines that volumes add
 -- Assumes nothing.
-use mathlib.Core.Path.{◌≡◌, refl, sym, ap, ap₂, ◌∙◌}
+use mathlib.Core.Path.{◌≡◌, refl, ap, ◌∙◌}
 use mathlib.Core.List.{List, [], ◌∷◌, ◌++◌, map, append-nil}
-use Prim.Native.Nat.{ℕ, ◌+◌, ◌*◌}
-use native.Mathlib.Omega.{arith}
+use Prim.Native.Nat.{ℕ, ◌+◌}
 use lib.IntN.{ℤ, pos}
-use lib.ListN.{length, length-append}
-use lib.Seq.{take_at, drop_at}
+use lib.ListN.{length}
 use Rattle.whole.specs.Lists.{zeros}
-use Rattle.lattice.specs.Rows.{chop}
-use Rattle.lattice.proofs.FlatLaws.{chop_split, chop_take}
 use Rattle.sections.specs.Sections.{Line}
 use Rattle.sections.specs.StatedColumns.{right_of, slack_columns, placed, coefficient_rows}
 use Rattle.sections.specs.declared.Interval.{Interval}
-use Rattle.sections.proofs.Storage.{slacks_two, rows_two, length_row, length_rows}
+use Rattle.sections.proofs.Storage.{slacks_two}
 use Rattle.volumes.specs.Volumes.{SweepPath, Volume}
 use Rattle.volumes.specs.PathLines.{path_line, swept_lines}
-
--- ---- lines end to end
-pub tables_two : (n c : ℕ) (ls ms : List Line)
-    → chop (length (ls ++ ms)) n (coefficient_rows n c (ls ++ ms))
-    ≡ chop (length ls) n (coefficient_rows n c ls) ++ chop (length ms) n (coefficient_rows n (c + length (slack_columns ls)) ms)
-tables_two n c ls ms =
-    let k : ℕ = length ls * n in
-    let u : List ℤ = coefficient_rows n c ls in
-    let w : List ℤ = coefficient_rows n (c + length (slack_columns ls)) ms in
-    ap₂ (λ (j : ℕ) (t : List ℤ). chop j n t) (length-append ls ms) (rows_two n c ls ms)
-    ∙ chop_split (length ls) (length ms) n (u ++ w)
-    ∙ ap₂ ◌++◌
-    (sym (chop_take (length ls) n k (u ++ w) (omega arith)) ∙ ap (chop (length ls) n) (take_at u w k (length_rows n c ls)))
-    (ap (chop (length ms) n) (drop_at u w k (length_rows n c ls)))
 
 -- ---- the lines that volumes add
 later_slacks : (first : SweepPath) (ps : List SweepPath) (ls : List Line) → slack_columns (map (path_line first) ps ++ ls) ≡ slack_columns ls
@@ -66,21 +47,14 @@ term_row n l = placed l.terms (zeros n)
 
 -- the next y is column c, and stays so
 later_table : (n : ℕ) (first : SweepPath) (ps : List SweepPath) (ls : List Line)
-    → ((c : ℕ) → chop (length ls) n (coefficient_rows n c ls) ≡ map (term_row n) ls)
-    → (c : ℕ) → chop (length (map (path_line first) ps ++ ls)) n (coefficient_rows n c (map (path_line first) ps ++ ls))
-    ≡ map (term_row n) (map (path_line first) ps ++ ls)
+    → ((c : ℕ) → coefficient_rows n c ls ≡ map (term_row n) ls)
+    → (c : ℕ) → coefficient_rows n c (map (path_line first) ps ++ ls) ≡ map (term_row n) (map (path_line first) ps ++ ls)
 unfolding coefficient_rows
 later_table n first [] ls h c = h c
-later_table n first (p ∷ ps) ls h c =
-    let l : Line = path_line first p in
-    let ms : List Line = map (path_line first) ps ++ ls in
-    let w : List ℤ = coefficient_rows n (c + 0) ms in
-    let e = length_row n c l in
-    ap₂ ◌∷◌ (take_at (term_row n l) w n e) (ap (chop (length ms) n) (drop_at (term_row n l) w n e) ∙ later_table n first ps ls h (c + 0))
+later_table n first (p ∷ ps) ls h c = ap (λ (T : List (List ℤ)). term_row n (path_line first p) ∷ T) (later_table n first ps ls h (c + 0))
 
-pub swept_table : (n : ℕ) (vs : List Volume) (c : ℕ)
-    → chop (length (swept_lines vs)) n (coefficient_rows n c (swept_lines vs)) ≡ map (term_row n) (swept_lines vs)
-unfolding swept_lines
+pub swept_table : (n : ℕ) (vs : List Volume) (c : ℕ) → coefficient_rows n c (swept_lines vs) ≡ map (term_row n) (swept_lines vs)
+unfolding swept_lines coefficient_rows
 swept_table n [] c = refl
 swept_table n ([] ∷ vs) c = swept_table n vs c
 swept_table n ((first ∷ ps) ∷ vs) c = later_table n first ps (swept_lines vs) (swept_table n vs) c

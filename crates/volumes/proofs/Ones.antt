@@ -1,31 +1,31 @@
--- Laws of the line of a path, and of the row that two paths make.
+-- Laws of the marks of a path, and of the row that two paths make.
 --   entry_termed                what stands at a place once the terms of a path are placed
---   entry_ones, one_on          what stands at an interval's place, and whether it tells that the interval is on the path
---   ones_none, -more, -are      the line of no index, of one more, and what all of them are; length-ones, how long
+--   mark_on                     the mark of an interval tells whether it is on the path; marked_more, one more index
+--   length_marks, length_less   how many marks a path has, and how many numbers marks less marks are
 --   on_without, named_without   the indices of a path that are not on another
---   path_row                    path 1 less path k, as a row of n numbers; swept-row, of the largest size
+--   path_row                    path 1 less path k, as a row of n numbers; swept_row, from the marks of both
 -- Assumes nothing.
 use mathlib.Core.Path.{◌≡◌, refl, sym, ◌∙◌, ap, ap₂, subst}
 use mathlib.Core.Bool.{Bool, true, false, cond, not, ◌&&◌, ◌||◌}
 use mathlib.Core.List.{List, [], ◌∷◌, ◌++◌}
-use Prim.Native.Nat.{ℕ, suc, ◌-◌, ◌≤◌, ◌<◌}
+use Prim.Native.Nat.{ℕ, zero, suc, ◌-◌, ◌<◌}
 use native.Mathlib.Omega.{arith}
-use borrow.Author.Tests.{eqb-true, eqb-false, ltb-true, ltb-false}
-use lib.Dec.{eqb, ltb}
-use lib.IntN.{ℤ, pos, negsuc, nat_abs, ◌+ℤ◌, ◌*ℤ◌}
-use lib.ListN.{length, set, length-set, length-replicate, get_or-eq_default}
+use borrow.Author.Tests.{eqb-true, eqb-false}
+use lib.Dec.{eqb}
+use lib.IntN.{ℤ, pos, negsuc, ◌+ℤ◌, ◌*ℤ◌, ◌-ℤ◌}
+use lib.ListN.{length, set, length-set, length-replicate, replicate, get_or}
 use lib.Seq.{get_or-set_same, get_or-set_other, ext_get_or}
 use Rattle.whole.specs.Lists.{entry, zeros}
 use Rattle.whole.proofs.Lists.{entry_zeros}
 use Rattle.lattice.specs.Rows.{minus}
 use Rattle.lattice.proofs.RowLaws.{length_plus, entry_plus}
 use Rattle.sections.specs.Sections.{deck_columns}
-use Rattle.sections.specs.StatedColumns.{placed, blank}
-use Rattle.sections.specs.declared.Term.{Term}
-use Rattle.sections.proofs.Storage.{blank_is, length_blank, length_placed, placed_none, placed_two, placed_more}
+use Rattle.std.specs.Int.{from_bool}
+use Rattle.sections.specs.StatedColumns.{placed}
+use Rattle.sections.proofs.Storage.{length_placed, placed_two}
 use Rattle.volumes.specs.Volumes.{SweepPath, is_on}
 use Rattle.volumes.specs.PathLines.{without, terms_of, path_terms}
-use Rattle.volumes.specs.VolumesRead.{Named, ones_of, Ones, later_row}
+use Rattle.volumes.specs.VolumesRead.{Named, marked, no_marks, marks_of, less, later_row}
 
 -- ---- the terms of a path, placed
 same_both : (t : Bool) (c : ℤ) → cond t c c ≡ c
@@ -48,59 +48,74 @@ entry_termed c (j ∷ p) u n i w h =
         ap (cond (is_on (suc i) p) c) f ∙ same_both (is_on (suc i) p) c
     go false e = ap (cond (is_on (suc i) p) c) (get_or-set_other u (j - 1) i c (pos 0) (λ f. eqb-false j (suc i) e (omega (arith, w.0.0))))
 
--- ---- the line of a path
-pub length_ones : (p : SweepPath) → length (ones_of p) ≡ deck_columns
-length_ones p = length_placed (terms_of (pos 1) p) (blank deck_columns) ∙ length_blank deck_columns
+-- ---- the marks of a path
+get_marked : (p : SweepPath) (u : List Bool) (n i : ℕ) → Named n p → i < length u
+    → get_or (marked p u) i false ≡ (is_on (suc i) p || get_or u i false)
+unfolding marked is_on
+get_marked [] u n i w h = refl
+get_marked (j ∷ p) u n i w h =
+    get_marked p (set u (j - 1) true) n i w.1 (omega (arith, length-set u (j - 1) true)) ∙ go (is_on (suc i) p) (eqb j (suc i)) refl
+  where
+    go : (b t : Bool) → eqb j (suc i) ≡ t → (b || get_or (set u (j - 1) true) i false) ≡ ((t || b) || get_or u i false)
+    go true true e = refl
+    go true false e = refl
+    go false true e =
+        let k : j - 1 ≡ i = omega (arith, eqb-true j (suc i) e) in
+        ap (λ (k : ℕ). get_or (set u k true) i false) k ∙ get_or-set_same u i true false h
+    go false false e = get_or-set_other u (j - 1) i true false (λ f. eqb-false j (suc i) e (omega (arith, w.0.0)))
 
+length_marked : (p : SweepPath) (u : List Bool) → length (marked p u) ≡ length u
+unfolding marked
+length_marked [] u = refl
+length_marked (j ∷ p) u = length_marked p (set u (j - 1) true) ∙ length-set u (j - 1) true
+
+length_none : length no_marks ≡ deck_columns
+unfolding no_marks
+length_none = refl
+
+pub length_marks : (p : SweepPath) → length (marks_of p) ≡ deck_columns
+length_marks p = length_marked p no_marks ∙ length_none
+
+none_set : (n i : ℕ) → get_or (replicate n false) i false ≡ false
+none_set zero i = refl
+none_set (suc n) zero = refl
+none_set (suc n) (suc i) = none_set n i
+
+pub mark_on : (p : SweepPath) (n i : ℕ) → Named n p → i < deck_columns → get_or (marks_of p) i false ≡ is_on (suc i) p
+unfolding no_marks
+mark_on p n i w h =
+    get_marked p no_marks n i w (omega (arith, length_none)) ∙ ap (λ (b : Bool). is_on (suc i) p || b) (none_set deck_columns i)
+    ∙ none (is_on (suc i) p)
+  where
+    none : (b : Bool) → (b || false) ≡ b
+    none true = refl
+    none false = refl
+
+pub marked_more : (p : SweepPath) (j : ℕ) (u : List Bool) → set (marked p u) (j - 1) true ≡ marked (p ++ (j ∷ [])) u
+unfolding marked
+marked_more [] j u = refl
+marked_more (i ∷ p) j u = marked_more p j (set u (i - 1) true)
+
+-- ---- marks less marks
+pub length_less : (u v : List Bool) → length u ≡ length v → length (less u v) ≡ length u
+unfolding less
+length_less [] v h = refl
+length_less (x ∷ u) [] h = absurd (omega arith)
+length_less (x ∷ u) (y ∷ v) h = let e = length_less u v (omega arith) in omega arith
+
+pub entry_less : (u v : List Bool) (i : ℕ) → i < length u → i < length v
+    → entry i (less u v) ≡ pos (from_bool (get_or u i false)) -ℤ pos (from_bool (get_or v i false))
+unfolding less
+entry_less [] v i h k = absurd (omega arith)
+entry_less (x ∷ u) [] i h k = absurd (omega arith)
+entry_less (x ∷ u) (y ∷ v) zero h k = refl
+entry_less (x ∷ u) (y ∷ v) (suc i) h k = entry_less u v i (omega arith) (omega arith)
+
+-- ---- the terms of a path, placed in zeros
 entry_path : (n : ℕ) (p : SweepPath) (k i : ℕ) → Named k p → i < n
     → entry i (placed (terms_of (pos 1) p) (zeros n)) ≡ cond (is_on (suc i) p) (pos 1) (pos 0)
 entry_path n p k i w h =
     entry_termed (pos 1) p (zeros n) k i w (omega (arith, length-replicate n (pos 0))) ∙ ap (cond (is_on (suc i) p) (pos 1)) (entry_zeros i n)
-
-pub entry_ones : (p : SweepPath) (n i : ℕ) → Named n p → i < deck_columns → entry i (ones_of p) ≡ cond (is_on (suc i) p) (pos 1) (pos 0)
-entry_ones p n i w h =
-    ap (λ (u : List ℤ). entry i (placed (terms_of (pos 1) p) u)) (blank_is deck_columns) ∙ entry_path deck_columns p n i w h
-
-pub one_on : (p : SweepPath) (n j : ℕ) → Named n p → 1 ≤ j → j ≤ deck_columns
-    → ((nat_abs (entry (j - 1) (ones_of p)) ≡ 0 → ⊥) → is_on j p ≡ true) × (nat_abs (entry (j - 1) (ones_of p)) ≡ 0 → is_on j p ≡ false)
-one_on p n j w h k =
-    let s : suc (j - 1) ≡ j = omega arith in
-    let e : entry (j - 1) (ones_of p) ≡ cond (is_on j p) (pos 1) (pos 0) =
-    entry_ones p n (j - 1) w (omega arith) ∙ ap (λ (i : ℕ). cond (is_on i p) (pos 1) (pos 0)) s in
-    go (is_on j p) (ap nat_abs e)
-  where
-    go : (t : Bool) → nat_abs (entry (j - 1) (ones_of p)) ≡ nat_abs (cond t (pos 1) (pos 0))
-        → ((nat_abs (entry (j - 1) (ones_of p)) ≡ 0 → ⊥) → t ≡ true) × (nat_abs (entry (j - 1) (ones_of p)) ≡ 0 → t ≡ false)
-    go true e = ((λ f. refl), (λ f. absurd (omega arith)))
-    go false e = ((λ f. absurd (f e)), (λ f. refl))
-
-pub ones_none : blank deck_columns ≡ ones_of []
-unfolding terms_of
-ones_none = placed_none (blank deck_columns)
-
-terms_end : (c : ℤ) (p : SweepPath) (j : ℕ) → terms_of c (p ++ (j ∷ [])) ≡ terms_of c p ++ (record { index = j; coefficient = c } ∷ [])
-unfolding terms_of
-terms_end c [] j = refl
-terms_end c (i ∷ p) j = ap (λ (ts : List Term). record { index = i; coefficient = c } ∷ ts) (terms_end c p j)
-
-pub ones_more : (p : SweepPath) (j : ℕ) → set (ones_of p) (j - 1) (pos 1) ≡ ones_of (p ++ (j ∷ []))
-ones_more p j =
-    placed_more (terms_of (pos 1) p) (record { index = j; coefficient = pos 1 }) (blank deck_columns)
-    ∙ ap (λ (ts : List Term). placed ts (blank deck_columns)) (sym (terms_end (pos 1) p j))
-
-pub ones_are : (p : SweepPath) (n : ℕ) → Named n p → Ones (ones_of p)
-ones_are p n w = record { wide = length_ones p; small = λ j. go j (ltb j deck_columns) refl }
-  where
-    one : (t : Bool) → nat_abs (cond t (pos 1) (pos 0)) ≤ 1
-    one true = omega arith
-    one false = omega arith
-
-    go : (j : ℕ) (t : Bool) → ltb j deck_columns ≡ t → nat_abs (entry j (ones_of p)) ≤ 1
-    go j true e =
-        subst (λ (x : ℤ). nat_abs x ≤ 1) (sym (entry_ones p n j w (ltb-true j deck_columns e))) (one (is_on (suc j) p))
-    go j false e =
-        let l : length (ones_of p) ≤ j = omega (arith, length_ones p, ltb-false j deck_columns e) in
-        rw (get_or-eq_default (ones_of p) (pos 0) l) (omega arith)
 
 -- ---- what is on one path alone
 pub on_without : (j : ℕ) (q p : SweepPath) → is_on j (without q p) ≡ (is_on j p && not (is_on j q))
@@ -149,12 +164,12 @@ module _ (n k : ℕ) (first p : SweepPath) (v : Named k first) (w : Named k p) w
       (entry_termed (pos 1) a (zeros n) k i (named_without k p first v) (omega (arith, z))
       ∙ ap₂ (λ (t : Bool) (x : ℤ). cond t (pos 1) x) (on_without (suc i) p first) (entry_zeros i n))
 
-  less : (f g : Bool)
+  less_told : (f g : Bool)
       → cond (g && not f) (negsuc 0) (cond (f && not g) (pos 1) (pos 0)) ≡ cond f (pos 1) (pos 0) +ℤ negsuc 0 *ℤ cond g (pos 1) (pos 0)
-  less true true = refl
-  less true false = refl
-  less false true = refl
-  less false false = refl
+  less_told true true = refl
+  less_told true false = refl
+  less_told false true = refl
+  less_told false false = refl
 
   pub path_row : placed (path_terms first p) (zeros n) ≡ minus (placed (terms_of (pos 1) first) (zeros n)) (placed (terms_of (pos 1) p) (zeros n))
   path_row =
@@ -164,12 +179,27 @@ module _ (n k : ℕ) (first p : SweepPath) (v : Named k first) (w : Named k p) w
       let l = length_placed (path_terms first p) (zeros n) in
       let o = length_placed (terms_of (pos 1) first) (zeros n) in
       ext_get_or (pos 0) (placed (path_terms first p) (zeros n)) (minus ours theirs) (l ∙ sym o ∙ sym (length_plus (negsuc 0) theirs ours))
-      (λ i h. alone i (omega (arith, l, z)) ∙ less (is_on (suc i) first) (is_on (suc i) p)
+      (λ i h. alone i (omega (arith, l, z)) ∙ less_told (is_on (suc i) first) (is_on (suc i) p)
       ∙ sym (entry_plus i (negsuc 0) theirs ours (omega (arith, l, o))
       ∙ ap₂ (λ (x y : ℤ). x +ℤ negsuc 0 *ℤ y) (entry_path n first k i v (omega (arith, l, z))) (entry_path n p k i w (omega (arith, l, z)))))
 
-pub swept_row : (k : ℕ) (first p : SweepPath) → Named k first → Named k p → later_row (ones_of first) p ≡ placed (path_terms first p)
-    (zeros deck_columns)
+pub swept_row : (k : ℕ) (first p : SweepPath) → Named k first → Named k p
+    → later_row (marks_of first) p ≡ placed (path_terms first p) (zeros deck_columns)
 swept_row k first p v w =
-    ap (λ (z : List ℤ). minus (placed (terms_of (pos 1) first) z) (placed (terms_of (pos 1) p) z)) (blank_is deck_columns)
-    ∙ sym (path_row deck_columns k first p v w)
+    let n = deck_columns in
+    let a = length_marks first in
+    let b = length_marks p in
+    let l = length_less (marks_of first) (marks_of p) (a ∙ sym b) in
+    let z = length-replicate n (pos 0) in
+    let q = length_placed (path_terms first p) (zeros n) in
+    ext_get_or (pos 0) (later_row (marks_of first) p) (placed (path_terms first p) (zeros n)) (omega arith)
+    (λ i h. entry_less (marks_of first) (marks_of p) i (omega arith) (omega arith)
+    ∙ ap₂ (λ (x y : Bool). pos (from_bool x) -ℤ pos (from_bool y)) (mark_on first k i v (omega arith)) (mark_on p k i w (omega arith))
+    ∙ told (is_on (suc i) first) (is_on (suc i) p) ∙ sym (alone n k first p v w i (omega arith)))
+  where
+    told : (f g : Bool)
+        → pos (from_bool f) -ℤ pos (from_bool g) ≡ cond (g && not f) (negsuc 0) (cond (f && not g) (pos 1) (pos 0))
+    told true true = refl
+    told true false = refl
+    told false true = refl
+    told false false = refl

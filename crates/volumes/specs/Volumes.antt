@@ -12,9 +12,9 @@
 -- "volume" and "path" are document 02's own terms. 13 and the new 1 come "at that number's place in the text": a count of volumes or of
 -- intervals that is only too large is not refused there, and then the text ends (11) or an index comes twice (13).
 -- Assumes nothing.
-use Rattle.std.specs.Prelude.{Bool, false, cond, ◌||◌, List, [], ◌∷◌, ◌++◌, ℕ, zero, suc, ◌+◌, ◌-◌, eqb, ltb, pos, nat_abs, length}
+use Rattle.std.specs.Prelude.{Bool, false, cond, ◌||◌, List, [], ◌∷◌, ◌++◌, ℕ, zero, suc, ◌+◌, ◌-◌, eqb, ltb, pos, nat_abs, length, Ok, Err}
 use Rattle.problem.specs.declared.Refusal.TheVariants.{Size, Volume as WrongVolume}
-use Rattle.sections.specs.Rules.{Outcome, ok, no, then, within, no_less}
+use Rattle.sections.specs.Rules.{Outcome, then, within, no_less}
 use Rattle.sections.specs.Sections.{deck_rows}
 
 abbrev pub SweepPath : Type 0
@@ -31,11 +31,11 @@ is_on j (i ∷ p) = eqb i j || is_on j p
 -- "or an index outside or twice in one path", where done are the path's indices so far
 abbrev pub index : List ℕ → ℕ → SweepPath → ℕ → Outcome ℕ
 index s count done at =
-    then (within s (pos 1) (pos count) WrongVolume at) (λ v at. cond (is_on (nat_abs v) done) (no WrongVolume) (ok (nat_abs v) at))
+    then (within s (pos 1) (pos count) WrongVolume at) (λ v at. cond (is_on (nat_abs v) done) (Err WrongVolume) (Ok (nat_abs v, at)))
 
 -- k indices, after those done
 unfoldable pub indices : List ℕ → ℕ → ℕ → SweepPath → ℕ → Outcome SweepPath
-indices s zero count done at = ok done at
+indices s zero count done at = Ok (done, at)
 indices s (suc k) count done at = then (index s count done at) (λ j at. indices s k count (done ++ (j ∷ [])) at)
 
 -- "a count .. of a path's intervals below 1"
@@ -44,7 +44,7 @@ path s count at = then (no_less s (pos 1) WrongVolume at) (λ k at. indices s (n
 
 -- k paths, after those done
 unfoldable pub paths : List ℕ → ℕ → ℕ → Volume → ℕ → Outcome Volume
-paths s zero count done at = ok done at
+paths s zero count done at = Ok (done, at)
 paths s (suc k) count done at = then (path s count at) (λ p at. paths s k count (done ++ (p ∷ [])) at)
 
 -- ---- a volume, where there are rows already
@@ -55,7 +55,7 @@ later_paths k = k - 1
 
 -- "a count of paths that makes a 49th row is 1"
 abbrev pub with_rows : ℕ → ℕ → ℕ → Outcome ℕ
-with_rows rows k at = cond (ltb deck_rows (rows + later_paths k)) (no Size) (ok k at)
+with_rows rows k at = cond (ltb deck_rows (rows + later_paths k)) (Err Size) (Ok (k, at))
 
 -- "a count of paths .. below 1"
 abbrev pub path_count : List ℕ → ℕ → ℕ → Outcome ℕ
@@ -66,7 +66,7 @@ volume s count rows at = then (path_count s rows at) (λ k at. paths s k count [
 
 -- k volumes, after those done
 unfoldable pub volumes : List ℕ → ℕ → ℕ → ℕ → List Volume → ℕ → Outcome (List Volume)
-volumes s zero count rows done at = ok done at
+volumes s zero count rows done at = Ok (done, at)
 volumes s (suc k) count rows done at =
     then (volume s count rows at) (λ v at. volumes s k count (rows + later_paths (length v)) (done ++ (v ∷ [])) at)
 

@@ -1,212 +1,143 @@
 #![tactic(auto)]
 
-// Document 02, (iii): the section of volumes. A path is read into a line of 0 and 1, a 1 for each of its intervals; the row of a later path is
-// path 1's line less its own. The right sides behind the rows are 0 already, as these rows' are.
-ghost use Rattle.std.specs.Prelude.{◌≡◌, [], ◌+◌, ◌-◌, ◌<◌, ◌≤◌, length};
-ghost use Rattle.lattice.specs.Rows.{minus};
-ghost use Rattle.sections.specs.Sections.{deck_columns, deck_rows, coefficient_count};
-ghost use Rattle.sections.specs.StatedColumns.{blank};
-ghost use Rattle.volumes.specs.Volumes.{indices, path, paths, path_count, volume, volume_section};
-ghost use Rattle.volumes.specs.VolumesRead.{count_got_of, Ones, PathRead, LaterRead, PathsRead, VolumeRead, SectionRead};
-ghost use Rattle.volumes.specs.VolumesRead.{volumes_done, volumes_left};
+// Document 02, (iii): the section of volumes. A path is read as marks, one for each column, of those that it goes over; the row of a later path is
+// path 1's marks less its own. The right sides behind the rows are 0 already, as these rows' are.
+ghost use Rattle.std.specs.Prelude.{◌≡◌, [], ◌+◌, ◌<◌, ◌≤◌, IfOk};
+ghost use Rattle.sections.specs.Sections.{deck_columns, deck_rows};
+ghost use Rattle.sections.specs.SectionsRead.{LeftOpen};
+ghost use Rattle.volumes.specs.Volumes.{indices, path, paths, later_paths as later·rule, path_count, volume, volume_section};
+ghost use Rattle.volumes.specs.VolumesRead.{as_marks, less, LaterRead, PathsRead, VolumeRead, volumes_left};
 
 use problem::Refusal;
-use sections::rules::{natural, no_less, signed, within};
-use sections::{Cursor, Got, Past, Section, Sizes};
-use text::buffers::copy;
-use whole::buffers::wipe;
+use sections::rules::{no_less, within};
+use sections::{Cursor, Outcome, Rows, Sizes};
 
-// A path's k indices, each a 1 in a line that holds 0: an index whose place holds a 1 comes twice.
-fn read_indices(s: &[u8], at: usize, k: usize, count: usize, ones: &mut [i64]) -> Past
-    requires { (count ≤ deck_columns) × (ones.old ≡ blank deck_columns) }
-    ensures { PathRead (indices s.now k count [] at) result ones.new }
+// Whether a path goes over each of the columns.
+type Marks = [bool; Sizes::COLUMNS];
+
+// A path's k indices: one whose mark is set comes twice.
+fn read_indices(s: &[u8], at: usize, k: usize, count: usize) -> Outcome<Marks>
+    requires { count ≤ deck_columns }
+    ensures { result ≡ as_marks (indices s.now k count [] at) }
 {
-    let mut p = at;
-    for i in 0..k {
-        let g = within(s, p, 1, signed(count), Refusal::Volume);
-        match g {
-            Got::Value(v, e) => {
-                let j = natural(v) - 1;
-                if natural(ones[j]) != 0 {
-                    return Past::Refused(Refusal::Volume);
-                }
-                ones[j] = 1;
-                p = e;
-            }
-            Got::Refused(why) => {
-                return Past::Refused(why);
-            }
+    let mut marks = [false; Sizes::COLUMNS];
+    let mut at = at;
+    for _ in 0..k {
+        let (index, next) = within(s, at, 1, count as i64, Refusal::Volume)?;
+        let j = index as usize - 1;
+        let twice = marks[j];
+        if twice {
+            return Err(Refusal::Volume);
         }
+        marks[j] = true;
+        at = next;
     }
-    Past::Went(p)
+    Ok((marks, at))
 }
 
 // A path: its count of intervals, and their indices.
-fn read_path(s: &[u8], at: usize, count: usize, ones: &mut [i64]) -> Past
-    requires { (count ≤ deck_columns) × (ones.old ≡ blank deck_columns) }
-    ensures { PathRead (path s.now count at) result ones.new }
+fn read_path(s: &[u8], at: usize, count: usize) -> Outcome<Marks>
+    requires { count ≤ deck_columns }
+    ensures { result ≡ as_marks (path s.now count at) }
 {
-    let g = no_less(s, at, 1, Refusal::Volume);
-    match g {
-        Got::Value(k, e) => read_indices(s, e, natural(k), count, ones),
-        Got::Refused(why) => Past::Refused(why),
-    }
+    let (k, at) = no_less(s, at, 1, Refusal::Volume)?;
+    read_indices(s, at, k as usize, count)
 }
 
-// The first line less the second, in the second one's place.
-fn subtract(first: &[i64], line: &mut [i64])
-    requires { Ones first.now × Ones line.old }
-    ensures { line.new ≡ minus first.now line.old }
+// The first marks less the second, a mark counting 1.
+fn later_row(first: &Marks, later: &Marks) -> [i64; Sizes::COLUMNS]
+    ensures { result ≡ less first.now later.now }
 {
+    let mut row = [0; Sizes::COLUMNS];
+    // By index: of what is written through `iter_mut` a proof learns nothing.
     for j in 0..Sizes::COLUMNS {
-        let a = first[j];
-        let b = line[j];
-        line[j] = a - b;
+        row[j] = i64::from(first[j]) - i64::from(later[j]);
     }
+    row
 }
 
 // The next later path, and its row.
-fn next_path(s: &[u8], c: Cursor, first: &[i64], table: &mut [i64]) -> Section
-    requires intervals_le_deck_columns { (c.intervals ≤ deck_columns) × (c.rows < deck_rows) }
-    requires ones { Ones first.now × (length table.old ≡ coefficient_count) }
-    ensures { LaterRead (path s.now c.intervals c.at) c result
-        first.now table.old table.new }
+fn next_path(s: &[u8], c: Cursor, first: &Marks, rows: &mut Rows) -> Result<Cursor, Refusal>
+    requires { (c.intervals ≤ deck_columns) × (c.rows < deck_rows) }
+    ensures { LaterRead (path s.now c.intervals c.at) c result first.now rows.old rows.new }
 {
-    let mut line = [0i64; Sizes::COLUMNS];
-    let g = read_path(s, c.at, c.intervals, &mut line);
-    match g {
-        Past::Went(e) => {
-            subtract(first, &mut line);
-            copy(table, c.rows * Sizes::COLUMNS, &line);
-            Section::Read(Cursor {
-                at: e,
-                intervals: c.intervals,
-                columns: c.columns,
-                rows: c.rows + 1,
-            })
-        }
-        Past::Refused(why) => Section::Refused(why),
-    }
+    let (later, at) = read_path(s, c.at, c.intervals)?;
+    rows[c.rows] = later_row(first, &later);
+    Ok(Cursor {
+        at,
+        rows: c.rows + 1,
+        ..c
+    })
 }
 
-// The later paths of a volume, up to a count of rows.
-fn later_paths(s: &[u8], start: Cursor, end: usize, first: &[i64], table: &mut [i64]) -> Section
-    requires intervals_le_deck_columns { (start.intervals ≤ deck_columns) × (start.rows ≤ end) × (end ≤ deck_rows) }
-    requires ones { Ones first.now × (length table.old ≡ coefficient_count) }
-    ensures { PathsRead (λ done. paths s.now (end - start.rows) start.intervals done start.at) start result
-        first.now table.old table.new }
+// The k later paths of a volume.
+fn later_paths(
+    s: &[u8],
+    start: Cursor,
+    k: usize,
+    first: &Marks,
+    rows: &mut Rows,
+) -> Result<Cursor, Refusal>
+    requires { (start.intervals ≤ deck_columns) × (start.rows + k ≤ deck_rows) }
+    ensures { PathsRead (λ done. paths s.now k start.intervals done start.at) k start result first.now rows.old rows.new }
 {
-    let mut c = Cursor {
-        at: start.at,
-        intervals: start.intervals,
-        columns: start.columns,
-        rows: start.rows,
-    };
-    while c.rows < end {
-        let g = next_path(s, c, first, table);
-        match g {
-            Section::Read(d) => {
-                c = d;
-            }
-            Section::Refused(why) => {
-                return Section::Refused(why);
-            }
-        }
+    let mut c = start;
+    for _ in 0..k {
+        c = next_path(s, c, first, rows)?;
     }
-    Section::Read(c)
+    Ok(c)
 }
 
 // A count of paths, unless their rows are too many.
-fn count_paths(s: &[u8], at: usize, rows: usize) -> Got
+fn count_paths(s: &[u8], at: usize, rows: usize) -> Outcome<usize>
     requires { rows ≤ deck_rows }
-    ensures { path_count s.now rows at ≡ count_got_of result }
+    ensures read { result ≡ path_count s.now rows at }
+    ensures room { IfOk result (λ x. (1 ≤ x.0) × (rows + later·rule x.0 ≤ deck_rows)) }
 {
-    let g = no_less(s, at, 1, Refusal::Volume);
-    match g {
-        Got::Value(k, e) => {
-            if Sizes::ROWS - rows < natural(k) - 1 {
-                Got::Refused(Refusal::Size)
-            } else {
-                Got::Value(k, e)
-            }
-        }
-        Got::Refused(why) => Got::Refused(why),
+    let (k, at) = no_less(s, at, 1, Refusal::Volume)?;
+    let k = k as usize;
+    if Sizes::ROWS - rows < k - 1 {
+        Err(Refusal::Size)
+    } else {
+        Ok((k, at))
     }
 }
 
 // A volume, and the rows of its later paths.
-fn read_volume(s: &[u8], c: Cursor, table: &mut [i64]) -> Section
-    requires { (c.intervals ≤ deck_columns) × (c.rows ≤ deck_rows) × (length table.old ≡ coefficient_count) }
-    ensures { VolumeRead (volume s.now c.intervals c.rows c.at) c result table.old table.new }
+fn read_volume(s: &[u8], c: Cursor, rows: &mut Rows) -> Result<Cursor, Refusal>
+    requires { (c.intervals ≤ deck_columns) × (c.rows ≤ deck_rows) }
+    ensures read { VolumeRead (volume s.now c.intervals c.rows c.at) c result rows.old rows.new }
+    ensures room { IfOk result (λ d. d.rows ≤ deck_rows) }
 {
-    let g = count_paths(s, c.at, c.rows);
-    match g {
-        Got::Value(v, p) => {
-            let k = natural(v);
-            let mut first = [0i64; Sizes::COLUMNS];
-            let a = read_path(s, p, c.intervals, &mut first);
-            match a {
-                Past::Went(e) => {
-                    let start = Cursor {
-                        at: e,
-                        intervals: c.intervals,
-                        columns: c.columns,
-                        rows: c.rows,
-                    };
-                    later_paths(s, start, c.rows + (k - 1), &first, table)
-                }
-                Past::Refused(why) => Section::Refused(why),
-            }
-        }
-        Got::Refused(why) => Section::Refused(why),
-    }
+    let (k, at) = count_paths(s, c.at, c.rows)?;
+    let (first, at) = read_path(s, at, c.intervals)?;
+    later_paths(s, Cursor { at, ..c }, k - 1, &first, rows)
 }
 
 // The count of volumes and then each of them. A refused section may leave some rows.
-fn scan_volumes(s: &[u8], start: Cursor, table: &mut [i64]) -> Section
-    requires { (start.intervals ≤ deck_columns) × (start.rows ≤ deck_rows) × (length table.old ≡ coefficient_count) }
-    ensures { SectionRead start table.old
-        (volume_section s.now start.intervals start.rows start.at) result table.new }
+fn scan_volumes(s: &[u8], start: Cursor, rows: &mut Rows) -> Result<Cursor, Refusal>
+    requires { (start.intervals ≤ deck_columns) × (start.rows ≤ deck_rows) }
+    ensures cursor { IfOk result (λ c. (c.intervals ≡ start.intervals) × (c.columns ≡ start.columns) × (c.rows ≤ deck_rows)) }
+    ensures read { LeftOpen (volumes_left start rows.old) (volume_section s.now start.intervals start.rows start.at) result rows.new }
 {
-    let a = no_less(s, start.at, 0, Refusal::Volume);
-    match a {
-        Got::Value(v, e) => {
-            let k = natural(v);
-            let mut c = Cursor {
-                at: e,
-                intervals: start.intervals,
-                columns: start.columns,
-                rows: start.rows,
-            };
-            for i in 0..k {
-                let g = read_volume(s, c, table);
-                match g {
-                    Section::Read(d) => {
-                        c = d;
-                    }
-                    Section::Refused(why) => {
-                        return Section::Refused(why);
-                    }
-                }
-            }
-            Section::Read(c)
-        }
-        Got::Refused(why) => Section::Refused(why),
+    let (k, at) = no_less(s, start.at, 0, Refusal::Volume)?;
+    let mut c = Cursor { at, ..start };
+    for _ in 0..k as usize {
+        c = read_volume(s, c, rows)?;
     }
+    Ok(c)
 }
 
 // The section of volumes: its rows go behind those that are in the table.
-pub fn read_volumes(s: &[u8], start: Cursor, table: &mut [i64]) -> Section
-    requires { (start.intervals ≤ deck_columns) × (start.rows ≤ deck_rows) × (length table.old ≡ coefficient_count) }
-    ensures { volumes_done result table.new
-        ≡ volumes_left start table.old (volume_section s.now start.intervals start.rows start.at) }
+#[tactic(auto, unfolding(sections::specs::StatedColumns::blank_tables))]
+pub fn read_volumes(s: &[u8], start: Cursor, rows: &mut Rows) -> Result<Cursor, Refusal>
+    requires { (start.intervals ≤ deck_columns) × (start.rows ≤ deck_rows) }
+    ensures cursor { IfOk result (λ c. (c.intervals ≡ start.intervals) × (c.columns ≡ start.columns) × (c.rows ≤ deck_rows)) }
+    ensures read { volumes_left start rows.old (volume_section s.now start.intervals start.rows start.at) ≡ (result, rows.new) }
 {
-    let a = scan_volumes(s, start, table);
-    match a {
-        Section::Read(c) => Section::Read(c),
-        Section::Refused(why) => {
-            wipe(table);
-            Section::Refused(why)
-        }
+    let read = scan_volumes(s, start, rows);
+    if read.is_err() {
+        *rows = [[0; Sizes::COLUMNS]; Sizes::ROWS];
     }
+    read
 }

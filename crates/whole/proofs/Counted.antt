@@ -7,10 +7,14 @@
 --   every_at      where f holds at every place, it holds at each
 --   every_all     and the other way round
 --   every_not     where f fails at some place, it does not hold at every one
+--   every_list    a test of a list's numbers holds at every place where it holds of each
 --   every_same    tests that agree below n hold at every one of its places alike
 -- Assumes nothing.
-use mathlib.Core.Path.{◌≡◌, refl, sym, ◌∙◌, ap₂, subst}
-use mathlib.Core.Bool.{Bool, true, false, ◌&&◌, and-false, true≢false}
+use mathlib.Core.Path.{◌≡◌, refl, sym, ◌∙◌, ap, ap₂, subst}
+use mathlib.Core.List.{List, [], ◌∷◌}
+use lib.ListN.{length, get_or}
+use Rattle.std.specs.List.{list_all}
+use mathlib.Core.Bool.{Bool, true, false, ◌&&◌, and-false, and-true, and_assoc, true≢false}
 use mathlib.Core.Logic.{⊎_elim}
 use Prim.Native.Nat.{ℕ, zero, suc, ◌+◌, ◌≤◌, ◌<◌}
 use native.Mathlib.Nat.{le_antisymm, eq-or-lt_of_le, le_of_suc-le-suc, not-suc-le-zero}
@@ -64,3 +68,14 @@ pub every_same : (n : ℕ) (f g : ℕ → Bool) → ((i : ℕ) → i < n → f i
 unfolding every
 every_same zero f g h = refl
 every_same (suc n) f g h = ap₂ ◌&&◌ (every_same n f g (λ i l. h i (omega arith))) (h n (omega arith))
+
+-- the first place apart
+every_front : (n : ℕ) (f : ℕ → Bool) → every (suc n) f ≡ f 0 && every n (λ i. f (suc i))
+unfolding every
+every_front zero f = sym (and-true (f 0))
+every_front (suc n) f = ap (λ b. b && f (suc n)) (every_front n f) ∙ and_assoc (f 0) (every n (λ i. f (suc i))) (f (suc n))
+
+pub every_list : {X : Type 0} (f : X → Bool) (d : X) (l : List X) → every (length l) (λ i. f (get_or l i d)) ≡ list_all f l
+unfolding every
+every_list f d [] = refl
+every_list f d (x ∷ xs) = every_front (length xs) (λ i. f (get_or (x ∷ xs) i d)) ∙ ap (λ b. f x && b) (every_list f d xs)

@@ -1,41 +1,21 @@
 -- `lattice::lead_from` meets its contract: from its place on the loop passes the zeros, and what is left has its lead one place nearer each time.
 -- Assumes nothing.
-use mathlib.Core.Path.{◌≡◌, refl, sym, ◌∙◌}
-use native.Mathlib.Omega.{arith}
-use lib.IntN.{nat_abs}
+use Rattle.std.proofs.Common.{rules, arith, ◌≡◌, ◌∙◌, sym, nat_abs, SFits, w64}
+use Rattle.std.proofs.lemmas.Int.{ints}
 use Rattle.whole.specs.Lists.{entry}
-use Rattle.whole.proofs.Signed.{back}
-use Rattle.lattice.proofs.Scanning.{lead_on, lead_at_lem, lead_end}
-use Rattle.lattice.proofs.lead_from.Goals.{After-magnitude}
+use Rattle.lattice.proofs.Scanning.{lead_on, lead_at_lem, lead_past}
 use Rattle.lattice.proofs.lead_from.Goals as goal
 
--- what the call answers at the place that the loop has come to
-tested :
-    (c : After-magnitude) →
-    c.magnitude.result ≡ nat_abs (entry c.loop-i.i c.args.row.now)
-tested c = rw (back _ c.magnitude-arg-1.given) at c.magnitude.ensures
-
-pub loop-i-init : goal.loop-i-init
-loop-i-init c = refl
-
-pub bounds-row-i : goal.bounds-row-i
-bounds-row-i c = omega arith
-
-pub returns-then-magnitude-ne0 : goal.returns-then-magnitude-ne0
-returns-then-magnitude-ne0 c =
-    let d = c.before.before.before in
-    lead_at_lem _ _ d.loop-i-test.true (rw (tested c.before) at c.if-magnitude-ne0.true) ∙ d.loop-i.invariant
-
-pub overflow_add-i : goal.overflow_add-i
-overflow_add-i c = omega arith
-
-pub loop-i-smaller : goal.loop-i-smaller
-loop-i-smaller c = omega arith
+pub returns-then-row-i-ne0 : goal.returns-then-row-i-ne0
+returns-then-row-i-ne0 c =
+    let f : SFits w64 (entry c.loop-i.i c.args.row.now) = search rules in
+    lead_at_lem _ _ c.loop-i-test.true (λ e. omega (arith, ints)) ∙ c.loop-i.invariant
 
 pub loop-i-preserved : goal.loop-i-preserved
 loop-i-preserved c =
-    let d = c.before.before.before in
-    sym (lead_on _ _ d.loop-i-test.true (rw (tested c.before) at c.if-magnitude-ne0.false)) ∙ d.loop-i.invariant
+    let f : SFits w64 (entry c.loop-i.i c.args.row.now) = search rules in
+    let e : nat_abs (entry c.loop-i.i c.args.row.now) ≡ 0 = omega (arith, ints) in
+    sym (lead_on _ _ c.loop-i-test.true e) ∙ c.loop-i.invariant
 
 pub returns : goal.returns
-returns c = lead_end _ _ c.loop-i-test.false ∙ c.loop-i.invariant
+returns c = c.max.ensures ∙ lead_past _ _ c.args.from c.loop-i-test.false c.loop-i.auto.i-end c.loop-i.invariant

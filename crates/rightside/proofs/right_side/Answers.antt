@@ -1,156 +1,138 @@
 -- `rightside::right_side` meets its contract: the rows are parted behind the leading ones, and its tests are the definition's, in their order.
 -- Assumes nothing.
-use mathlib.Core.Path.{◌≡◌, sym, ◌∙◌, ap, subst}
-use mathlib.Core.Bool.{true, false}
+use mathlib.Core.Path.{◌≡◌, sym, ◌∙◌, ap, ap₂, subst}
+use mathlib.Core.Bool.{false}
 use mathlib.Core.List.{List}
-use Prim.Native.Nat.{◌*◌}
+use Prim.Native.Nat.{ℕ, ◌*◌, ◌-◌}
 use native.Mathlib.Omega.{arith}
 use lib.IntN.{ℤ}
-use lib.ListN.{length, take}
-use lib.Seq.{length-take-le}
+use lib.ListN.{length, take, drop}
+use Rattle.std.proofs.Common.{rules, tests}
+use Rattle.std.proofs.lemmas.Iterator.{YieldsList-from_slice}
+use Rattle.std.proofs.lemmas.Iterator.Search.{all_from_yields_List}
 use Rattle.whole.specs.Lists.{zeros}
 use Rattle.lattice.specs.Rows.{all_zero, chop}
-use Rattle.lattice.proofs.LentParts.{tail_is}
-use Rattle.tableau.specs.Within.{Within}
+use Rattle.tableau.specs.Elimination.{Left}
 use Rattle.tableau.specs.RightSide.{sweep, leading, remaining}
-use Rattle.tableau.proofs.RightLaws.{sweep_length}
-use Rattle.rightside.specs.Sweeps.{Swept, Sweepable}
-use Rattle.rightside.proofs.Sweeping.{over_left, kept_left, sweep_within}
+use Rattle.tableau.specs.Within.{Within}
+use Rattle.tableau.proofs.Told.{told_ok, told_err}
+use Rattle.tableau.proofs.Within.{within_take}
+use Rattle.rightside.specs.Sweeps.{Sweepable, swept_of}
+use Rattle.rightside.proofs.Answers.{righted_over, righted_none, righted_late, righted_found, told, handed}
 use Rattle.rightside.proofs.Parting.{few, inside, first, second, first_sweepable, second_sweepable}
-use Rattle.rightside.proofs.Answers.{righted_over, righted_none, righted_late, righted_found}
-use Rattle.rightside.proofs.right_side.Goals.{After-leading_rows-h, After-sweep, After-sweep-2, Else-not-all_zero, Else-sweep, Start}
+use Rattle.rightside.proofs.Sweeping.{over_left, kept_left, sweep_within}
+use Rattle.rightside.proofs.Zeros.{stored_zero, all_zero_is}
+use Rattle.rightside.proofs.right_side.Goals.{After-leading_rows-h, After-all-whole, In_ok-sweep, Start}
 use Rattle.rightside.proofs.right_side.Goals as goal
-
-abbrev T_of : Start → List (List ℤ)
-T_of s = chop s.args.rows (length s.args.v.now) s.args.t.now
 
 form_of : (s : Start) → Sweepable (length s.args.v.now) s.args.rows s.args.t.now
 form_of s = record { long = s.requires.t_len.0; leads = s.requires.t_len.1; rises = s.requires.rising; small = s.requires.within.0 }
 
--- what the leading rows answer and leave
-early :
-    (c : After-sweep) →
-    let a = c.args in
-    Swept (sweep (leading a.m (T_of (goal.at.After-sweep c).Start)) a.v.now) a.v.now c.sweep.result c.sweep.new.v
-early c =
-    let v : List ℤ = c.args.v.now in
-    subst (λ (X : List (List ℤ)). Swept (sweep X v) v c.sweep.result c.sweep.new.v)
-    (first _ (form_of (goal.at.After-sweep c).Start) c.leading_rows-h.ensures) c.sweep.ensures
+-- the leading rows taken from v
+abbrev early : Start → Left
+early s = sweep (leading s.args.m (chop s.args.rows (length s.args.v.now) s.args.t.now)) s.args.v.now
 
-module _ (c : Else-sweep) where
-  abbrev counted : After-leading_rows-h
-  counted = (goal.at.Else-sweep c).After-leading_rows-h
+-- and the others taken from what these leave
+abbrev late : Start → Left
+late s = sweep (remaining s.args.m (chop s.args.rows (length s.args.v.now) s.args.t.now)) (early s).row
 
-  abbrev s_of : Start
-  s_of = (goal.at.After-leading_rows-h counted).Start
+first_is : (c : After-leading_rows-h) → {l : List ℤ} → l ≡ take (c.leading_rows-h.result * length c.args.v.now) c.args.t.now
+    → swept_of c.leading_rows-h.result l c.args.v.now ≡ early (goal.at.After-leading_rows-h c).Start
+first_is c {l} e =
+    let s = (goal.at.After-leading_rows-h c).Start in
+    let v = c.args.v.now in
+    ap (λ (x : List ℤ). sweep (chop c.leading_rows-h.result (length v) x) v) e
+    ∙ ap (λ (T : List (List ℤ)). sweep T v) (first c.args.m (form_of s) c.leading_rows-h.ensures)
 
-  unmarked : (sweep (leading s_of.args.m (T_of s_of)) s_of.args.v.now).over ≡ false
-  unmarked = sym (early (goal.at.Else-sweep c).After-sweep).answer ∙ c.if-sweep.false
+pub overflow_mul-h : goal.overflow_mul-h
+overflow_mul-h c = omega (arith, inside c.args.m (form_of (goal.at.overflow_mul-h c).Start) c.leading_rows-h.ensures)
 
-  left_is : c.sweep.new.v ≡ (sweep (leading s_of.args.m (T_of s_of)) s_of.args.v.now).row
-  left_is = kept_left (rw c.if-sweep.false at (early (goal.at.Else-sweep c).After-sweep))
-
--- the first m numbers are 0
-zero :
-    (c : Else-not-all_zero) →
-    all_zero (take (s_of (goal.at.Else-not-all_zero c).Else-sweep).args.m
-    (sweep (leading (s_of (goal.at.Else-not-all_zero c).Else-sweep).args.m (T_of (s_of (goal.at.Else-not-all_zero c).Else-sweep)))
-    (s_of (goal.at.Else-not-all_zero c).Else-sweep).args.v.now).row) ≡ true
-zero c =
-    ap (λ (l : List ℤ). all_zero (take (s_of (goal.at.Else-not-all_zero c).Else-sweep).args.m l))
-    (sym (left_is (goal.at.Else-not-all_zero c).Else-sweep)) ∙ sym c.all_zero.ensures ∙ c.if-not-all_zero.false
-
--- what the remaining rows answer and leave
-late :
-    (c : After-sweep-2) →
-    let s = s_of (goal.at.After-sweep-2 c).Else-sweep in
-    let l : List ℤ = (sweep (leading s.args.m (T_of s)) s.args.v.now).row in
-    Swept (sweep (remaining s.args.m (T_of s)) l) l c.sweep-2.result c.sweep-2.new.v
-late c =
-    let s = s_of (goal.at.After-sweep-2 c).Else-sweep in
-    let h = counted (goal.at.After-sweep-2 c).Else-sweep in
-    let l : List ℤ = c.sweep.new.v in
-    subst (λ (l : List ℤ). Swept (sweep (remaining s.args.m (T_of s)) l) l c.sweep-2.result c.sweep-2.new.v)
-    (left_is (goal.at.After-sweep-2 c).Else-sweep)
-    (subst (λ (X : List (List ℤ)). Swept (sweep X l) l c.sweep-2.result c.sweep-2.new.v) (second _ (form_of s) h.leading_rows-h.ensures)
-    (rw (c.sweep.auto.v, tail_is (h.leading_rows-h.result * length s.args.v.now) s.args.t.now) at c.sweep-2.ensures))
-
-pub leading_rows-h-requires : goal.leading_rows-h-requires
-leading_rows-h-requires c = (c.requires.t_len.0, c.requires.rising)
-
-pub overflow_mul-at : goal.overflow_mul-at
-overflow_mul-at c = omega (arith, inside _ (form_of (goal.at.overflow_mul-at c).Start) c.leading_rows-h.ensures)
-
-pub slice_bounds-sweep-end : goal.slice_bounds-sweep-end
-slice_bounds-sweep-end c =
-    let a = c.args in
-    sym (length-take-le (c.leading_rows-h.result * length a.v.now) a.t.now
-    (inside _ (form_of (goal.at.slice_bounds-sweep-end c).Start) c.leading_rows-h.ensures))
+pub split_at-requires : goal.split_at-requires
+split_at-requires c = inside c.args.m (form_of (goal.at.split_at-requires c).Start) c.leading_rows-h.ensures
 
 pub sweep-requires : goal.sweep-requires
 sweep-requires c =
-    (first_sweepable _ (form_of (goal.at.sweep-requires c).Start) c.leading_rows-h.ensures, c.requires.within.1)
+    rw c.split_at.ensures.front
+    (first_sweepable c.args.m (form_of (goal.at.sweep-requires c).Start) c.leading_rows-h.ensures, c.requires.within.1)
 
-pub returns-then-sweep : goal.returns-then-sweep
-returns-then-sweep c =
-    let o = early (goal.at.returns-then-sweep c).After-sweep in
-    righted_over c.args.m (T_of (goal.at.returns-then-sweep c).Start) c.args.v.now (sym o.answer ∙ c.if-sweep.true)
-    (over_left (rw c.if-sweep.true at o))
+pub returns-in_err-sweep : goal.returns-in_err-sweep
+returns-in_err-sweep c =
+    let s = (goal.at.returns-in_err-sweep c).Start in
+    let a = c.args in
+    let e = rw (first_is (goal.at.returns-in_err-sweep c).After-leading_rows-h c.split_at.ensures.front) at c.in_err-sweep.ensures in
+    let o = told_err (early s).over tt e.value in
+    ap (λ r. told r c.sweep.new.v) (handed c.from_residual.result c.from_residual.ensures.1)
+    ∙ righted_over a.m (chop a.rows (length a.v.now) a.t.now) a.v.now o (e.v_after ∙ over_left (early s) a.v.now o)
 
-pub slice_bounds-all_zero-end-2 : goal.slice_bounds-all_zero-end-2
-slice_bounds-all_zero-end-2 c =
-    sym (length-take-le c.args.m c.sweep.new.v (omega (arith, c.sweep.auto.v, c.requires.m_in_bounds)))
+-- after the leading rows
+module _ (c : In_ok-sweep) where
+  abbrev s_of : Start
+  s_of = (goal.at.In_ok-sweep c).Start
 
-pub returns-then-not-all_zero : goal.returns-then-not-all_zero
-returns-then-not-all_zero c =
-    let s = s_of (goal.at.returns-then-not-all_zero c).Else-sweep in
-    let z = sym c.all_zero.ensures ∙ c.if-not-all_zero.true in
-    righted_none s.args.m (T_of s) s.args.v.now (unmarked (goal.at.returns-then-not-all_zero c).Else-sweep)
-    (ap (λ (l : List ℤ). all_zero (take s.args.m l)) (sym (left_is (goal.at.returns-then-not-all_zero c).Else-sweep)) ∙ z)
-    (left_is (goal.at.returns-then-not-all_zero c).Else-sweep)
+  taken : ((early s_of).over ≡ false) × (c.sweep.new.v ≡ (early s_of).row)
+  taken =
+      let e = rw (first_is (goal.at.In_ok-sweep c).After-leading_rows-h c.split_at.ensures.front) at c.in_ok-sweep.ensures in
+      let o = (told_ok (early s_of).over e.value).0 in
+      (o, e.v_after ∙ kept_left (early s_of) c.args.v.now o)
 
-pub offset_bounds-t-at : goal.offset_bounds-t-at
-offset_bounds-t-at c =
-    let n = counted (goal.at.offset_bounds-t-at c).Else-sweep in
-    omega (arith, inside _ (form_of (goal.at.After-leading_rows-h n).Start) n.leading_rows-h.ensures)
+  small : Within c.sweep.new.v
+  small =
+      let a = c.args in
+      subst Within (sym taken.1)
+      (sweep_within (leading a.m (chop a.rows (length a.v.now) a.t.now)) a.v.now c.requires.within.1 taken.0)
 
-pub slice_bounds-sweep-count : goal.slice_bounds-sweep-count
-slice_bounds-sweep-count c =
-    let n = counted (goal.at.slice_bounds-sweep-count c).Else-sweep in
-    omega (arith, inside _ (form_of (goal.at.After-leading_rows-h n).Start) n.leading_rows-h.ensures)
+  second_is : {l : List ℤ} → l ≡ drop (c.leading_rows-h.result * length c.args.v.now) c.args.t.now
+      → swept_of (c.args.rows - c.leading_rows-h.result) l c.sweep.new.v ≡ late s_of
+  second_is {l} e =
+      let a = c.args in
+      let h = c.leading_rows-h.result in
+      let u = c.sweep.new.v in
+      ap₂ (λ (n : ℕ) (x : List ℤ). sweep (chop (a.rows - h) n x) u) c.sweep.auto.v e
+      ∙ ap₂ (λ (T : List (List ℤ)) (x : List ℤ). sweep T x) (second a.m (form_of s_of) c.leading_rows-h.ensures) taken.1
 
-pub slice_bounds-sweep-start : goal.slice_bounds-sweep-start
-slice_bounds-sweep-start c =
-    let n = counted (goal.at.slice_bounds-sweep-start c).Else-sweep in
-    omega (arith, inside _ (form_of (goal.at.After-leading_rows-h n).Start) n.leading_rows-h.ensures)
+tested : (c : After-all-whole) → c.all-whole.result ≡ all_zero (take c.args.m (early (goal.at.After-all-whole c).Start).row)
+tested c =
+    let w = (goal.at.After-all-whole c).In_ok-sweep in
+    let l : List ℤ = take c.args.m c.sweep.new.v in
+    let e : c.all-whole.result ≡ all_zero l =
+    all_from_yields_List stored_zero _ _ c.all-whole.result c.all-whole.ensures.ran (YieldsList-from_slice l cc) (λ x b q k. search (rules, tests))
+    ∙ all_zero_is l (within_take c.args.m c.sweep.new.v (small w)) in
+    rw (taken w).1 at e
+
+pub returns-then-not-whole : goal.returns-then-not-whole
+returns-then-not-whole c =
+    let a = c.args in
+    let w = taken (goal.at.returns-then-not-whole c).In_ok-sweep in
+    righted_none a.m (chop a.rows (length a.v.now) a.t.now) a.v.now w.0
+    (sym (tested (goal.at.returns-then-not-whole c).After-all-whole) ∙ c.if-not-whole.true) w.1
 
 pub overflow_sub-rows : goal.overflow_sub-rows
-overflow_sub-rows c =
-    let n = counted (goal.at.overflow_sub-rows c).Else-sweep in
-    omega (arith, few _ (form_of (goal.at.After-leading_rows-h n).Start) n.leading_rows-h.ensures)
+overflow_sub-rows c = few c.args.m (form_of (goal.at.overflow_sub-rows c).Start) c.leading_rows-h.ensures
 
 pub sweep-requires-2 : goal.sweep-requires-2
 sweep-requires-2 c =
-    let h = counted (goal.at.sweep-requires-2 c).Else-sweep in
-    let s = s_of (goal.at.sweep-requires-2 c).Else-sweep in
-    rw (c.sweep.auto.v, tail_is (h.leading_rows-h.result * length s.args.v.now) s.args.t.now) (
-      second_sweepable _ (form_of s) h.leading_rows-h.ensures,
-      subst Within (sym (left_is (goal.at.sweep-requires-2 c).Else-sweep))
-          (sweep_within (leading s.args.m (T_of s)) s.args.v.now s.requires.within.1 (unmarked (goal.at.sweep-requires-2 c).Else-sweep)),
-    )
+    rw (c.split_at.ensures.back, c.sweep.auto.v)
+    (second_sweepable c.args.m (form_of (goal.at.sweep-requires-2 c).Start) c.leading_rows-h.ensures, small (goal.at.sweep-requires-2 c).In_ok-sweep)
 
-pub returns-then-sweep-2 : goal.returns-then-sweep-2
-returns-then-sweep-2 c =
-    let s = s_of (goal.at.returns-then-sweep-2 c).Else-sweep in
-    let o = late (goal.at.returns-then-sweep-2 c).After-sweep-2 in
-    let z = zero (goal.at.returns-then-sweep-2 c).Else-not-all_zero in
-    righted_late s.args.m (T_of s) s.args.v.now (unmarked (goal.at.returns-then-sweep-2 c).Else-sweep) z (sym o.answer ∙ c.if-sweep-2.true)
-    (over_left (rw c.if-sweep-2.true at o) ∙ ap zeros (sweep_length (leading s.args.m (T_of s)) s.args.v.now))
+pub returns-in_err-sweep-2 : goal.returns-in_err-sweep-2
+returns-in_err-sweep-2 c =
+    let a = c.args in
+    let k = (goal.at.returns-in_err-sweep-2 c).In_ok-sweep in
+    let w = taken k in
+    let e = rw (second_is k c.split_at.ensures.back) at c.in_err-sweep-2.ensures in
+    let o = told_err (late (s_of k)).over tt e.value in
+    ap (λ r. told r c.sweep-2.new.v) (handed c.from_residual-in_err-sweep-2.result c.from_residual-in_err-sweep-2.ensures.1)
+    ∙ righted_late a.m (chop a.rows (length a.v.now) a.t.now) a.v.now w.0
+    (sym (tested (goal.at.returns-in_err-sweep-2 c).After-all-whole) ∙ c.if-not-whole.false) o
+    (e.v_after ∙ over_left (late (s_of k)) c.sweep.new.v o ∙ ap zeros c.sweep.auto.v)
 
 pub returns : goal.returns
 returns c =
-    let s = s_of (goal.at.returns c).Else-sweep in
-    let o = late (goal.at.returns c).After-sweep-2 in
-    let z = zero (goal.at.returns c).Else-not-all_zero in
-    righted_found s.args.m (T_of s) s.args.v.now (unmarked (goal.at.returns c).Else-sweep) z (sym o.answer ∙ c.if-sweep-2.false)
-    (kept_left (rw c.if-sweep-2.false at o))
+    let a = c.args in
+    let k = (goal.at.returns c).In_ok-sweep in
+    let w = taken k in
+    let e = rw (second_is k c.split_at.ensures.back) at c.in_ok-sweep-2.ensures in
+    let o = (told_ok (late (s_of k)).over e.value).0 in
+    righted_found a.m (chop a.rows (length a.v.now) a.t.now) a.v.now w.0
+    (sym (tested (goal.at.returns c).After-all-whole) ∙ c.if-not-whole.false) o
+    (e.v_after ∙ kept_left (late (s_of k)) c.sweep.new.v o)

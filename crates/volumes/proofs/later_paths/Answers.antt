@@ -1,134 +1,68 @@
--- `volumes::later_paths` meets its contract. The invariant: whatever paths came before, what is left to read after those done is what was to be read,
--- and the rows of those done are in the table. Assumes nothing.
-use mathlib.Core.Path.{◌≡◌, refl, sym, ap, ◌∙◌, subst}
-use mathlib.Core.List.{List, [], ◌∷◌, ◌++◌, map, append-nil, append_assoc}
-use Prim.Native.Nat.{ℕ, ◌+◌, ◌-◌, ◌*◌, ◌≤◌, ◌<◌}
-use native.Mathlib.Omega.{arith}
-use lib.IntN.{ℤ}
-use lib.ListN.{length, length-append}
-use Rattle.lattice.specs.Rows.{flat}
-use Rattle.lattice.proofs.Span.{all_end}
+-- `volumes::later_paths` meets its contract. Assumes nothing.
+use Rattle.std.proofs.Common.{rules, arith, ◌≡◌, ◌<◌, ◌≤◌, ◌+◌, ◌-◌, ℕ, ℤ, Bool, List, [], ◌∷◌, ◌++◌, map, set, length, append_assoc, Ok, Err, sym}
+use Rattle.std.proofs.Common.{ap, ◌∙◌}
+use lib.ListN.{length-map}
+use Rattle.problem.specs.declared.Refusal.{Refusal}
 use Rattle.text.specs.Overwriting.{overwritten}
-use Rattle.text.proofs.Copying.{written_none, written_then}
-use Rattle.sections.specs.Sections.{deck_columns, deck_rows, coefficient_count}
+use Rattle.sections.specs.SectionsRead.{cursor}
 use Rattle.sections.specs.declared.Cursor.{Cursor}
-use Rattle.sections.specs.declared.Section.{Section}
+use Rattle.sections.proofs.Storage.{map_two, length_snoc, set_more}
 use Rattle.volumes.specs.Volumes.{Volume, path, paths}
-use Rattle.volumes.specs.VolumesRead.{Named, later_row, LaterStored, LaterRead}
+use Rattle.volumes.specs.VolumesRead.{later_row, LaterRead, PathsRead}
 use Rattle.volumes.proofs.Turns.{paths_more, paths_stop, paths_end}
-use Rattle.volumes.proofs.Rows.{length_later_row, length_later, later_end}
 use Rattle.volumes.proofs.later_paths.Invariants.{Sofar}
-use Rattle.volumes.proofs.later_paths.Goals.{In-Read}
 use Rattle.volumes.proofs.later_paths.Goals as goal
 
-begin : (s : List ℕ) (end : ℕ) (a : Cursor) (f t₀ : List ℤ) → a.rows ≤ end → length t₀ ≡ coefficient_count → Sofar s end a f t₀ a t₀
-begin s end a f t₀ h l = record {
-  small = h;
-  intervals = refl;
-  columns = refl;
-  later = [];
-  named = tt;
-  many = omega arith;
-  rest = λ done. ap (λ (d : Volume). paths s (end - a.rows) a.intervals d a.at) (append-nil done);
-  table_is = written_none t₀ (a.rows * deck_columns);
-  size = l;
-}
+module _ (s : List ℕ) (k i : ℕ) (a : Cursor) (f : List Bool) (t₀ : List (List ℤ)) (c : Cursor) (t : List (List ℤ)) (v : Sofar s k i a f t₀ c t) where
+  same : c.intervals ≡ a.intervals
+  same = ap (λ (x : Cursor). x.intervals) v.cursor_is
 
-more : {s : List ℕ} {end : ℕ} {a : Cursor} {f t₀ : List ℤ} {c d : Cursor} {t t' : List ℤ} → end ≤ deck_rows → length f ≡ deck_columns → length t₀
-    ≡ coefficient_count
-    → Sofar s end a f t₀ c t → c.rows < end → LaterStored (path s c.intervals c.at) c d f t t' → length t' ≡ length t
-    → Sofar s end a f t₀ d t'
-more {s} {end} {a} {f} {t₀} {c} {d} {t} {t'} e w b v h o l =
-    let p = o.path in
-    let q : end - d.rows ≡ end - c.rows - 1 = omega (arith, o.rows) in
-    let r = rw v.intervals at o.read in
-    let m = length_later f w v.later in
-    let k = length_later_row f w p in
-    let u : List ℤ = flat (map (later_row f) v.later) in
-    let z : c.rows * deck_columns ≡ a.rows * deck_columns + length u = omega (arith, m, v.many) in
-    record {
-      small = omega (arith, o.rows);
-      intervals = o.intervals ∙ v.intervals;
-      columns = o.columns ∙ v.columns;
-      later = v.later ++ (p ∷ []);
-      named = all_end (Named deck_columns) v.later p v.named o.named;
-      many = omega (arith, o.rows, v.many, length-append v.later (p ∷ []));
-      rest = λ done.
-          rw (q, sym (append_assoc done v.later (p ∷ [])))
-          (sym (paths_more s a.intervals (done ++ v.later) c.at d.at (end - c.rows) p (omega arith) r) ∙ v.rest done);
-      table_is =
-          o.table_is
-          ∙ (rw (v.table_is, z) (written_then t₀ (a.rows * deck_columns) u (later_row f p) (omega (arith, b, m, k, v.many, e, h))))
-          ∙ ap (overwritten t₀ (a.rows * deck_columns)) (sym (later_end f v.later p));
-      size = l ∙ v.size;
-    }
+  more : (d : Cursor) (t' : List (List ℤ)) → i < k → a.rows + k ≤ length t₀ → LaterRead (path s c.intervals c.at) c (Ok d) f t t'
+      → Sofar s k (i + 1) a f t₀ d t'
+  more d t' h l w =
+      let p = w.what in
+      let e = ap (λ (x : Cursor). x.at) w.rest.0 in
+      let j : k - (i + 1) ≡ k - i - 1 = omega arith in
+      let r : c.rows ≡ a.rows + i = ap (λ (x : Cursor). x.rows) v.cursor_is in
+      let n : c.rows + 1 ≡ a.rows + (i + 1) = omega arith in
+      let m : length (map (later_row f) v.later) ≡ i = length-map v.later (later_row f) ∙ v.many in
+      record {
+        later = v.later ++ (p ∷ []);
+        many = length_snoc v.later p i v.many;
+        cursor_is = w.rest.0 ∙ (λ x. cursor (sym e x) (same x) (ap (λ (y : Cursor). y.columns) v.cursor_is x) (n x));
+        rest = λ done.
+            rw (j, e, sym (append_assoc done v.later (p ∷ [])))
+            (sym (paths_more s a.intervals (done ++ v.later) c.at w.end (k - i) p (omega arith) (rw same at w.read)) ∙ v.rest done);
+        rows_are =
+            w.rest.1 ∙ ap (λ (u : List (List ℤ)). set u c.rows (later_row f p)) v.rows_are
+            ∙ set_more t₀ a.rows (map (later_row f) v.later) c.rows (later_row f p) (omega arith) (omega arith)
+            ∙ ap (overwritten t₀ a.rows) (sym (map_two (later_row f) v.later (p ∷ [])));
+      }
 
-pub loop-c-init : goal.loop-c-init
-loop-c-init c =
-    let x = c.args in
-    begin x.s.now x.end x.start x.first.now x.table.now c.requires.intervals_le_deck_columns.1 c.requires.ones.1
+  stop : (why : Refusal) → i < k → path s c.intervals c.at ≡ Err why → (done : Volume) → paths s k a.intervals done a.at ≡ Err why
+  stop why h q done =
+      sym (v.rest done) ∙ paths_stop s a.intervals (done ++ v.later) c.at 0 (k - i) why (omega arith) (rw same at q)
 
-pub next_path-g-requires : goal.next_path-g-requires
-next_path-g-requires c =
-    let v = c.loop-c.invariant in
-    record {
-      intervals_le_deck_columns = (
-        omega (arith, v.intervals, c.requires.intervals_le_deck_columns.0),
-        omega (arith, c.requires.intervals_le_deck_columns.2, c.loop-c-test.true),
-      );
-      ones = (c.requires.ones.0, v.size);
-    }
+  end : k ≤ i → i ≤ k → PathsRead (λ done. paths s k a.intervals done a.at) k a (Ok c) f t₀ t
+  end h l =
+      let z : k - i ≡ 0 = omega arith in
+      let e : i ≡ k = omega arith in
+      record {
+        later = v.later;
+        many = v.many ∙ e;
+        read = λ done. sym (v.rest done) ∙ (rw z (paths_end s a.intervals (done ++ v.later) c.at 0));
+        cursor_is = rw e at v.cursor_is;
+        rows_are = v.rows_are;
+      }
 
--- the path that was read and stored
-went : (d : In-Read)
-    → LaterStored
-    (path d.args.s.now
-    d.loop-c.c.intervals
-    d.loop-c.c.at)
-    d.loop-c.c d.in-Read.d
-    d.args.first.now
-    d.loop-c.table
-    d.next_path-g.new.table
-went d =
-    let l = d.loop-c in
-    let x = d.args in
-    subst (λ (r : Section). LaterRead (path x.s.now l.c.intervals l.c.at) l.c r x.first.now l.table d.next_path-g.new.table)
-    d.in-Read.is d.next_path-g.ensures
+pub returns-in_err-c : goal.returns-in_err-c
+returns-in_err-c c =
+    let q : (done : Volume) → paths c.args.s.now c.args.k c.args.start.intervals done c.args.start.at ≡ Err c.in_err-c.field-0.0 =
+    stop _ _ _ _ _ _ _ _ c.loop.invariant _ c.loop-test.true c.in_err-c.ensures in
+    search rules
 
-pub loop-c-smaller : goal.loop-c-smaller
-loop-c-smaller c =
-    omega (arith, (went c).rows, c.loop-c-test.true)
-
-pub loop-c-preserved : goal.loop-c-preserved
-loop-c-preserved c =
-    more c.requires.intervals_le_deck_columns.2 c.requires.ones.0.wide c.requires.ones.1 c.loop-c.invariant c.loop-c-test.true (went c)
-    c.next_path-g.auto.table
-
-pub returns-in-Refused : goal.returns-in-Refused
-returns-in-Refused c =
-    let x = c.args in
-    let l = c.loop-c in
-    let r = rw l.invariant.intervals at ((rw c.in-Refused.is at c.next_path-g.ensures)) in
-    λ done. sym (l.invariant.rest done)
-    ∙ paths_stop x.s.now x.start.intervals (done ++ l.invariant.later) l.c.at 0 (x.end - l.c.rows) _
-    (omega (arith, c.loop-c-test.true)) r
-
-pub shape_of-table : goal.shape_of-table
-shape_of-table c =
-    c.loop-c.invariant.size ∙ sym c.requires.ones.1
+pub loop-preserved : goal.loop-preserved
+loop-preserved c = more _ _ _ _ _ _ _ _ c.loop.invariant _ _ c.loop-test.true (omega (arith, c.requires.1, c.told-rows)) c.in_ok-c.ensures
 
 pub returns : goal.returns
-returns c =
-    let x = c.args in
-    let l = c.loop-c in
-    let e : x.end - l.c.rows ≡ 0 = omega (arith, l.invariant.small, c.loop-c-test.false) in
-    record {
-      later = l.invariant.later;
-      named = l.invariant.named;
-      read = λ done. sym (l.invariant.rest done) ∙ (rw e (paths_end x.s.now x.start.intervals (done ++ l.invariant.later) l.c.at 0));
-      intervals = l.invariant.intervals;
-      columns = l.invariant.columns;
-      rows = l.invariant.many;
-      few = omega (arith, l.invariant.small, c.requires.intervals_le_deck_columns.2);
-      table_is = l.invariant.table_is;
-    }
+returns c = end _ _ _ _ _ _ _ _ c.loop.invariant c.loop-test.false c.loop.auto.counter-end

@@ -1,22 +1,17 @@
--- What holds at each turn of `volumes::read_indices`. Assumes nothing.
-use mathlib.Core.Path.{◌≡◌}
-use mathlib.Core.List.{List, []}
-use Prim.Native.Nat.{ℕ, ◌-◌, ◌≤◌}
-use lib.IntN.{ℤ}
+-- What holds at each turn of `volumes::read_indices`: what is left to read, after the indices done, is what was to be read, and the marks are those
+-- of the indices done. Assumes nothing.
+use Rattle.std.proofs.Common.{◌≡◌, ℕ, ◌-◌, List, [], Bool}
+use Rattle.sections.specs.Rules.{Outcome}
 use Rattle.sections.specs.Sections.{deck_columns}
 use Rattle.volumes.specs.Volumes.{SweepPath, indices}
-use Rattle.volumes.specs.VolumesRead.{Named, ones_of}
+use Rattle.volumes.specs.VolumesRead.{Named, marks_of}
 use Rattle.volumes.proofs.read_indices.Given as goal
 
-pub record Sofar (s : List ℕ) (at k count i p : ℕ) (u : List ℤ) : Type 0 where
-  pub small : i ≤ k
+pub record Sofar (s : List ℕ) (o : Outcome SweepPath) (k count i p : ℕ) (u : List Bool) : Type 0 where
   pub done : SweepPath
   pub named : Named deck_columns done
-  pub rest : indices s (k - i) count done p ≡ indices s k count [] at
-  pub ones : u ≡ ones_of done
+  pub rest : indices s (k - i) count done p ≡ o
+  pub marks : u ≡ marks_of done
 
-abbrev pub invariant-loop-i : goal.invariant-loop-i
-invariant-loop-i l = Sofar l.s l.at l.k l.count l.i l.p l.ones
-
-abbrev pub decreases-loop-i : goal.decreases-loop-i
-decreases-loop-i l = l.k - l.i
+abbrev pub invariant-loop : goal.invariant-loop
+invariant-loop l = Sofar l.s (indices l.s l.k l.count [] l.fn.at) l.k l.count l.counter l.at l.marks

@@ -1,127 +1,126 @@
 -- `engine::preview::preview` meets its contract: what the ground refuses is refused, and over it the next step is shown. Assumes nothing.
-use mathlib.Core.Path.{◌≡◌, refl, sym, ◌∙◌, ap, ap₂}
-use mathlib.Core.List.{List}
-use Prim.Native.Nat.{ℕ, ◌≤◌}
-use native.Mathlib.Omega.{arith}
-use lib.IntN.{ℤ}
-use lib.ListN.{length, take}
-use Rattle.problem.specs.Checks.{Posed}
-use Rattle.problem.proofs.CheckLaws.{Fits}
-use Rattle.problem.specs.declared.Check.{Check}
-use Rattle.problem.specs.declared.Check.TheVariants.{Passed}
+use Rattle.std.proofs.Common.{Result, rules, arith, ◌≡◌, sym, ◌∙◌, ap, ap₂, length, Ok, Err, ℕ, ℤ, List}
+use Rattle.problem.specs.Checks.{Posed, posed}
 use Rattle.problem.specs.declared.Lent.{Lent}
+use Rattle.problem.specs.declared.Refusal.{Refusal}
+use Rattle.problem.proofs.CheckLaws.{Fits}
 use Rattle.settling.specs.Columns.{Columns, columns_in}
-use Rattle.engine.specs.Assign.{Buffers, posed_by, buffers, n, rounds_of}
+use Rattle.settling.proofs.Fronts.{part_length}
+use Rattle.engine.specs.Assign.{Buffers, n, rounds_of}
+use Rattle.engine.specs.Preview.{shown, with_limit, lent_beside, unshown}
+use Rattle.engine.specs.Showing.{displayed_by}
 use Rattle.engine.specs.Ground.{grounded, laid_ground}
-use Rattle.engine.specs.Preview.{with_limit, lent_beside, unshown}
-use Rattle.engine.specs.Showing.{Displayed, displayed_over}
-use Rattle.engine.proofs.Readiness.{cells, table, table_columns, table_fills}
-use Rattle.engine.proofs.Grounding.{grounded_by, by_ground, Clear, clear, clear_rounds, clear_fits, clear_placed}
+use Rattle.engine.specs.Replies.{held}
+use Rattle.engine.proofs.Readiness.{table_columns, ready, Taken}
+use Rattle.engine.proofs.Forming.{laid_parted}
+use Rattle.engine.proofs.Grounding.{by_ground, Clear, clear, clear_rounds, clear_passes, clear_fits, clear_laid, clear_small}
 use Rattle.engine.proofs.Showing.{both_long, shown_with, preview_ground, preview_shown}
-use Rattle.engine.proofs.preview.preview.Goals.{After-lay_ground-ground, In_default, Start}
 use Rattle.engine.proofs.preview.preview.Goals as goal
 
-module _ (a : Start) where
-  abbrev P : Posed
-  P = posed_by a.args.p a.args.coefficients.now a.args.rights.now a.args.lower.now a.args.upper.now
-      a.args.low.now a.args.high.now a.args.given.now a.args.ideals.now
+-- what the ground tells, in the terms of the buffers
+ground_of :
+    (P : Posed) (v : List ℤ) (L m : Lent) (t : List ℤ) (r z : Result ℕ Refusal) (u : List ℤ) → m ≡ L → grounded r u ≡ laid_ground P v m t
+    → r ≡ z → grounded z u ≡ laid_ground P v L t
+ground_of P v L m t r z u g h e = ap (λ (x : Result ℕ Refusal). grounded x u) (sym e) ∙ h ∙ ap (λ (k : Lent). laid_ground P v k t) g
 
-  abbrev B : Buffers
-  B = buffers a.args.tableau.now a.args.after.now a.args.strides.now
+pub returns-in_err-rounds : goal.returns-in_err-rounds
+returns-in_err-rounds c =
+    let P : Posed = posed c.args.p c.args.lists in
+    let B : Buffers = held c.args.lent in
+    let v : List ℤ = c.args.standing.now in
+    let L : Lent = lent_beside (n P) v B in
+    let m : record { tableau = length B.tableau; values = c.list_length.result; strides = length B.strides } ≡ L =
+    ap (λ (k : ℕ). record { tableau = length B.tableau; values = k; strides = length B.strides }) c.list_length.ensures in
+    let why : Refusal = c.in_err-rounds.field-0.0 in
+    let r : c.from_residual.result ≡ Err why = search rules in
+    rw r (ap (by_ground (λ w t. unshown w t B) _)
+    (ground_of (with_limit 1 P) v L _ B.tableau c.lay_ground.result (Err why) c.lay_ground.new.tableau m c.lay_ground.ensures.0 c.in_err-rounds.was)
+    ∙ sym (preview_ground P v B))
 
-  abbrev L : Lent
-  L = lent_beside (n P) a.args.standing.now B
-
--- what the ground leaves in the tableau, and in the table of columns
-module _ (g : After-lay_ground-ground) where
-  abbrev under : Start
-  under = (goal.at.After-lay_ground-ground g).Start
-
-  abbrev tableau : List ℤ
-  tableau = g.lay_ground-ground.new.tableau
-
-  abbrev cells_left : List ℤ
-  cells_left = g.lay_ground-ground.new.columns
-
-  is_ground :
-      grounded_by g.lay_ground-ground.result tableau ≡ laid_ground (with_limit 1 (P under)) under.args.standing.now (L under) under.args.tableau.now
-  is_ground =
-      g.lay_ground-ground.ensures.0
-      ∙ ap (λ (k : ℕ). laid_ground (with_limit 1 (P under)) under.args.standing.now
-      (record { tableau = length under.args.tableau.now; values = k; strides = length under.args.strides.now }) under.args.tableau.now)
-      g.list_length.ensures
-
--- where it refuses nothing
-module _ (w : In_default) where
-  abbrev over : After-lay_ground-ground
-  over = (goal.at.In_default w).After-lay_ground-ground
-
-  abbrev at : Start
-  at = under over
-
-  is_clear :
-      grounded Passed over.lay_ground-ground.result.rounds (tableau over)
-      ≡ laid_ground (with_limit 1 (P at)) at.args.standing.now (L at) at.args.tableau.now
-  is_clear = ap (λ (r : Check). grounded r over.lay_ground-ground.result.rounds (tableau over)) (sym w.in_default.is) ∙ is_ground over
-
-  found : Clear (with_limit 1 (P at)) at.args.standing.now (L at) at.args.tableau.now (tableau over)
-  found =
-      clear (with_limit 1 (P at)) at.args.standing.now (L at) at.args.tableau.now is_clear
-
-  counted : over.lay_ground-ground.result.rounds ≡ rounds_of (P at)
-  counted = clear_rounds _ _ _ _ found is_clear
-
-  abbrev fit : Fits (with_limit 1 (P at)) (L at)
-  fit = clear_fits _ _ _ _ found
-
-  both : (length at.args.standing.now ≡ n (P at)) × (length at.args.after.now ≡ n (P at))
-  both = both_long (n (P at)) (length at.args.standing.now) (length at.args.after.now) fit.values_long
-
-  room : cells (P at) ≤ length (cells_left over)
-  room = omega (arith, fit.few_columns, over.lay_ground-ground.auto.columns)
-
-  packed : take (cells (P at)) (cells_left over) ≡ table (P at)
-  packed = over.lay_ground-ground.ensures.1.is w.in_default.is
-
-pub lay_ground-ground-requires : goal.lay_ground-ground-requires
-lay_ground-ground-requires c =
-    let lists = both_long c.args.p.columns (length c.args.standing.now) (length c.args.after.now) in
-    record { tableau = refl; list = λ e. (lists (sym c.list_length.ensures ∙ e)).0; table = refl }
-
-pub returns-in-Failed : goal.returns-in-Failed
-returns-in-Failed c =
-    let s = under (goal.at.returns-in-Failed c).After-lay_ground-ground in
-    ap (by_ground (λ why t. unshown why t (B s)) _)
-    (ap (λ (r : Check). grounded r c.lay_ground-ground.result.rounds (tableau (goal.at.returns-in-Failed c).After-lay_ground-ground))
-    (sym c.in-Failed.is) ∙ is_ground (goal.at.returns-in-Failed c).After-lay_ground-ground)
-    ∙ sym (preview_ground (P s) s.args.standing.now (B s))
-
-pub overflow_mul-used : goal.overflow_mul-used
-overflow_mul-used c = omega (arith, (fit (goal.at.overflow_mul-used c).In_default).few_columns)
+pub basis_in-basis-requires : goal.basis_in-basis-requires
+basis_in-basis-requires c =
+    let P : Posed = posed c.args.p c.args.lists in
+    let B : Buffers = held c.args.lent in
+    let v : List ℤ = c.args.standing.now in
+    let L : Lent = lent_beside (n P) v B in
+    let m : record { tableau = length B.tableau; values = c.list_length.result; strides = length B.strides } ≡ L =
+    ap (λ (k : ℕ). record { tableau = length B.tableau; values = k; strides = length B.strides }) c.list_length.ensures in
+    let h : grounded (Ok c.in_ok-rounds.rounds) c.lay_ground.new.tableau ≡ laid_ground (with_limit 1 P) v L B.tableau =
+    ground_of (with_limit 1 P) v L _ B.tableau c.lay_ground.result (Ok c.in_ok-rounds.rounds) c.lay_ground.new.tableau m c.lay_ground.ensures.0
+    c.in_ok-rounds.was in
+    let z : Clear (with_limit 1 P) v L B.tableau c.lay_ground.new.tableau = clear (with_limit 1 P) v L B.tableau h in
+    let g : Fits (with_limit 1 P) L = clear_fits _ _ _ _ z in
+    (g.few_columns, g.few_rows, laid_parted (with_limit 1 P) L (clear_passes _ _ _ _ z) (clear_laid _ _ _ _ z))
 
 pub slice_bounds-columns-end : goal.slice_bounds-columns-end
-slice_bounds-columns-end c = room (goal.at.slice_bounds-columns-end c).In_default
+slice_bounds-columns-end c =
+    let P : Posed = posed c.args.p c.args.lists in
+    let B : Buffers = held c.args.lent in
+    let v : List ℤ = c.args.standing.now in
+    let L : Lent = lent_beside (n P) v B in
+    let m : record { tableau = length B.tableau; values = c.list_length.result; strides = length B.strides } ≡ L =
+    ap (λ (k : ℕ). record { tableau = length B.tableau; values = k; strides = length B.strides }) c.list_length.ensures in
+    let h : grounded (Ok c.in_ok-rounds.rounds) c.lay_ground.new.tableau ≡ laid_ground (with_limit 1 P) v L B.tableau =
+    ground_of (with_limit 1 P) v L _ B.tableau c.lay_ground.result (Ok c.in_ok-rounds.rounds) c.lay_ground.new.tableau m c.lay_ground.ensures.0
+    c.in_ok-rounds.was in
+    let z : Clear (with_limit 1 P) v L B.tableau c.lay_ground.new.tableau = clear (with_limit 1 P) v L B.tableau h in
+    let g : Fits (with_limit 1 P) L = clear_fits _ _ _ _ z in
+    omega (arith, g.few_columns, c.lay_ground.auto.columns)
 
-pub slice_bounds-show_over-end : goal.slice_bounds-show_over-end
-slice_bounds-show_over-end c =
-    table_fills (P (at (goal.at.slice_bounds-show_over-end c).In_default)) _ (packed (goal.at.slice_bounds-show_over-end c).In_default)
+pub slice_bounds-show_on-end : goal.slice_bounds-show_on-end
+slice_bounds-show_on-end c =
+    let P : Posed = posed c.args.p c.args.lists in
+    let B : Buffers = held c.args.lent in
+    let v : List ℤ = c.args.standing.now in
+    let L : Lent = lent_beside (n P) v B in
+    let m : record { tableau = length B.tableau; values = c.list_length.result; strides = length B.strides } ≡ L =
+    ap (λ (k : ℕ). record { tableau = length B.tableau; values = k; strides = length B.strides }) c.list_length.ensures in
+    let h : grounded (Ok c.in_ok-rounds.rounds) c.lay_ground.new.tableau ≡ laid_ground (with_limit 1 P) v L B.tableau =
+    ground_of (with_limit 1 P) v L _ B.tableau c.lay_ground.result (Ok c.in_ok-rounds.rounds) c.lay_ground.new.tableau m c.lay_ground.ensures.0
+    c.in_ok-rounds.was in
+    let z : Clear (with_limit 1 P) v L B.tableau c.lay_ground.new.tableau = clear (with_limit 1 P) v L B.tableau h in
+    let g : Fits (with_limit 1 P) L = clear_fits _ _ _ _ z in
+    part_length _ _ (omega (arith, g.few_columns, c.lay_ground.auto.columns))
 
-pub show_over-seen-requires : goal.show_over-seen-requires
-show_over-seen-requires c = (
-  clear_placed _ _ _ _ (found (goal.at.show_over-seen-requires c).In_default) (both (goal.at.show_over-seen-requires c).In_default).0
-      (packed (goal.at.show_over-seen-requires c).In_default),
-  record {
-    after = (both (goal.at.show_over-seen-requires c).In_default).1;
-    strides = (fit (goal.at.show_over-seen-requires c).In_default).strides_long;
-  },
-)
+pub show_on-next-requires : goal.show_on-next-requires
+show_on-next-requires c =
+    let P : Posed = posed c.args.p c.args.lists in
+    let B : Buffers = held c.args.lent in
+    let v : List ℤ = c.args.standing.now in
+    let L : Lent = lent_beside (n P) v B in
+    let m : record { tableau = length B.tableau; values = c.list_length.result; strides = length B.strides } ≡ L =
+    ap (λ (k : ℕ). record { tableau = length B.tableau; values = k; strides = length B.strides }) c.list_length.ensures in
+    let h : grounded (Ok c.in_ok-rounds.rounds) c.lay_ground.new.tableau ≡ laid_ground (with_limit 1 P) v L B.tableau =
+    ground_of (with_limit 1 P) v L _ B.tableau c.lay_ground.result (Ok c.in_ok-rounds.rounds) c.lay_ground.new.tableau m c.lay_ground.ensures.0
+    c.in_ok-rounds.was in
+    let z : Clear (with_limit 1 P) v L B.tableau c.lay_ground.new.tableau = clear (with_limit 1 P) v L B.tableau h in
+    let g : Fits (with_limit 1 P) L = clear_fits _ _ _ _ z in
+    let b : Taken (with_limit 1 P) c.lay_ground.new.tableau c.basis_in-basis.result =
+    record { is = c.basis_in-basis.ensures.0; columns = c.basis_in-basis.ensures.1; few = c.basis_in-basis.ensures.2 } in
+    let l = both_long (n P) (length v) (length B.values) g.values_long in (
+      ready (with_limit 1 P) L g c.basis_in-basis.result c.lay_ground.new.tableau b v _ l.0 (clear_small _ _ _ _ z)
+          (c.lay_ground.ensures.1.is _ c.in_ok-rounds.was),
+      l.1 ∙ sym b.columns,
+      g.strides_long ∙ sym b.columns,
+    )
 
 pub returns : goal.returns
 returns c =
-    let s = at (goal.at.returns c).In_default in
-    ap₂ (λ (k : ℕ) (x : Displayed). shown_with k (tableau (over (goal.at.returns c).In_default)) x) (counted (goal.at.returns c).In_default)
-    (c.show_over-seen.ensures
-    ∙ ap (λ (C : Columns). displayed_over (with_limit 1 (P s)).problem C (tableau (over (goal.at.returns c).In_default)) s.args.standing.now)
-    (ap (columns_in s.args.p.columns) (packed (goal.at.returns c).In_default)
-    ∙ table_columns (with_limit 1 (P s)) (L s) (fit (goal.at.returns c).In_default)))
-    ∙ sym (preview_shown (P s) s.args.standing.now (B s) (found (goal.at.returns c).In_default))
+    let P : Posed = posed c.args.p c.args.lists in
+    let B : Buffers = held c.args.lent in
+    let v : List ℤ = c.args.standing.now in
+    let L : Lent = lent_beside (n P) v B in
+    let m : record { tableau = length B.tableau; values = c.list_length.result; strides = length B.strides } ≡ L =
+    ap (λ (k : ℕ). record { tableau = length B.tableau; values = k; strides = length B.strides }) c.list_length.ensures in
+    let h : grounded (Ok c.in_ok-rounds.rounds) c.lay_ground.new.tableau ≡ laid_ground (with_limit 1 P) v L B.tableau =
+    ground_of (with_limit 1 P) v L _ B.tableau c.lay_ground.result (Ok c.in_ok-rounds.rounds) c.lay_ground.new.tableau m c.lay_ground.ensures.0
+    c.in_ok-rounds.was in
+    let z : Clear (with_limit 1 P) v L B.tableau c.lay_ground.new.tableau = clear (with_limit 1 P) v L B.tableau h in
+    let g : Fits (with_limit 1 P) L = clear_fits _ _ _ _ z in
+    let cols = ap₂ columns_in c.basis_in-basis.ensures.1 (c.lay_ground.ensures.1.is _ c.in_ok-rounds.was) ∙ table_columns (with_limit 1 P) L g in
+    ap (λ (k : ℕ). shown (Ok c.show_on-next.result) k c.lay_ground.new.tableau c.show_on-next.new.after c.show_on-next.new.strides)
+    (clear_rounds _ _ _ _ z h)
+    ∙ ap (shown_with (rounds_of P) c.lay_ground.new.tableau)
+    (c.show_on-next.ensures
+    ∙ ap₂ (λ (X : Columns) (Y : List (List ℤ)). displayed_by X Y v) cols c.basis_in-basis.ensures.0)
+    ∙ sym (preview_shown P v B z)

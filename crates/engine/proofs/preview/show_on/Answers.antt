@@ -1,34 +1,17 @@
--- `engine::preview::show_on` meets its contract: the next step is looked for in the list, and taken on a copy. Assumes nothing.
-use mathlib.Core.Path.{sym, ◌∙◌, ap, subst}
-use mathlib.Core.List.{List}
-use lib.IntN.{ℤ}
-use Rattle.settling.specs.Views.{vectors}
+-- `engine::preview::show_on` meets its contract: the step can be taken, since the list is ready. Assumes nothing.
+use Rattle.std.proofs.Common.{◌≡◌, sym, ◌∙◌, ap, length, Some}
 use Rattle.settling.specs.declared.Turn.{Turn}
-use Rattle.engine.specs.Preview as Preview
-use Rattle.engine.specs.Showing.{displayed, Stepping}
-use Rattle.engine.proofs.Showing.{stepping}
-use Rattle.engine.proofs.preview.show_on.Goals.{After-copy, After-strides, Start}
+use Rattle.settling.specs.Columns.{columns_in}
+use Rattle.settling.specs.Steps.{step, next_step}
+use Rattle.settling.specs.Views.{vectors}
+use Rattle.settling.proofs.Settlings.{taken_ready}
 use Rattle.engine.proofs.preview.show_on.Goals as goal
 
--- where the list is copied
-module _ (k : After-copy) where
-  abbrev given : After-strides
-  given = (goal.at.After-copy k).After-strides
-
-  abbrev start : Start
-  start = (goal.at.After-strides given).Start
-
-pub show_turn-requires : goal.show_turn-requires
-show_turn-requires c =
-    let s = start (goal.at.show_turn-requires c).After-copy in
-    subst (λ (v : List ℤ). Stepping c.turn_at-turn.result s.args.view v s.args.basis.now) (sym c.copy.ensures)
-    (stepping s.requires.0 c.turn_at-turn.ensures)
-
-pub returns : goal.returns
-returns c =
-    let shows = c.show_turn.ensures in
-    let s = start (goal.at.returns c).After-copy in
-    let t = c.turn_at-turn.ensures in
-    let p = shows.0 ∙ ap (λ (x : Turn). Preview.told x.part x.step) t in
-    let q = shows.1 ∙ (λ i. Preview.after (vectors s.args.view s.args.basis.now) (c.copy.ensures i) (t i).step) in
-    (λ i. displayed (p i) (q i) ((given (goal.at.returns c).After-copy).strides.ensures i))
+pub take_move-requires-clause-viewed : goal.take_move-requires-clause-viewed
+take_move-requires-clause-viewed c =
+    let e : next_step (columns_in c.args.basis.columns c.args.columns.now) (vectors c.args.basis) c.args.standing.now
+    ≡ Some (step c.in_ok-step.step.column c.in_ok-step.step.o) =
+    sym (ap (λ (x : Turn). x.step) c.turn_at-turn.ensures) ∙ c.in_ok-step.was in (
+      (taken_ready c.args.basis c.args.standing.now c.args.columns.now c.in_ok-step.step.column c.in_ok-step.step.o c.requires.0 e).0,
+      ap length c.copy_from_slice.ensures.after ∙ c.requires.0.values_long,
+    )

@@ -1,44 +1,26 @@
 -- `joined::columns::fill_places` meets its contract: the places set so far and those of the columns left are all places. Assumes nothing.
-use mathlib.Core.Path.{sym, ◌∙◌}
-use native.Mathlib.Omega.{arith}
-use Rattle.joined.proofs.Laying.{laid_start, laid_on, laid_end}
+use Rattle.std.proofs.Common.{arith, sym, ◌∙◌}
+use Rattle.joined.proofs.Laying.{places_alone, places_shared, places_end}
+use Rattle.joined.proofs.columns.fill_places.Goals.{in-Some, in-None}
 use Rattle.joined.proofs.columns.fill_places.Goals as goal
 
-pub loop-j-init : goal.loop-j-init
-loop-j-init c = laid_start c.args.partners.now c.args.first c.args.places.now
-    c.requires.places_len
-
-pub offset_bounds-partners-j : goal.offset_bounds-partners-j
-offset_bounds-partners-j c = omega arith
-
-pub bounds-partners-j : goal.bounds-partners-j
-bounds-partners-j c = omega arith
-
-pub place_of-requires : goal.place_of-requires
-place_of-requires c = tt
-
-pub offset_bounds-places-j : goal.offset_bounds-places-j
-offset_bounds-places-j c = omega arith
-
-pub bounds-places-j : goal.bounds-places-j
-bounds-places-j c = omega (arith, c.loop-j.invariant.long)
-
-pub next_of-k-requires : goal.next_of-k-requires
-next_of-k-requires c =
-    omega (arith, c.loop-j.invariant.few, c.loop-j.invariant.within, c.requires.partners_bound)
-
-pub overflow_add-j : goal.overflow_add-j
-overflow_add-j c = omega arith
-
-pub loop-j-smaller : goal.loop-j-smaller
-loop-j-smaller c = omega arith
-
 pub loop-j-preserved : goal.loop-j-preserved
-loop-j-preserved c = laid_on _ _ _ _ _ _ _ c.loop-j-test.true c.place_of.ensures c.next_of-k.ensures
-    c.loop-j.invariant
-
-pub shape_of-places : goal.shape_of-places
-shape_of-places c = c.loop-j.invariant.long ∙ sym c.requires.places_len
+loop-j-preserved c =
+    let a = c.args in
+    let h = c.loop-j-test.true in
+    elim c.match-partner.branch [
+      | in-Some w ↦ (
+        omega (arith, w.next-is),
+        rw (w.places-is, w.next-is) (places_shared a.partners.now c.loop-j.places c.loop-j.next c.loop-j.j h (omega arith) _ w.in-Some.is
+            ∙ c.loop-j.invariant.1),
+      )
+      | in-None w ↦ (
+        omega (arith, w.next-is),
+        rw (w.places-is, w.next-is) (places_alone a.partners.now c.loop-j.places c.loop-j.next c.loop-j.j h (omega arith) w.in-None.is
+            ∙ c.loop-j.invariant.1),
+      )
+    ]
 
 pub returns : goal.returns
-returns c = laid_end _ _ _ _ _ c.loop-j-test.false c.loop-j.invariant
+returns c =
+    sym (places_end c.args.partners.now c.loop-j.places c.loop-j.next c.loop-j.j c.loop-j-test.false (omega arith)) ∙ c.loop-j.invariant.1

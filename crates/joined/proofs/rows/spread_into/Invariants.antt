@@ -1,11 +1,9 @@
--- What holds at each turn of `joined::rows::spread_into`. Assumes nothing.
-use Prim.Native.Nat.{◌-◌}
-use lib.ListN.{length}
-use Rattle.joined.proofs.RowLaws.{Put}
+-- What holds at each turn of `joined::rows::spread_into`: the coefficients left, put in, make the row. Assumes nothing.
+use Rattle.std.proofs.Common.{◌≡◌, drop, length}
+use Rattle.joined.specs.Joined.{spread_from}
 use Rattle.joined.proofs.rows.spread_into.Given as goal
 
-abbrev pub invariant-loop-j : goal.invariant-loop-j
-invariant-loop-j l = Put l.places l.row l.initial.out l.out l.j
-
-abbrev pub decreases-loop-j : goal.decreases-loop-j
-decreases-loop-j l = length l.row - l.j
+abbrev pub invariant-loop-p : goal.invariant-loop-p
+invariant-loop-p l =
+    spread_from l.out (drop (length l.yielded) l.seats.places.now) (drop (length l.yielded) l.row)
+    ≡ spread_from l.initial.out l.seats.places.now l.row

@@ -1,7 +1,7 @@
 -- What holds at each turn of `problem::checks::bounds_fit`. Assumes nothing.
 use mathlib.Core.Bool.{Bool}
 use mathlib.Core.List.{List}
-use Prim.Native.Nat.{ℕ, ◌-◌}
+use Prim.Native.Nat.{ℕ}
 use lib.IntN.{ℤ}
 use lib.ListN.{length}
 use Rattle.whole.specs.Lists.{entry}
@@ -14,6 +14,3 @@ test lower upper j = bound_fits (entry j lower) (entry j upper)
 
 abbrev pub invariant-loop-j : goal.invariant-loop-j
 invariant-loop-j l = SoFar (length l.lower) (test l.lower l.upper) l.j
-
-abbrev pub decreases-loop-j : goal.decreases-loop-j
-decreases-loop-j l = length l.lower - l.j

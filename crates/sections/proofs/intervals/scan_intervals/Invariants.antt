@@ -1,26 +1,18 @@
--- What holds at each turn of `sections::intervals::scan_intervals`. Assumes nothing.
-use mathlib.Core.Path.{◌≡◌}
-use mathlib.Core.List.{List}
-use Prim.Native.Nat.{ℕ, ◌-◌, ◌≤◌}
-use lib.IntN.{ℤ}
-use lib.ListN.{length}
+-- What holds at each turn of `sections::intervals::scan_intervals`: what is left to read, after the intervals done, is what was to be read, and the
+-- table holds the intervals done. Assumes nothing.
+use Rattle.std.proofs.Common.{◌≡◌, ℕ, ◌-◌, ◌≤◌, List, length}
 use Rattle.sections.specs.declared.Interval.{Interval}
 use Rattle.sections.specs.Rules.{Outcome}
 use Rattle.sections.specs.Sections.{deck_columns, intervals, interval_section}
-use Rattle.sections.specs.StatedColumns.{column_cells, cells, padded}
+use Rattle.sections.specs.StatedColumns.{no_interval, padded_by}
 use Rattle.sections.proofs.intervals.scan_intervals.Given as goal
 
-pub record Sofar (s : List ℕ) (o : Outcome (List Interval)) (n i p : ℕ) (k : List ℤ) : Type 0 where
+pub record Sofar (s : List ℕ) (o : Outcome (List Interval)) (n i p : ℕ) (k : List Interval) : Type 0 where
   pub most : n ≤ deck_columns
-  pub small : i ≤ n
   pub done : List Interval
   pub count : length done ≡ i
   pub rest : intervals s (n - i) done p ≡ o
-  pub columns : k ≡ padded column_cells (cells done)
-  pub size : length k ≡ column_cells
+  pub columns : k ≡ padded_by no_interval deck_columns done
 
 abbrev pub invariant-loop-i : goal.invariant-loop-i
-invariant-loop-i l = Sofar l.s (interval_section l.s l.at) l.n l.i l.p l.columns
-
-abbrev pub decreases-loop-i : goal.decreases-loop-i
-decreases-loop-i l = l.n - l.i
+invariant-loop-i l = Sofar l.s (interval_section l.s l.fn.at) l.n l.i l.at l.columns

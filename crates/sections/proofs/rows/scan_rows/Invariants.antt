@@ -1,32 +1,25 @@
--- What holds at each turn of `sections::rows::scan_rows`. Assumes nothing.
-use mathlib.Core.Path.{◌≡◌}
-use mathlib.Core.List.{List, [], map}
-use Prim.Native.Nat.{ℕ, ◌+◌, ◌-◌, ◌*◌, ◌≤◌}
-use lib.IntN.{ℤ}
-use lib.ListN.{length}
-use Rattle.text.specs.Overwriting.{overwritten}
+-- What holds at each turn of `sections::rows::scan_rows`: what is left to read, after the rows done, is what was to be read, and the tables hold the
+-- rows done. Assumes nothing.
+use Rattle.std.proofs.Common.{◌≡◌, ℕ, ◌+◌, ◌-◌, ◌≤◌, List, length, nat_abs}
 use Rattle.sections.specs.declared.Cursor.{Cursor}
-use Rattle.sections.specs.Sections.{deck_columns, deck_rows, Line, lines}
-use Rattle.sections.specs.StatedColumns.{right_of, slack_columns, coefficient_rows, column_width, cells}
-use Rattle.sections.specs.SectionsRead.{Lengths}
+use Rattle.sections.specs.declared.Tables.{Tables}
+use Rattle.sections.specs.Rules.{Outcome}
+use Rattle.sections.specs.Sections.{deck_columns, deck_rows, Line, lines, row_section}
+use Rattle.sections.specs.StatedColumns.{slack_columns}
+use Rattle.sections.specs.SectionsRead.{with_rows}
 use Rattle.sections.proofs.rows.scan_rows.Given as goal
 
-pub record Sofar (s : List ℕ) (m : ℕ) (a : Cursor) (k₀ b₀ t₀ : List ℤ) (c : Cursor) (k b t : List ℤ) : Type 0 where
+pub record Sofar (s : List ℕ) (o : Outcome (List Line)) (m n : ℕ) (T : Tables) (i : ℕ) (c : Cursor) (U : Tables) : Type 0 where
   pub most : m ≤ deck_rows
-  pub small : c.rows ≤ m
   pub room : c.columns ≤ deck_columns
-  pub intervals : c.intervals ≡ a.intervals
+  pub intervals : c.intervals ≡ n
+  pub rows : c.rows ≡ i
   pub done : List Line
-  pub many : length done ≡ c.rows
-  pub rest : lines s (m - c.rows) a.intervals c.columns done c.at ≡ lines s m a.intervals a.intervals [] a.at
-  pub columns : c.columns ≡ a.intervals + length (slack_columns done)
-  pub columns_is : k ≡ overwritten k₀ (a.intervals * column_width) (cells (slack_columns done))
-  pub rights_is : b ≡ overwritten b₀ 0 (map right_of done)
-  pub table_is : t ≡ overwritten t₀ 0 (coefficient_rows deck_columns a.intervals done)
-  pub lengths : Lengths k b t
+  pub many : length done ≡ i
+  pub rest : lines s (m - i) n c.columns done c.at ≡ o
+  pub columns : c.columns ≡ n + length (slack_columns done)
+  pub tables : U ≡ with_rows n done T
 
-abbrev pub invariant-loop-c : goal.invariant-loop-c
-invariant-loop-c l = Sofar l.s l.m l.initial.c l.initial.columns l.initial.rights l.initial.table l.c l.columns l.rights l.table
-
-abbrev pub decreases-loop-c : goal.decreases-loop-c
-decreases-loop-c l = l.m - l.c.rows
+abbrev pub invariant-loop : goal.invariant-loop
+invariant-loop l =
+    Sofar l.s (row_section l.s l.fn.start.intervals l.fn.start.at) (nat_abs l.m) l.fn.start.intervals l.initial.tables l.counter l.c l.tables

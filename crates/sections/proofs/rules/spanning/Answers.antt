@@ -1,16 +1,16 @@
--- `sections::rules::spanning` meets its contract: it is the range from −k to k. Assumes nothing.
-use mathlib.Core.Path.{◌≡◌, ◌∙◌}
-use borrow.Author.Rules.{sfits_of}
-use lib.IntN.{pos, neg_ℤ}
-use mir.Syntax.{w64}
-use mir.Val.{to_z, of_z}
-use mir.Facts.{to_z-of_z}
+-- `sections::rules::spanning` meets its contract: k and −k fit. Assumes nothing.
+use Rattle.std.proofs.Common.{arith, ◌≡◌, ◌<◌, ◌^◌, to_z, of_z, w64, pos, neg_ℤ, ◌-ℤ◌, ℕ, zero, suc}
+use Rattle.std.proofs.Math.Facts.{to_z-of_z, to_z_pos}
+use mir.Val.{SFits}
+use lib.IntN.{+ℤ_idl}
 use Rattle.sections.proofs.rules.spanning.Goals as goal
 
+fits : (k : ℕ) → k < 2 ^ 63 → SFits w64 (neg_ℤ (pos k))
+fits zero h = record { sfits = omega arith }
+fits (suc k) h = record { sfits = omega arith }
+
+negated : (k : ℕ) → k < 2 ^ 63 → to_z w64 (of_z w64 (pos 0 -ℤ to_z w64 k)) ≡ neg_ℤ (pos k)
+negated k h = let p : to_z w64 k ≡ pos k = to_z_pos w64 h in rw (p, +ℤ_idl (neg_ℤ (pos k))) (to_z-of_z (fits k h))
+
 pub returns : goal.returns
-returns c =
-    let k = c.args.k in
-    let a : to_z w64 (of_z w64 c.negative-low.result) ≡ neg_ℤ (pos k) =
-    to_z-of_z {w = w64} (sfits_of c.negative-low.type_inv) ∙ c.negative-low.ensures in
-    let b : to_z w64 (of_z w64 c.positive-high.result) ≡ pos k = to_z-of_z {w = w64} (sfits_of c.positive-high.type_inv) ∙ c.positive-high.ensures in
-    rw (a, b) at c.within.ensures
+returns c = rw (negated c.args.k c.requires, to_z_pos w64 c.requires) at c.within.ensures.read

@@ -1,4 +1,4 @@
--- What holds at each turn of `settling::strides::stride`. Assumes nothing.
+-- What holds at each turn of `settling::strides::stride`, with s vectors to come. Assumes nothing.
 use mathlib.Core.Path.{◌≡◌}
 use Prim.Native.Nat.{◌≤◌}
 use lib.ListN.{drop}
@@ -7,7 +7,4 @@ use Rattle.settling.specs.Views.{vectors}
 use Rattle.settling.proofs.strides.stride.Given as goal
 
 abbrev pub invariant-loop-s : goal.invariant-loop-s
-invariant-loop-s l = (l.s ≤ l.view.vectors) × (l.d ≡ Strides.stride (drop l.s (vectors l.view l.basis)) l.j)
-
-abbrev pub decreases-loop-s : goal.decreases-loop-s
-decreases-loop-s l = l.s
+invariant-loop-s l = (l.s ≤ l.basis.vectors) × (l.d ≡ Strides.stride (drop l.s (vectors l.basis)) l.j)

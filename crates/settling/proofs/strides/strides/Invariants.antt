@@ -1,11 +1,11 @@
 -- What holds at each turn of `settling::strides::strides`. Assumes nothing.
-use Prim.Native.Nat.{◌-◌}
-use Rattle.settling.proofs.StrideLaws.{Filled}
+use mathlib.Core.Path.{◌≡◌}
+use Prim.Native.Nat.{ℕ, ◌<◌}
+use lib.ListN.{length, get_or}
+use Rattle.settling.specs.Strides as Strides
 use Rattle.settling.specs.Views.{vectors}
 use Rattle.settling.proofs.strides.strides.Given as goal
 
 abbrev pub invariant-loop-j : goal.invariant-loop-j
-invariant-loop-j l = Filled (vectors l.view l.basis) l.initial.out l.out l.j
-
-abbrev pub decreases-loop-j : goal.decreases-loop-j
-decreases-loop-j l = l.n - l.j
+invariant-loop-j l =
+    (length l.out ≡ length l.initial.out) × ((x : ℕ) → x < l.j → get_or l.out x 0 ≡ Strides.stride (vectors l.basis) x)

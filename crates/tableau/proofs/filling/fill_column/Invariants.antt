@@ -1,5 +1,4 @@
 -- What holds at each turn of `tableau::filling::fill_column`. Assumes nothing.
-use Prim.Native.Nat.{◌-◌}
 use lib.ListN.{length}
 use Rattle.lattice.specs.Rows.{chop}
 use Rattle.whole.proofs.Writing.{WrittenTo}
@@ -7,7 +6,4 @@ use Rattle.tableau.specs.Table.{column}
 use Rattle.tableau.proofs.filling.fill_column.Given as goal
 
 abbrev pub invariant-loop-i : goal.invariant-loop-i
-invariant-loop-i l = WrittenTo l.initial.to (column l.j (chop (length l.initial.to) l.n l.coefficients)) l.to l.i
-
-abbrev pub decreases-loop-i : goal.decreases-loop-i
-decreases-loop-i l = length l.initial.to - l.i
+invariant-loop-i l = WrittenTo l.fn.to (column l.j (chop (length l.fn.to) l.n l.coefficients)) l.to l.i

@@ -8,5 +8,5 @@ use Rattle.tableau.proofs.filling.fill_unit.Goals as goal
 
 pub returns : goal.returns
 returns c =
-    ap (λ (l : List ℤ). set l c.args.j (pos 1)) c.wipe.ensures
+    ap (λ (l : List ℤ). set l c.args.j (pos 1)) (c.fill.ensures.after (λ y e. e))
     ∙ unit_set (length c.args.to.now) c.args.j c.requires

@@ -15,14 +15,6 @@ lift-requires c =
     let l = lift_asks c.requires.tail c.requires.picked in
     record { c_in_bounds = l.0; zero_to = l.1.0; within = l.1.1 }
 
-pub slice_bounds-each-count : goal.slice_bounds-each-count
-slice_bounds-each-count c =
-    omega (arith, c.lift.auto.t, ends_inside c.requires.tail c.requires.picked)
-
-pub slice_bounds-each-start : goal.slice_bounds-each-start
-slice_bounds-each-start c =
-    omega (arith, c.lift.auto.t, ends_inside c.requires.tail c.requires.picked)
-
 pub each-requires : goal.each-requires
 each-requires c =
     let w : ℕ = length c.args.pivot.now in

@@ -1,99 +1,38 @@
 -- `tableau::tables::each` meets its contract: the rows are taken from the top, and each becomes its step. Assumes nothing.
-use mathlib.Core.Path.{sym, ◌∙◌}
-use mathlib.Core.Bool.{true≢false}
-use mathlib.Core.List.{List}
-use Prim.Native.Nat.{◌+◌, ◌-◌}
+use Prim.Native.Nat.{◌*◌}
 use native.Mathlib.Omega.{arith}
-use borrow.Rule.Slice.PartMut.{same_len_mid}
-use lib.IntN.{ℤ}
 use lib.ListN.{length}
 use Rattle.lattice.proofs.LentParts.{part_is, part_back}
-use Rattle.lattice.proofs.RowsAhead.{ahead, row, row_wide}
-use Rattle.tableau.specs.Elimination.{Left}
-use Rattle.tableau.specs.RowSteps.{Stops, row_step}
-use Rattle.tableau.proofs.Walking.{starts, goes_on, stops, ends, next_small, stepping}
-use Rattle.tableau.proofs.tables.each.Goals.{After-step, At-loop-left, In-loop-left, Start}
+use Rattle.tableau.specs.RowSteps.{row_step}
+use Rattle.tableau.proofs.Walking.{Walk, starts, goes_on, place_first, place_next, refused, stops, ends, next_small, stepping}
 use Rattle.tableau.proofs.tables.each.Goals as goal
 
--- what the call answers and leaves of the row that comes next
-module _ (c : After-step) where
-  abbrev entered : In-loop-left
-  entered = (goal.at.After-step c).In-loop-left
-
-  abbrev loop : At-loop-left
-  loop = (goal.at.In-loop-left entered).At-loop-left
-
-  abbrev start : Start
-  start = (goal.at.At-loop-left loop).Start
-
-  abbrev stepped : Left
-  stepped = row_step start.args.way start.args.c start.args.pivot.now (row loop.loop-left.invariant.room entered.loop-left-test.true)
-
-  told : Stops stepped.over stepped.row c.step.result c.step.new.row
-  told = rw (part_is loop.loop-left.at (length start.args.pivot.now) loop.loop-left.t) at c.step.ensures
-
-pub loop-left-init : goal.loop-left-init
-loop-left-init c = starts _ _ _ _ c.requires.t_len c.requires.within
-
-pub overflow_add-next : goal.overflow_add-next
-overflow_add-next c = omega (arith, ahead c.loop-left.invariant.room c.loop-left-test.true)
-
-pub offset_bounds-t-at : goal.offset_bounds-t-at
-offset_bounds-t-at c = omega (arith, ahead c.loop-left.invariant.room c.loop-left-test.true)
-
-pub slice_bounds-step-count : goal.slice_bounds-step-count
-slice_bounds-step-count c = omega arith
-
-pub slice_bounds-step-start : goal.slice_bounds-step-start
-slice_bounds-step-start c = omega (arith, ahead c.loop-left.invariant.room c.loop-left-test.true)
-
-pub slice_bounds-step-end : goal.slice_bounds-step-end
-slice_bounds-step-end c = omega (arith, ahead c.loop-left.invariant.room c.loop-left-test.true)
-
-pub step-requires : goal.step-requires
-step-requires c =
+pub loop-i-init : goal.loop-i-init
+loop-i-init c =
     let a = c.args in
-    let l = c.loop-left in
-    rw (part_is l.at (length a.pivot.now) l.t) record {
-      pivot =
-          rw (row_wide l.invariant.room c.loop-left-test.true) c.requires.pivot;
-      within = next_small l.invariant c.loop-left-test.true;
-    }
+    let f = row_step a.way a.c a.pivot.now in
+    let w = length a.pivot.now in
+    place_first (Walk f w a.rows a.t.now a.t.now) w a.rows (starts f w a.rows a.t.now c.requires.t_len c.requires.within)
 
-pub shape_of-t-then-step : goal.shape_of-t-then-step
-shape_of-t-then-step c =
-    let l = (loop (goal.at.shape_of-t-then-step c).After-step).loop-left in
-    same_len_mid l.at (l.at + length (start (goal.at.shape_of-t-then-step c).After-step).args.pivot.now - l.at) l.t c.step.new.row c.step.auto.row
-    ∙ l.invariant.same
+pub step-requires-clause-within : goal.step-requires-clause-within
+step-requires-clause-within c =
+    let w = length c.args.pivot.now in
+    rw (part_is (c.loop-i.i * w) w c.loop-i.t) (next_small c.loop-i.invariant (omega arith))
 
-pub returns-then-step : goal.returns-then-step
-returns-then-step c =
-    record {
-      answer = sym
-          (stops (loop (goal.at.returns-then-step c).After-step).loop-left.invariant
-          (entered (goal.at.returns-then-step c).After-step).loop-left-test.true
-          (sym (told (goal.at.returns-then-step c).After-step).answer ∙ c.if-step.true));
-      left = λ e. absurd (true≢false e);
-    }
+pub returns-in_err-step : goal.returns-in_err-step
+returns-in_err-step c =
+    let w = length c.args.pivot.now in
+    refused _ c.from_residual.result c.from_residual.ensures.0
+    (stops c.loop-i.invariant (omega arith) (rw (part_is (c.loop-i.i * w) w c.loop-i.t) at c.in_err-step.ensures))
 
-pub overflow_sub-left : goal.overflow_sub-left
-overflow_sub-left c = omega arith
-
-pub loop-left-smaller : goal.loop-left-smaller
-loop-left-smaller c = omega arith
-
-pub loop-left-preserved : goal.loop-left-preserved
-loop-left-preserved c =
-    let a = (start (goal.at.loop-left-preserved c).After-step).args in
-    let l = (loop (goal.at.loop-left-preserved c).After-step).loop-left in
-    let u : List ℤ = c.step.new.row in
-    rw (part_back l.at (length a.pivot.now) l.t u)
-    (goes_on l.invariant (entered (goal.at.loop-left-preserved c).After-step).loop-left-test.true (stepping a.way a.c a.pivot.now) u
-    (sym (told (goal.at.loop-left-preserved c).After-step).answer ∙ c.if-step.false)
-    ((told (goal.at.loop-left-preserved c).After-step).left c.if-step.false))
-
-pub shape_of-t : goal.shape_of-t
-shape_of-t c = c.loop-left.invariant.same
+pub loop-i-preserved : goal.loop-i-preserved
+loop-i-preserved c =
+    let a = c.args in
+    let w = length a.pivot.now in
+    let o = rw (part_is (c.loop-i.i * w) w c.loop-i.t) at c.in_ok-step.ensures in
+    rw (part_back (c.loop-i.i * w) w c.loop-i.t c.step.new.row)
+    (place_next (Walk (row_step a.way a.c a.pivot.now) w a.rows a.t.now _) w a.rows c.loop-i.i
+    (goes_on c.loop-i.invariant (omega arith) (stepping a.way a.c a.pivot.now) c.step.new.row o.0 o.1))
 
 pub returns : goal.returns
-returns c = ends c.loop-left.invariant (omega arith)
+returns c = ends c.loop-i.invariant (omega arith)
