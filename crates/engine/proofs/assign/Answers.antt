@@ -1,6 +1,6 @@
 -- `engine::assign` meets its contract: what the checks find decides, and then each answer of the tableau is a case of the definition.
 -- Assumes nothing.
-use Rattle.std.proofs.Common.{rules, ◌≡◌, sym, ◌∙◌, ap, ap₂, refl, Ok, Err, ℕ, ℤ, List, false}
+use Rattle.std.proofs.Common.{rules, arith, ◌≡◌, sym, ◌∙◌, ap, ap₂, refl, Ok, Err, ℕ, ℤ, List, false}
 use Rattle.lattice.specs.Rows.{flat}
 use Rattle.problem.specs.Checks.{Posed, posed, Check, first_cause}
 use Rattle.problem.specs.declared.Lent.{Lent}
@@ -99,7 +99,7 @@ returns-in_err-rounds c =
     passed_by P B c.lengths.result c.first_cause.result c.lengths.ensures c.first_cause.ensures c.in_ok-first_cause.was in
     let r : c.from_residual-in_err-rounds.result ≡ Err c.in_err-rounds.field-0.0 = search rules in
     rw r (ap (λ (t : List ℤ). refused c.in_err-rounds.field-0.0 t B) c.solve.ensures.t_after
-    ∙ assign_unsolved P B (rounds_of P) (sym c.solve.ensures.value ∙ c.in_err-rounds.was) ∙ sym (assign_passed P B e))
+    ∙ assign_unsolved P B (rounds_of P) (grind (arith, c.solve.ensures.value, c.in_err-rounds.was)) ∙ sym (assign_passed P B e))
 
 pub slice_bounds-table-end : goal.slice_bounds-table-end
 slice_bounds-table-end c =
