@@ -2,6 +2,7 @@
 --   by_rounds, by_ground  what f makes of a refusal and the tableau left, or a where nothing is refused
 --   ground_failed, -off, -over, -clear   what is found: by the checks, of a list that does not stand, past the limit, and with nothing refused
 --   Clear P v L t u       nothing is refused, and u is the form's table; clear, where that is found
+--   ground_told, clear_told   what a call is told of it, which has taken the lengths m of its lists; where nothing is refused, all is clear
 --   unpacked              with a refusal nothing is said of the table of columns
 --   clear_rounds, -passes, -fits, -laid, -small   what that gives
 --   continue_ground       a Continue is made of what is found
@@ -107,6 +108,15 @@ module _ (P : Posed) (v : List ℤ) (L : Lent) (t : List ℤ) where
 
     pub clear_small : (j : ℕ) → nat_abs (entry j v) ≤ M
     clear_small j = within_entry v j (not-true _ (both_true (not (any_beyond v)) _ c.standing).0)
+
+-- ---- what a call is told, which has taken the lengths of its lists
+pub ground_told : (P : Posed) (v : List ℤ) (L m : Lent) (t : List ℤ) (r z : Result ℕ Refusal) (u : List ℤ) → m ≡ L
+    → grounded r u ≡ laid_ground P v m t → r ≡ z → grounded z u ≡ laid_ground P v L t
+ground_told P v L m t r z u g h e = ap (λ (x : Result ℕ Refusal). grounded x u) (sym e) ∙ h ∙ ap (λ (k : Lent). laid_ground P v k t) g
+
+pub clear_told : (P : Posed) (v : List ℤ) (L m : Lent) (t : List ℤ) (r : Result ℕ Refusal) (k : ℕ) (u : List ℤ) → m ≡ L
+    → grounded r u ≡ laid_ground P v m t → r ≡ Ok k → Clear P v L t u
+clear_told P v L m t r k u g h e = clear P v L t (ground_told P v L m t r (Ok k) u g h e)
 
 pub unpacked : {r : Result ℕ Refusal} {why : Refusal} → r ≡ Err why → (P : Posed) (l : List Column) → Packs r P l
 unpacked {r} {why} e P l = record { is = λ k h. never (cc) }

@@ -26,6 +26,9 @@ use Rattle.engine.proofs.assign.Goals as goal
 passed_by : (P : Posed) (B : Buffers) (m : Lent) (r : Check) → m ≡ lent_of B → r ≡ first_cause P m → r ≡ Ok tt → first_cause P (lent_of B) ≡ Ok tt
 passed_by P B m r g h e = ap (first_cause P) (sym g) ∙ sym h ∙ e
 
+fits_by : (P : Posed) (B : Buffers) (m : Lent) (r : Check) → m ≡ lent_of B → r ≡ first_cause P m → r ≡ Ok tt → Fits P (lent_of B)
+fits_by P B m r g h e = fits P (lent_of B) (passes P (lent_of B) (passed_by P B m r g h e))
+
 failed_by :
     (P : Posed) (B : Buffers) (m : Lent) (r : Check) (why : Refusal) → m ≡ lent_of B → r ≡ first_cause P m → r ≡ Err why
     → first_cause P (lent_of B) ≡ Err why
@@ -66,21 +69,12 @@ returns-in_err-first_cause c =
 
 pub slice_bounds-room-end : goal.slice_bounds-room-end
 slice_bounds-room-end c =
-    let P : Posed = posed c.args.p c.args.lists in
-    let B : Buffers = held c.args.lent in
-    let e : first_cause P (lent_of B) ≡ Ok tt =
-    passed_by P B c.lengths.result c.first_cause.result c.lengths.ensures c.first_cause.ensures c.in_ok-first_cause.was in
-    let g : Fits P (lent_of B) = f P B e in
-    g.few_columns
+    (fits_by (posed c.args.p c.args.lists) (held c.args.lent) _ _ c.lengths.ensures c.first_cause.ensures c.in_ok-first_cause.was).few_columns
 
 pub slice_bounds-start-end : goal.slice_bounds-start-end
 slice_bounds-start-end c =
-    let P : Posed = posed c.args.p c.args.lists in
-    let B : Buffers = held c.args.lent in
-    let e : first_cause P (lent_of B) ≡ Ok tt =
-    passed_by P B c.lengths.result c.first_cause.result c.lengths.ensures c.first_cause.ensures c.in_ok-first_cause.was in
-    let g : Fits P (lent_of B) = f P B e in
-    part_length _ _ g.few_columns
+    part_length _ _
+    (fits_by (posed c.args.p c.args.lists) (held c.args.lent) _ _ c.lengths.ensures c.first_cause.ensures c.in_ok-first_cause.was).few_columns
 
 pub solve-requires : goal.solve-requires
 solve-requires c =
@@ -103,29 +97,18 @@ returns-in_err-rounds c =
 
 pub slice_bounds-table-end : goal.slice_bounds-table-end
 slice_bounds-table-end c =
-    let P : Posed = posed c.args.p c.args.lists in
-    let B : Buffers = held c.args.lent in
-    let e : first_cause P (lent_of B) ≡ Ok tt =
-    passed_by P B c.lengths.result c.first_cause.result c.lengths.ensures c.first_cause.ensures c.in_ok-first_cause.was in
-    let g : Fits P (lent_of B) = f P B e in
-    g.few_columns
+    (fits_by (posed c.args.p c.args.lists) (held c.args.lent) _ _ c.lengths.ensures c.first_cause.ensures c.in_ok-first_cause.was).few_columns
 
 pub slice_bounds-columns-end : goal.slice_bounds-columns-end
 slice_bounds-columns-end c =
-    let P : Posed = posed c.args.p c.args.lists in
-    let B : Buffers = held c.args.lent in
-    let e : first_cause P (lent_of B) ≡ Ok tt =
-    passed_by P B c.lengths.result c.first_cause.result c.lengths.ensures c.first_cause.ensures c.in_ok-first_cause.was in
-    let g : Fits P (lent_of B) = f P B e in
-    part_length _ _ g.few_columns
+    part_length _ _
+    (fits_by (posed c.args.p c.args.lists) (held c.args.lent) _ _ c.lengths.ensures c.first_cause.ensures c.in_ok-first_cause.was).few_columns
 
 pub pack-requires : goal.pack-requires
 pack-requires c =
     let P : Posed = posed c.args.p c.args.lists in
     let B : Buffers = held c.args.lent in
-    let e : first_cause P (lent_of B) ≡ Ok tt =
-    passed_by P B c.lengths.result c.first_cause.result c.lengths.ensures c.first_cause.ensures c.in_ok-first_cause.was in
-    let g : Fits P (lent_of B) = f P B e in
+    let g : Fits P (lent_of B) = fits_by P B _ _ c.lengths.ensures c.first_cause.ensures c.in_ok-first_cause.was in
     packable c.args.p c.args.lists (lent_of B) g _ (sym (part_length _ _ g.few_columns))
 
 pub basis_in-basis-requires : goal.basis_in-basis-requires
