@@ -6,7 +6,7 @@ use lib.ListN.{length, drop}
 use Rattle.lattice.proofs.LentParts.{tail_is}
 use Rattle.tableau.specs.Choices.{choice_of}
 use Rattle.tableau.proofs.Choosing.{chosen_rows}
-use Rattle.tableau.proofs.Columns.{columns_start, next_skipped, next_picked, next_over, next_few, next_passed, columns_done}
+use Rattle.tableau.proofs.Columns.{columns_start, next_skipped, next_picked, next_over, next_few, next_passed, columns_done, rows_done}
 use Rattle.tableau.proofs.Passing.{tail_of, room_of}
 use Rattle.tableau.proofs.Walking.{refused}
 use Rattle.tableau.proofs.elimination.pass_all.Goals.{in-Some+in_ok-count, in_default}
@@ -14,6 +14,11 @@ use Rattle.tableau.proofs.elimination.pass_all.Goals as goal
 
 pub loop-c-init : goal.loop-c-init
 loop-c-init c = columns_start c.args.t.now c.args.rows (length c.args.pivot.now) c.requires.t_len.0 c.requires.within
+
+pub returns-then-k-rows : goal.returns-then-k-rows
+returns-then-k-rows c =
+    let o = rows_done c.loop-c.invariant c.if-k-rows.true in
+    record { stops_run = (o.0, o.1); rounds_value = o.2 }
 
 pub overflow_mul-k : goal.overflow_mul-k
 overflow_mul-k c = omega (arith, room_of c.loop-c.invariant.stands)
@@ -37,7 +42,7 @@ pass-requires c =
     rw c.loop-c.auto.pivot record {
       standing = v.stands;
       c_in_bounds = c.loop-c-test.true;
-      picked = next_picked v c.loop-c-test.true e.is;
+      picked = next_picked v c.loop-c-test.true c.if-k-rows.false e.is;
       chooses = e;
     }
 
@@ -56,11 +61,7 @@ overflow_add-count c =
 
 pub overflow_add-k : goal.overflow_add-k
 overflow_add-k c =
-    let q = rw (tail_is (c.loop-c.k * length c.args.pivot.now) c.loop-c.t) at c.in-Some.ensures in
-    let e =
-    chosen_rows (c.args.rows - c.loop-c.k) (drop (c.loop-c.k * length c.args.pivot.now) c.loop-c.t)
-    (tail_of c.loop-c.invariant.stands c.loop-c-test.true).wide c.loop-c-test.true q in
-    omega (arith, (next_picked c.loop-c.invariant c.loop-c-test.true e.is).some)
+    omega (arith, c.loop-c.invariant.stands.most, c.if-k-rows.false)
 
 pub loop-c-preserved : goal.loop-c-preserved
 loop-c-preserved c =
@@ -73,7 +74,7 @@ loop-c-preserved c =
           chosen_rows (c.args.rows - c.loop-c.k) (drop at c.loop-c.t) (tail_of v.stands h).wide h (rw (tail_is at c.loop-c.t) at w.in-Some.ensures) in
           let o = rw c.loop-c.auto.pivot at w.in_ok-count.ensures in
           rw (w.t-is, w.count-is, w.k-is, o.rounds_value)
-          (next_passed v h (next_picked v h e.is) o.stops_run.0 o.stops_run.1 w.pass.auto.t)
+          (next_passed v h (next_picked v h c.if-k-rows.false e.is) o.stops_run.0 o.stops_run.1 w.pass.auto.t)
       | in_default w ↦
           let e =
           chosen_rows (c.args.rows - c.loop-c.k) (drop at c.loop-c.t) (tail_of v.stands h).wide h (rw (tail_is at c.loop-c.t) at c.choose.ensures) in
