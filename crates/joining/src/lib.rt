@@ -63,7 +63,7 @@ fn fill(first: Part<'_>, second: Part<'_>, seats: Seats<'_>, out: &mut ListsMut<
 {
     let a = first.lists;
     let b = second.lists;
-    join_rows(out.coefficients, first, second, seats);
+    join_rows(out.coefficients, first, second, seats.places, seats.columns);
     join_rights(out.rights, a.rights, b.rights);
     join_list(i64::max, out.lower, a.lower, b.lower, seats);
     join_list(i64::min, out.upper, a.upper, b.upper, seats);
