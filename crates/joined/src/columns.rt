@@ -5,6 +5,8 @@ ghost use Rattle.joined.specs.Columns.{goal_by, goal_of, set_first, places_from}
 ghost use Rattle.joined.specs.Columns as Columns;
 ghost use Rattle.joined.specs.Filling.{absorb_into, absorb_ideals, AllBelow};
 
+use whole::buffers::copy;
+
 // Where the columns of the second part come: of each its partner, if it has one, and its place among the joined columns, of which there
 // are `columns`.
 #[derive(Clone, Copy)]
@@ -161,7 +163,7 @@ pub fn join_list<R: Rule>(out: &mut [i64], first: &[i64], second: &[i64], seats:
     ensures { out.new ≡ absorb_into R.of_two (first.now ++ drop (length first.now) out.old)
         seats.entry.partners.now seats.entry.places.now second.now }
 {
-    out[..first.len()].copy_from_slice(first);
+    copy(&mut out[..first.len()], first);
     absorb_list::<R>(out, second, seats);
 }
 
@@ -210,7 +212,7 @@ pub fn join_ideals(
         (ideals1.now ++ drop (length ideals1.now) ideals.old)
         seats.entry.partners.now seats.entry.places.now given2.now ideals2.now }
 {
-    given[..given1.len()].copy_from_slice(given1);
-    ideals[..ideals1.len()].copy_from_slice(ideals1);
+    copy(&mut given[..given1.len()], given1);
+    copy(&mut ideals[..ideals1.len()], ideals1);
     absorb_ideals(given, ideals, given2, ideals2, seats);
 }

@@ -6,6 +6,7 @@ ghost use Rattle.joined.specs.Joined as Joined;
 ghost use Rattle.joined.specs.Filling.{AllBelow, TakesRows, LaysRows};
 
 use pairing::Part;
+use whole::buffers::copy;
 
 // A row of the first part over the joined columns.
 fn pad_row(out: &mut [i64], row: &[i64])
@@ -13,7 +14,7 @@ fn pad_row(out: &mut [i64], row: &[i64])
     ensures { out.new ≡ padded (length out.old - length row.now) row.now }
 {
     let n = row.len();
-    out[..n].copy_from_slice(row);
+    copy(&mut out[..n], row);
     out[n..].fill(0);
 }
 
@@ -88,6 +89,6 @@ pub fn join_rights(out: &mut [i64], rights: &[i64], rights2: &[i64])
     ensures { out.new ≡ rights.now ++ rights2.now }
 {
     let m = rights.len();
-    out[..m].copy_from_slice(rights);
-    out[m..].copy_from_slice(rights2);
+    copy(&mut out[..m], rights);
+    copy(&mut out[m..], rights2);
 }

@@ -1,5 +1,7 @@
 #![tactic(auto)]
 
+pub mod buffers;
+
 ghost use Rattle.std.specs.Prelude.{◌≡◌, ◌≤◌, pos, nat_abs, ◌<ℤ◌};
 ghost use Rattle.whole.specs.Quotient.{floor_quotient, nearest_quotient};
 ghost use Rattle.whole.specs.BitLength.{bit_length};
