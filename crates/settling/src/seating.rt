@@ -20,7 +20,7 @@ fn add_row(values: &mut [i64], row: &[i64], q: i64, c: usize) -> Result<(), Refu
     ensures { outcome result values.new ≡ within (plus q row.now values.old) }
 {
     let mut j = c;
-    // A `for` over all numbers from the lead on takes REPLACE_ME.
+    // A `for` over all numbers from the lead on takes nearly twice the instructions where most are 0.
     while j < row.len() {
         let y = values[j] + q * row[j];
         if Problem::MAX_NUMBER < y.unsigned_abs() {

@@ -40,7 +40,7 @@ loop-j-preserved c =
     (omega (arith, c.requires.1)) (omega (arith, a.values_small l.j)) (a.row_small l.j) in (
       added_next q c.args.row.now c.args.values.now a.long _ (l.j + 1) c.lead_from-j.result (omega arith) c.lead_from-j.ensures
           (added_turn q c.args.row.now c.args.values.now a.long l.values l.j l.invariant.0 c.args.q (to_z-of_z c.ranges.q) (omega arith)
-            (omega (arith, c.requires.1)) (omega (arith, a.values_small l.j)) (a.row_small l.j)),
+          (omega (arith, c.requires.1)) (omega (arith, a.values_small l.j)) (a.row_small l.j)),
       small_next q c.args.row.now c.args.values.now a (l.j + 1) c.lead_from-j.result (omega arith) c.lead_from-j.ensures
           (small_on q c.args.row.now c.args.values.now a l.j _ l.invariant.1 (omega arith) e (omega (arith, c.unsigned_abs.ensures.value))),
     )
