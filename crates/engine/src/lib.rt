@@ -7,7 +7,6 @@ ghost use Rattle.std.specs.Prelude.{◌≡◌};
 ghost use Rattle.problem.specs.Checks.{posed};
 ghost use Rattle.engine.specs.Assign as Assign;
 ghost use Rattle.engine.specs.Assign.{lent_of};
-ghost use Rattle.engine.specs.Demand.{WithinLimits};
 ghost use Rattle.engine.specs.Replies.{held, left, done_by};
 
 use ending::{finish, settle_on};
@@ -51,15 +50,16 @@ pub struct Assigned {
     pub rounds: u32,
 }
 
-// Past the checks: the tableau and the right side (7 and 8), seating (9) and settling. The starting list has room of its own, since the interval list
-// must stay as it is until the list is seated. It and the table of columns stand in front: behind a `?` they would be set to blank twice.
-fn assign_fit(p: Problem, lists: Lists<'_>, lent: Buffers<'_>) -> Result<Assigned, Refusal>
-    requires { WithinLimits (posed p lists) (held lent) }
+// A whole assignment: causes 1 to 6, the tableau and the right side (7 and 8), seating (9) and settling. The starting list has room of its own, since
+// the interval list must stay as it is until the list is seated.
+pub fn assign(p: Problem, lists: Lists<'_>, lent: Buffers<'_>) -> Result<Assigned, Refusal>
     ensures { done_by result (left lent.exit)
-        ≡ Assign.assign_fit (posed p lists.entry) (held lent.entry) }
+        ≡ Assign.assign (posed p lists.entry) (held lent.entry) }
 {
+    // Both stand before the first test: behind one they would be set to blank twice.
     let mut room = [0i64; Problem::MAX_COLUMNS];
     let mut table = [Column::BLANK; Problem::MAX_COLUMNS];
+    first_cause(p, lists, lent.lengths())?;
     let Buffers {
         tableau,
         values,
@@ -72,15 +72,6 @@ fn assign_fit(p: Problem, lists: Lists<'_>, lent: Buffers<'_>) -> Result<Assigne
     let basis = basis_in(tableau, p);
     let verdict = finish(p.limit, columns, basis, start, values, strides)?;
     Ok(Assigned { verdict, rounds })
-}
-
-// A whole assignment: causes 1 to 6, and what is past them. What they turn back sets up nothing.
-pub fn assign(p: Problem, lists: Lists<'_>, lent: Buffers<'_>) -> Result<Assigned, Refusal>
-    ensures { done_by result (left lent.exit)
-        ≡ Assign.assign (posed p lists.entry) (held lent.entry) }
-{
-    first_cause(p, lists, lent.lengths())?;
-    assign_fit(p, lists, lent)
 }
 
 // Document 01's Continue: settles the lent list, which has to satisfy the rows (10). It forms the tableau (7), but takes neither the right side nor
