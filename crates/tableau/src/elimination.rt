@@ -49,7 +49,7 @@ pub(crate) fn pass_all(t: &mut [i64], rows: usize, pivot: &mut [i64]) -> Result<
         if k == rows {
             return Ok(count);
         }
-        if let Some(z) = choose(&t[k * w..], w, c) {
+        if let Some(z) = choose(&t[k * w..], rows - k, w, c) {
             count += pass(t, rows, pivot, c, k, z)?;
             k += 1;
         }
