@@ -1,4 +1,5 @@
--- `settling::seating::add_row` meets its contract: from the lead on, each value gets its share of the row, and where the row is 0 there is none. Assumes nothing.
+-- `settling::seating::add_row` meets its contract: from the lead on, each value gets its share of the row; where the row is 0 there is none.
+-- Assumes nothing.
 use mathlib.Core.Path.{◌∙◌, ap}
 use Prim.Native.Nat.{◌+◌}
 use native.Mathlib.Omega.{arith}
