@@ -56,16 +56,17 @@ pub fn assign(p: Problem, lists: Lists<'_>, lent: Buffers<'_>) -> Result<Assigne
     ensures { done_by result (left lent.exit)
         ≡ Assign.assign (posed p lists.entry) (held lent.entry) }
 {
+    // Both stand before the first test: behind one they would be set to blank twice.
+    let mut room = [0i64; Problem::MAX_COLUMNS];
+    let mut table = [Column::BLANK; Problem::MAX_COLUMNS];
     first_cause(p, lists, lent.lengths())?;
     let Buffers {
         tableau,
         values,
         strides,
     } = lent;
-    let mut room = [0i64; Problem::MAX_COLUMNS];
     let start = &mut room[..p.columns];
     let rounds = rightside::solve(tableau, p, lists.coefficients, lists.rights, start)?;
-    let mut table = [Column::BLANK; Problem::MAX_COLUMNS];
     let columns = &mut table[..p.columns];
     pack(columns, lists);
     let basis = basis_in(tableau, p);

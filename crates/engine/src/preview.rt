@@ -15,6 +15,7 @@ use crate::views::basis_in;
 use problem::{Lent, Lists, Problem, Refusal};
 use settling::moves::take_move;
 use settling::{Basis, Column, Move, Part};
+use whole::buffers::copy;
 
 // The next step: its part, the column that it improves, counted from 0, and its move. The search's `Step` is not told as it is: it has no part.
 #[derive(Clone, Copy, Debug, PartialEq, Eq)]
@@ -45,7 +46,7 @@ fn show_on(
         ≡ displayed_by (columns_in basis.entry.columns columns.now) (vectors basis.entry) standing.now }
 {
     settling::strides::strides(strides, basis);
-    after.copy_from_slice(standing);
+    copy(after, standing);
     let turn = search::turn_at(standing, columns, basis);
     let step = turn.step?;
     take_move(after, basis, step.o);

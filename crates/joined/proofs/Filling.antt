@@ -1,4 +1,6 @@
 -- Lists of the joined columns, filled number by number.
+--   SharedFields          each number of a shared column is what its list's rule makes of the two columns' numbers
+--   shared_field          so it is
 --   unshared_alone, unshared_shared   the columns that are not shared, by the first partner
 --   map_set, map_behind   the numbers of columns with one of them changed, and with one more behind
 --   at_place              the number at a column's place, with anything behind the columns' numbers
@@ -19,8 +21,9 @@ use Rattle.std.proofs.lemmas.List.Sums.{sum_by-cons}
 use Rattle.whole.specs.Lists.{entry}
 use Rattle.whole.specs.Tests.{is_zero}
 use Rattle.pairing.specs.Parts.{PartColumn, no_column, at}
+use Rattle.pairing.specs.Pairs.{larger, smaller}
 use Rattle.pairing.proofs.Partners.{Ready, ready_set, ready_append}
-use Rattle.joined.specs.Columns.{set_first, shared, absorb, places_from, unshared}
+use Rattle.joined.specs.Columns.{goal_of, set_first, shared, absorb, places_from, unshared}
 use Rattle.joined.specs.Filling.{absorb_into, absorb_ideals}
 
 abbrev given : PartColumn → ℤ
@@ -28,6 +31,25 @@ given c = c.given
 
 abbrev ideal : PartColumn → ℤ
 ideal c = c.ideal
+
+-- ---- a shared column
+pub record SharedFields : Type 0 where
+  pub lower : (c d : PartColumn) → (shared c d).lower ≡ larger c.lower d.lower
+  pub upper : (c d : PartColumn) → (shared c d).upper ≡ smaller c.upper d.upper
+  pub low : (c d : PartColumn) → (shared c d).low ≡ goal_of smaller c.low d.low
+  pub high : (c d : PartColumn) → (shared c d).high ≡ goal_of larger c.high d.high
+  pub given : (c d : PartColumn) → (shared c d).given ≡ set_first c.given d.given
+  pub ideal : (c d : PartColumn) → (shared c d).ideal ≡ cond (is_zero c.given) d.ideal c.ideal
+
+pub shared_field : SharedFields
+shared_field = record {
+  lower = λ c d. refl;
+  upper = λ c d. refl;
+  low = λ c d. refl;
+  high = λ c d. refl;
+  given = λ c d. refl;
+  ideal = λ c d. refl;
+}
 
 -- ---- the columns that are not shared
 pub unshared_alone : (R : List (Option ℕ)) → unshared (None ∷ R) ≡ suc (unshared R)
@@ -96,7 +118,8 @@ step_ideal : (L : List PartColumn) (i : ℕ) (c : PartColumn) (u v : List ℤ) �
     ≡ map ideal (set L i (shared (at L i) c)) ++ v
 step_ideal L i c u v h =
     put_shared ideal L i (shared (at L i) c) v _ h
-    (ap₂ (λ (g a : ℤ). cond (is_zero g) c.ideal a) (at_place given L i u refl h) (at_place ideal L i v refl h))
+    (ap₂ (λ (g a : ℤ). cond (is_zero g) c.ideal a) (at_place given L i u refl h) (at_place ideal L i v refl h)
+    ∙ sym (shared_field.ideal (at L i) c))
 
 pub absorb_ideals_into : (k : ℕ) (L : List PartColumn) (R : List (Option ℕ)) (C : List PartColumn) (u v : List ℤ)
     → k ≡ length L → length R ≡ length C → unshared R ≡ length u → unshared R ≡ length v → Ready L R C
@@ -117,7 +140,7 @@ absorb_ideals_into k L (None ∷ R) (c ∷ C) (y ∷ u) (z ∷ v) e l n m h =
     (ready_append L R C (c ∷ []) h)
 absorb_ideals_into k L (Some i ∷ R) (c ∷ C) u v e l n m h =
     ap₂ (λ (g a : List ℤ). absorb_ideals g a R (places_from k R) (map given C) (map ideal C))
-    (step_shared set_first given refl (λ c d. refl) L i c u h.0)
+    (step_shared set_first given refl shared_field.given L i c u h.0)
     (step_ideal L i c u v h.0)
     ∙ absorb_ideals_into k (set L i (shared (at L i) c)) R C u v (e ∙ sym (length-set L i (shared (at L i) c))) (omega arith)
     (sym (unshared_shared i R) ∙ n)

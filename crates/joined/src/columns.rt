@@ -3,7 +3,9 @@ ghost use Rattle.std.specs.Prelude.{◌≡◌, ◌++◌, ◌≤◌, ◌+◌, ℤ
 ghost use Rattle.pairing.specs.Pairs.{larger, smaller};
 ghost use Rattle.joined.specs.Columns.{goal_by, goal_of, set_first, places_from};
 ghost use Rattle.joined.specs.Columns as Columns;
-ghost use Rattle.joined.specs.Filling.{absorb_into, absorb_ideals, AllBelow, Gives};
+ghost use Rattle.joined.specs.Filling.{absorb_into, absorb_ideals, AllBelow};
+
+use whole::buffers::copy;
 
 // Where the columns of the second part come: of each its partner, if it has one, and its place among the joined columns, of which there
 // are `columns`.
@@ -67,41 +69,102 @@ pub fn high_goal(a: i64, b: i64) -> i64
     goal_by(a, b, a.max(b))
 }
 
+// What a shared column takes of its two numbers in one list. It is a trait, since a function handed over asks each caller to prove that it may be
+// called and what it gives.
+pub trait Rule {
+    ghost of_two: { ℤ → ℤ → ℤ };
+
+    fn combine(a: i64, b: i64) -> i64
+        ensures { result ≡ of_two a b };
+}
+
+// The lower bounds: the larger one.
+#[derive(Clone, Copy, Debug, PartialEq, Eq)]
+pub struct Lower;
+
+impl Rule for Lower {
+    ghost of_two = { larger };
+
+    fn combine(a: i64, b: i64) -> i64 {
+        a.max(b)
+    }
+}
+
+// The upper bounds: the smaller one.
+#[derive(Clone, Copy, Debug, PartialEq, Eq)]
+pub struct Upper;
+
+impl Rule for Upper {
+    ghost of_two = { smaller };
+
+    fn combine(a: i64, b: i64) -> i64 {
+        a.min(b)
+    }
+}
+
+// The low goals.
+#[derive(Clone, Copy, Debug, PartialEq, Eq)]
+pub struct Low;
+
+impl Rule for Low {
+    ghost of_two = { goal_of smaller };
+
+    fn combine(a: i64, b: i64) -> i64 {
+        low_goal(a, b)
+    }
+}
+
+// The high goals.
+#[derive(Clone, Copy, Debug, PartialEq, Eq)]
+pub struct High;
+
+impl Rule for High {
+    ghost of_two = { goal_of larger };
+
+    fn combine(a: i64, b: i64) -> i64 {
+        high_goal(a, b)
+    }
+}
+
+// The marks of ideals: the first one that is set.
+#[derive(Clone, Copy, Debug, PartialEq, Eq)]
+pub struct Given;
+
+impl Rule for Given {
+    ghost of_two = { set_first };
+
+    fn combine(a: i64, b: i64) -> i64 {
+        if a == 0 { b } else { a }
+    }
+}
+
 // The second's numbers of one list, taken at their columns' places.
-fn absorb_list<F: Fn(i64, i64) -> i64>(combine: F, out: &mut [i64], list: &[i64], seats: Seats<'_>)
-    requires callable { F.IsAlwaysCallable combine }
+fn absorb_list<R: Rule>(out: &mut [i64], list: &[i64], seats: Seats<'_>)
     requires partners_len { length seats.partners.now ≡ length list.now }
     requires columns_in_bounds { seats.columns ≤ length out.old }
-    ensures { (g : ℤ → ℤ → ℤ) → Gives (F.post combine) g → out.new ≡ absorb_into g out.old seats.entry.partners.now seats.entry.places.now list.now }
+    ensures { out.new ≡ absorb_into R.of_two out.old seats.entry.partners.now seats.entry.places.now list.now }
 {
     for (j, x) in list.iter().enumerate() {
         let p = seats.places[j];
         out[p] = if seats.partners[j].is_some() {
-            combine(out[p], *x)
+            R::combine(out[p], *x)
         } else {
             *x
         };
     }
 }
 
-// One list of the joined columns: the first's numbers, then the second's taken at their columns' places. A shared column takes what `combine` makes
+// One list of the joined columns: the first's numbers, then the second's taken at their columns' places. A shared column takes what the rule makes
 // of its two numbers.
-pub fn join_list<F: Fn(i64, i64) -> i64>(
-    combine: F,
-    out: &mut [i64],
-    first: &[i64],
-    second: &[i64],
-    seats: Seats<'_>,
-)
-    requires callable { F.IsAlwaysCallable combine }
+pub fn join_list<R: Rule>(out: &mut [i64], first: &[i64], second: &[i64], seats: Seats<'_>)
     requires first_in_bounds { length first.now ≤ length out.old }
     requires partners_len { length seats.partners.now ≡ length second.now }
     requires columns_in_bounds { seats.columns ≤ length out.old }
-    ensures { (g : ℤ → ℤ → ℤ) → Gives (F.post combine) g
-        → out.new ≡ absorb_into g (first.now ++ drop (length first.now) out.old) seats.entry.partners.now seats.entry.places.now second.now }
+    ensures { out.new ≡ absorb_into R.of_two (first.now ++ drop (length first.now) out.old)
+        seats.entry.partners.now seats.entry.places.now second.now }
 {
-    out[..first.len()].copy_from_slice(first);
-    absorb_list(combine, out, second, seats);
+    copy(&mut out[..first.len()], first);
+    absorb_list::<R>(out, second, seats);
 }
 
 // The second's ideals and their marks, taken at their columns' places.
@@ -149,7 +212,7 @@ pub fn join_ideals(
         (ideals1.now ++ drop (length ideals1.now) ideals.old)
         seats.entry.partners.now seats.entry.places.now given2.now ideals2.now }
 {
-    given[..given1.len()].copy_from_slice(given1);
-    ideals[..ideals1.len()].copy_from_slice(ideals1);
+    copy(&mut given[..given1.len()], given1);
+    copy(&mut ideals[..ideals1.len()], ideals1);
     absorb_ideals(given, ideals, given2, ideals2, seats);
 }

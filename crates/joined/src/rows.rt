@@ -3,10 +3,10 @@ ghost use Rattle.std.specs.Prelude.{◌≡◌, ◌++◌, map, ◌≤◌, ◌+◌
 ghost use Rattle.lattice.specs.Rows.{flat, chop};
 ghost use Rattle.joined.specs.Joined.{padded, spread_from};
 ghost use Rattle.joined.specs.Joined as Joined;
-ghost use Rattle.joined.specs.Filling.{TakesRows, LaysRows};
+ghost use Rattle.joined.specs.Filling.{AllBelow, TakesRows, LaysRows};
 
-use crate::columns::Seats;
 use pairing::Part;
+use whole::buffers::copy;
 
 // A row of the first part over the joined columns.
 fn pad_row(out: &mut [i64], row: &[i64])
@@ -14,29 +14,29 @@ fn pad_row(out: &mut [i64], row: &[i64])
     ensures { out.new ≡ padded (length out.old - length row.now) row.now }
 {
     let n = row.len();
-    out[..n].copy_from_slice(row);
+    copy(&mut out[..n], row);
     out[n..].fill(0);
 }
 
 // The coefficients of a row put in at their columns' places.
-fn spread_into(out: &mut [i64], row: &[i64], seats: Seats<'_>)
-    requires row_len { length row.now ≡ length seats.places.now }
-    requires columns_in_bounds { seats.columns ≤ length out.old }
-    ensures { out.new ≡ spread_from out.old seats.entry.places.now row.now }
+fn spread_into(out: &mut [i64], row: &[i64], places: &[usize])
+    requires row_len { length row.now ≡ length places.now }
+    requires all_below { AllBelow (length out.old) places.now }
+    ensures { out.new ≡ spread_from out.old places.now row.now }
 {
-    for (p, x) in seats.places.iter().zip(row) {
+    for (p, x) in places.iter().zip(row) {
         out[*p] = *x;
     }
 }
 
 // A row of the second part over the joined columns.
-fn spread_row(out: &mut [i64], row: &[i64], seats: Seats<'_>)
-    requires row_len { length row.now ≡ length seats.places.now }
-    requires columns_in_bounds { seats.columns ≤ length out.old }
-    ensures { out.new ≡ Joined.spread (length out.old) seats.entry.places.now row.now }
+fn spread_row(out: &mut [i64], row: &[i64], places: &[usize])
+    requires row_len { length row.now ≡ length places.now }
+    requires all_below { AllBelow (length out.old) places.now }
+    ensures { out.new ≡ Joined.spread (length out.old) places.now row.now }
 {
     out.fill(0);
-    spread_into(out, row, seats);
+    spread_into(out, row, places);
 }
 
 // The rows of a part, each laid into n numbers by `lay`. A part's columns, and n with them, may be none here, which `chunks_exact` does not take.
@@ -55,24 +55,31 @@ fn lay_rows<F: Fn(&mut [i64], &[i64])>(out: &mut [i64], n: usize, part: Part<'_>
     }
 }
 
-// All rows over the joined columns: the first's, then the second's, whose columns come to the places.
-pub fn join_rows(out: &mut [i64], first: Part<'_>, second: Part<'_>, seats: Seats<'_>)
+// All rows over the joined columns: the first's, then the second's, whose columns come to the places. No partners are read, so that no `Seats` are
+// asked for.
+pub fn join_rows(
+    out: &mut [i64],
+    first: Part<'_>,
+    second: Part<'_>,
+    places: &[usize],
+    columns: usize,
+)
     requires coefficients_len { (length first.lists.coefficients.now ≡ first.sizes.rows * first.sizes.columns)
-        × (length second.lists.coefficients.now ≡ second.sizes.rows * second.sizes.columns) × (length seats.places.now ≡ second.sizes.columns) }
-    requires out_len { (length out.old ≡ (first.sizes.rows + second.sizes.rows) * seats.columns) × (first.sizes.columns ≤ seats.columns) }
-    ensures { out.new ≡ flat (map (padded (seats.entry.columns - first.entry.sizes.columns))
+        × (length second.lists.coefficients.now ≡ second.sizes.rows * second.sizes.columns) × (length places.now ≡ second.sizes.columns) }
+    requires out_len { (length out.old ≡ (first.sizes.rows + second.sizes.rows) * columns) × (first.sizes.columns ≤ columns)
+        × AllBelow columns places.now }
+    ensures { out.new ≡ flat (map (padded (columns - first.entry.sizes.columns))
         (chop first.entry.sizes.rows first.entry.sizes.columns first.entry.lists.coefficients.now)
-        ++ map (Joined.spread seats.entry.columns seats.entry.places.now)
+        ++ map (Joined.spread columns places.now)
         (chop second.entry.sizes.rows second.entry.sizes.columns second.entry.lists.coefficients.now)) }
 {
-    let n = seats.columns;
-    let at = first.sizes.rows * n;
-    lay_rows(&mut out[..at], n, first, pad_row);
+    let at = first.sizes.rows * columns;
+    lay_rows(&mut out[..at], columns, first, pad_row);
     lay_rows(
         &mut out[at..],
-        n,
+        columns,
         second,
-        |out, row| spread_row(out, row, seats),
+        |out, row| spread_row(out, row, places),
     );
 }
 
@@ -82,6 +89,6 @@ pub fn join_rights(out: &mut [i64], rights: &[i64], rights2: &[i64])
     ensures { out.new ≡ rights.now ++ rights2.now }
 {
     let m = rights.len();
-    out[..m].copy_from_slice(rights);
-    out[m..].copy_from_slice(rights2);
+    copy(&mut out[..m], rights);
+    copy(&mut out[m..], rights2);
 }

@@ -24,6 +24,7 @@ use Rattle.joined.specs.Columns.{goal_of, set_first, shared, places, unshared, j
 use Rattle.joined.specs.Joined.{padded, spread, joined_matrix, joined}
 use Rattle.joined.specs.Filling.{absorb_into, absorb_ideals}
 use Rattle.joined.proofs.Passing.{PartFits, part_fits}
+use Rattle.joined.proofs.Filling.{shared_field}
 use Rattle.joined.proofs.JoinedLists.{numbers_of, list_joined, ideals_joined}
 use Rattle.joining.specs.Filled.{Long, behind, filling}
 use Rattle.joining.specs.Join.{partners}
@@ -100,9 +101,9 @@ module _ (P Q : Part) (ps : List ℕ) (B : Lists) (k : Makes P Q ps B) where
   unfolding joined
   lists_filled =
       λ i. lists (rows_filled i) (P.lists.rights ++ Q.lists.rights)
-      (filled larger (λ c. c.lower) (λ l. l.lower) refl (λ c d. refl) (λ l j. refl) f.lower_long g.lower_long lent.lower i)
-      (filled smaller (λ c. c.upper) (λ l. l.upper) refl (λ c d. refl) (λ l j. refl) f.upper_long g.upper_long lent.upper i)
-      (filled (goal_of smaller) (λ c. c.low) (λ l. l.low) refl (λ c d. refl) (λ l j. refl) f.low_long g.low_long lent.low i)
-      (filled (goal_of larger) (λ c. c.high) (λ l. l.high) refl (λ c d. refl) (λ l j. refl) f.high_long g.high_long lent.high i)
-      (filled set_first (λ c. c.given) (λ l. l.given) refl (λ c d. refl) (λ l j. refl) f.given_long g.given_long lent.given i)
+      (filled larger (λ c. c.lower) (λ l. l.lower) refl shared_field.lower (λ l j. refl) f.lower_long g.lower_long lent.lower i)
+      (filled smaller (λ c. c.upper) (λ l. l.upper) refl shared_field.upper (λ l j. refl) f.upper_long g.upper_long lent.upper i)
+      (filled (goal_of smaller) (λ c. c.low) (λ l. l.low) refl shared_field.low (λ l j. refl) f.low_long g.low_long lent.low i)
+      (filled (goal_of larger) (λ c. c.high) (λ l. l.high) refl shared_field.high (λ l j. refl) f.high_long g.high_long lent.high i)
+      (filled set_first (λ c. c.given) (λ l. l.given) refl shared_field.given (λ l j. refl) f.given_long g.given_long lent.given i)
       (filled_ideals i)

@@ -11,7 +11,9 @@ ghost use Rattle.joining.specs.Filled.{Long, filling, left_paired};
 ghost use Rattle.joining.specs.Join.{left};
 ghost use Rattle.joining.specs.Join as Join;
 
-use joined::columns::{Seats, fill_places, high_goal, join_ideals, join_list, low_goal, unshared};
+use joined::columns::{
+    High, Low, Lower, Seats, Upper, fill_places, join_ideals, join_list, unshared,
+};
 use joined::rows::{join_rights, join_rows};
 use pairing::pairs::pair_up;
 use pairing::parts::{lists_fit, part_cause};
@@ -63,12 +65,12 @@ fn fill(first: Part<'_>, second: Part<'_>, seats: Seats<'_>, out: &mut ListsMut<
 {
     let a = first.lists;
     let b = second.lists;
-    join_rows(out.coefficients, first, second, seats);
+    join_rows(out.coefficients, first, second, seats.places, seats.columns);
     join_rights(out.rights, a.rights, b.rights);
-    join_list(i64::max, out.lower, a.lower, b.lower, seats);
-    join_list(i64::min, out.upper, a.upper, b.upper, seats);
-    join_list(low_goal, out.low, a.low, b.low, seats);
-    join_list(high_goal, out.high, a.high, b.high, seats);
+    join_list::<Lower>(out.lower, a.lower, b.lower, seats);
+    join_list::<Upper>(out.upper, a.upper, b.upper, seats);
+    join_list::<Low>(out.low, a.low, b.low, seats);
+    join_list::<High>(out.high, a.high, b.high, seats);
     join_ideals(
         out.given, out.ideals, a.given, a.ideals, b.given, b.ideals, seats,
     );

@@ -8,26 +8,38 @@ pub mod previewing;
 pub mod reading;
 pub mod version;
 
-ghost use Rattle.std.specs.Prelude.{◌≡◌, length, Ok};
+ghost use Rattle.std.specs.Prelude.{◌≡◌, length};
+ghost use Rattle.problem.specs.Answers.{answer_number};
 ghost use Rattle.engine.specs.Assign.{Buffers as Held, posed_by, buffers, assign, continue};
 ghost use Rattle.engine.specs.Replies.{done_by};
-ghost use Rattle.koralimbu.specs.Calls.{problem_of, verdict_number, report_length, told, returned, called};
+ghost use Rattle.koralimbu.specs.Calls.{problem_of, verdict_number, report_length, report_of, told, returned, called};
 
 use engine::{Assigned, Buffers};
-use problem::{Lists, Problem, Refusal, Verdict};
+use problem::{Answer, Lists, Problem, Refusal, Verdict, answer_counts, answer_number};
 
 // How many numbers a report has: the verdict's, the steps of the two parts, and the rounds.
 const REPORT: usize = 4;
 
 // `From` could stand only beside `Verdict`, in crate problem, which knows nothing of C's numbers.
-fn verdict_number(verdict: Verdict) -> u32
-    ensures { result ≡ verdict_number (Ok verdict) }
+fn verdict_number(answer: Answer) -> u32
+    ensures { result ≡ verdict_number answer }
 {
-    match verdict {
-        Verdict::Fitted(_) => 1,
-        Verdict::Outside(_) => 2,
-        Verdict::Spent(_) => 3,
+    match answer {
+        Ok(Verdict::Fitted(_)) => 1,
+        Ok(Verdict::Outside(_)) => 2,
+        Ok(Verdict::Spent(_)) => 3,
+        Err(_) => 0,
     }
+}
+
+// Writes the report of an answer with its rounds, and returns the refusal's number, 0 for a verdict.
+fn tell_answer(answer: Answer, rounds: u32, report: &mut [u32]) -> u32
+    requires { length report.old ≡ report_length }
+    ensures { (result ≡ answer_number answer) × (report.new ≡ report_of answer rounds) }
+{
+    let counts = answer_counts(answer);
+    report.copy_from_slice(&[verdict_number(answer), counts.bounds, counts.goals, rounds]);
+    answer_number(answer)
 }
 
 // Writes the report of what a call has returned, and returns the refusal's number, 0 for a verdict. `tell_step`, `tell_sizes` and `tell_joined`
@@ -37,15 +49,8 @@ fn tell(reply: Result<Assigned, Refusal>, report: &mut [u32]) -> u32
     ensures { (B : Held) → returned result B report.new ≡ told (done_by reply B) }
 {
     match reply {
-        Ok(Assigned { verdict, rounds }) => {
-            let counts = verdict.counts();
-            report.copy_from_slice(&[verdict_number(verdict), counts.bounds, counts.goals, rounds]);
-            0
-        }
-        Err(why) => {
-            report.fill(0);
-            u32::from(why)
-        }
+        Ok(Assigned { verdict, rounds }) => tell_answer(Ok(verdict), rounds, report),
+        Err(why) => tell_answer(Err(why), 0, report),
     }
 }
 

@@ -20,6 +20,7 @@ columns_in_order x = take x.len x.order
 
 pub record Unranked (x : Ranking) : Type 0 where
   pub part : x.part ≡ Bounds
+  pub none : x.len ≡ 0
   pub long : length x.order ≡ max_columns
 
 pub record Turnable (T : List Column) (v : List ℤ) : Type 0 where

@@ -1,7 +1,8 @@
--- Laws of seating's loops: the one over the vectors, whose leads rise, and the one that adds a row, from its lead on.
+-- Laws of seating's loops: the one over the vectors, whose leads rise, and the one that adds a row, from one number other than 0 to the next.
 --   rises_row, -on          where the leads rise from column c on: that of vector s lies there or behind, and the next ones behind it
 --   Added q r v w j         on the way from v to v + q r, w has that list's first j numbers, and its others are still those of v
 --   added_none, -from       so it is of v itself, before the first number, and up to the row's lead
+--   added_next, small_next  so it is up to the row's next number other than 0, and none of the numbers passed lies beyond ±M
 --   small_from, -on         the numbers so far lie within ±M, up to the row's lead and with one more
 --   far_at, within_all      what the addition comes to, where a number lies beyond ±M and where none does
 --   added_on, -all          with the number at j stored, up to the next one; the row's end is reached
@@ -10,9 +11,10 @@
 use Rattle.std.specs.Prelude.{Ok, Err}
 use Rattle.problem.specs.declared.Refusal.TheVariants.{Seating}
 use mathlib.Core.Path.{◌≡◌, refl, sym, ◌∙◌, ap, subst}
+use mathlib.Core.Logic.{⊎_elim}
 use mathlib.Core.Bool.{Bool, true, false, ◌||◌}
 use mathlib.Core.List.{List, [], ◌∷◌}
-use Prim.Native.Nat.{ℕ, zero, suc, ◌+◌, ◌*◌, ◌<◌, ◌≤◌}
+use Prim.Native.Nat.{ℕ, zero, suc, ◌+◌, ◌-◌, ◌*◌, ◌<◌, ◌≤◌}
 use native.Mathlib.Nat.{le_refl}
 use native.Mathlib.Omega.{arith}
 use native.Mathlib.Numerals.{add-one}
@@ -21,8 +23,8 @@ use borrow.Author.Tests.{lt-ltb, le-ltb}
 use mir.Syntax.{w64}
 use mir.Val.{to_z, of_z}
 use lib.IntN.{ℤ, pos, negsuc, nat_abs, ◌+ℤ◌, ◌*ℤ◌}
-use lib.ListN.{length, drop, set, length-set}
-use lib.Seq.{ext_get_or, get_or-set_same, get_or-set_other}
+use lib.ListN.{length, drop, set, length-set, length-drop}
+use lib.Seq.{ext_get_or, get_or-drop, get_or-set_same, get_or-set_other}
 use Rattle.whole.specs.Lists.{entry}
 use Rattle.whole.proofs.Integers.{add_none}
 use Rattle.lattice.specs.Rows.{plus, lead}
@@ -33,6 +35,7 @@ use Rattle.settling.specs.declared.Basis.{Basis}
 use Rattle.settling.specs.Moves.{vector}
 use Rattle.settling.specs.Seats.{within, Addable}
 use Rattle.settling.proofs.Fitting.{added_read}
+use Rattle.settling.proofs.Fronts.{lt_or_ge}
 use Rattle.settling.specs.Views.{vectors}
 use Rattle.settling.proofs.Views.{vectors_drop}
 
@@ -63,6 +66,15 @@ zero_before (pos zero ∷ r) (suc x) h = zero_before r x (omega arith)
 zero_before (pos (suc n) ∷ r) x h = absurd (omega arith)
 zero_before (negsuc n ∷ r) x h = absurd (omega arith)
 
+zero_behind : (r : List ℤ) (i x : ℕ) → i ≤ x → x < i + lead (drop i r) → entry x r ≡ pos 0
+zero_behind r i x a b =
+    let e : i + (x - i) ≡ x = omega arith in
+    sym (get_or-drop i r (x - i) (pos 0) ∙ ap (λ (k : ℕ). entry k r) e) ∙ zero_before (drop i r) (x - i) (omega arith)
+
+-- how far the row's next number other than 0 lies at most
+next_most : (r : List ℤ) (j k : ℕ) → j ≤ length r → k ≡ j + lead (drop j r) → k ≤ length r
+next_most r j k h e = omega (arith, lead_most (drop j r), length-drop j r)
+
 -- ---- a value beyond ±M, or none
 beyond_at : (r : List ℤ) (i : ℕ) → i < length r → M < nat_abs (entry i r) → any_beyond r ≡ true
 unfolding any_beyond
@@ -91,13 +103,24 @@ module _ (q : ℤ) (r v : List ℤ) (e : length r ≡ length v) where
   pub added_none : Added q r v v 0
   added_none = record { long = refl; done = λ x h. absurd (omega arith); rest = λ x h. refl }
 
-  -- before the row's lead nothing changes
+  -- where the row is 0 nothing changes, and so nothing does before its lead
+  pub unchanged : (x : ℕ) → x < length r → entry x r ≡ pos 0 → entry x (plus q r v) ≡ entry x v
+  unchanged x h z = entry_plus x q r v (omega (arith, e)) ∙ add_none q (entry x v) (entry x r) z
+
   pub unmoved : (x : ℕ) → x < lead r → entry x (plus q r v) ≡ entry x v
-  unmoved x h =
-      entry_plus x q r v (omega (arith, lead_most r)) ∙ add_none q (entry x v) (entry x r) (zero_before r x h)
+  unmoved x h = unchanged x (omega (arith, lead_most r)) (zero_before r x h)
 
   pub added_from : (c : ℕ) → c ≤ lead r → Added q r v v c
   added_from c h = record { long = refl; done = λ x m. sym (unmoved x (omega arith)); rest = λ x m. refl }
+
+  pub added_next : (w : List ℤ) (j k : ℕ) → j ≤ length r → k ≡ j + lead (drop j r) → Added q r v w j → Added q r v w k
+  added_next w j k h n d = record {
+    long = d.long;
+    done = λ x m.
+        ⊎_elim (λ l. d.done x l) (λ l. d.rest x l ∙ sym (unchanged x (omega (arith, next_most r j k h n)) (zero_behind r j x l (omega arith))))
+        (lt_or_ge x j);
+    rest = λ x m. d.rest x (omega arith);
+  }
 
   module _ (w : List ℤ) (j : ℕ) (d : Added q r v w j) where
     pub added_on : (y : ℤ) → j < length r → y ≡ entry j v +ℤ q *ℤ entry j r → Added q r v (set w j y) (j + 1)
@@ -138,6 +161,13 @@ module _ (q : ℤ) (r v : List ℤ) (a : Addable v r) where
       → (x : ℕ) → x < j + 1 → nat_abs (entry x (plus q r v)) ≤ M
   small_on j y s h e m =
       below_more (λ x. nat_abs (entry x (plus q r v)) ≤ M) j s (rw (entry_plus j q r v (omega (arith, a.long)), sym e) m)
+
+  pub small_next :
+      (j k : ℕ) → j ≤ length r → k ≡ j + lead (drop j r) → ((x : ℕ) → x < j → nat_abs (entry x (plus q r v)) ≤ M)
+      → (x : ℕ) → x < k → nat_abs (entry x (plus q r v)) ≤ M
+  small_next j k h n s x m =
+      ⊎_elim (λ l. s x l)
+      (λ l. rw (unchanged q r v a.long x (omega (arith, next_most r j k h n)) (zero_behind r j x l (omega arith))) (a.values_small x)) (lt_or_ge x j)
 
   pub far_at : (j : ℕ) → j < length r → M < nat_abs (entry j v +ℤ q *ℤ entry j r) → Err Seating ≡ within (plus q r v)
   far_at j h l =

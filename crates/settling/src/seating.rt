@@ -13,18 +13,21 @@ use lattice::lead_from;
 use problem::{Problem, Refusal};
 use whole::nearest_quotient;
 
-// Adds q times a row to the values, of which it changes none before the row's lead c; an error as soon as a value comes to lie beyond ±M.
+// Adds q times a row to the values, at its numbers other than 0, of which c is the first; an error as soon as a value comes to lie beyond ±M.
 #[tactic(auto, using(crate::proofs::Fitting::products))]
 fn add_row(values: &mut [i64], row: &[i64], q: i64, c: usize) -> Result<(), Refusal>
     requires { Addable values.old row.now × (nat_abs q ≤ M + max_bound + 1) × (c ≡ lead row.now) }
     ensures { outcome result values.new ≡ within (plus q row.now values.old) }
 {
-    for j in c..row.len() {
+    let mut j = c;
+    // A `for` over all numbers from the lead on takes nearly twice the instructions where most are 0.
+    while j < row.len() {
         let y = values[j] + q * row[j];
         if Problem::MAX_NUMBER < y.unsigned_abs() {
             return Err(Refusal::Seating);
         }
         values[j] = y;
+        j = lead_from(row, j + 1);
     }
     Ok(())
 }

@@ -2,22 +2,17 @@
 --   no_rows        no rows
 --   next_row       one row more, at the code's numbers
 --   chosen_size    the size that it holds is that of the choice
---   Looking        the loop that looks for the choice; by look_starts, -on and -ends, at first, after a row, and past the last one
---   chosen_rows    the rows of a list, by their number
 --   few            there are no more entries other than 0 than rows
 -- Assumes nothing.
-use mathlib.Core.Path.{◌≡◌, refl, sym, ◌∙◌, ap, ap₂, subst}
+use mathlib.Core.Path.{◌≡◌, refl, sym, ◌∙◌, ap, ap₂}
 use mathlib.Core.Bool.{Bool, true, false, cond}
 use mathlib.Core.List.{List, [], ◌∷◌, ◌++◌}
-use Prim.Native.Nat.{ℕ, zero, suc, ◌+◌, ◌-◌, ◌*◌, ◌/◌, ◌<◌, ◌≤◌}
-use native.Mathlib.Nat.{zero-mul, suc-mul, le-div_iff_mul-le, div-lt_iff_lt-mul, mul-div_cancel}
-use native.Mathlib.Numerals.{add-one}
+use Prim.Native.Nat.{ℕ, zero, suc, ◌+◌, ◌*◌, ◌<◌, ◌≤◌}
 use native.Mathlib.Omega.{arith}
-use lib.Seq.{take_at, drop_at, drop-drop}
 use borrow.Author.Tests.{ltb-true, ltb-false, leb-true, leb-false, le-ltb, le-leb, lt-leb}
 use lib.Dec.{ltb, leb}
 use lib.IntN.{ℤ, nat_abs}
-use lib.ListN.{length, take, drop, length-append, length-drop}
+use lib.ListN.{length, take, drop}
 use Rattle.whole.specs.Lists.{entry}
 use Rattle.lattice.specs.Rows.{chop}
 use Rattle.lattice.proofs.FlatLaws.{chop_split, chop_next, row_number, length_chop}
@@ -94,13 +89,6 @@ no_rows c w t = record { is = refl; count = refl }
 rows_next : (i w : ℕ) (t : List ℤ) → chop (i + 1) w t ≡ chop i w t ++ (take w (drop (i * w) t) ∷ [])
 rows_next i w t = chop_split i 1 w t ∙ ap (λ (X : List (List ℤ)). chop i w t ++ X) (chop_next 1 w (drop (i * w) t) (omega arith))
 
--- ---- the rows taken from the front of the list, one after the other: i of them, and the rest
-pub record Looking (t : List ℤ) (w c : ℕ) (z : Option code.Choice) (rest : List ℤ) (size i : ℕ) : Type 0 where
-  pub wide : size ≡ w
-  pub is : rest ≡ drop (i * w) t
-  pub room : i * w ≤ length t
-  pub chooses : Chooses c (chop i w t) z
-
 pub next_row : (c w i : ℕ) (t : List ℤ) {z y : Option code.Choice} (k : ℕ) → c < w → Chooses c (chop i w t) z → k ≡ nat_abs (entry (i * w + c) t)
     → (choice_of y ≡ below (choice_of z) i k) × (count_of y ≡ count_of z + counted k) → Chooses c (chop (i + 1) w t) y
 next_row c w i t {z} {y} k h a e b =
@@ -116,38 +104,3 @@ next_row c w i t {z} {y} k h a e b =
           ∙ ap₂ (λ (x m : ℕ). x + counted m) a.count (sym n)
           ∙ sym (ap (nonzeros c) (rows_next i w t) ∙ last_count c (chop i w t) (take w (drop (i * w) t)));
     }
-
-pub look_starts : (t : List ℤ) (w c : ℕ) → Looking t w c None t w 0
-look_starts t w c = record { wide = refl; is = rw zero-mul refl; room = rw zero-mul (omega arith); chooses = no_rows c w t }
-
-pub look_on : {t rest : List ℤ} {w c size size' i : ℕ} {z y : Option code.Choice} (x rest' : List ℤ) (k : ℕ) → Looking t w c z rest size i
-    → rest ≡ x ++ rest' → length x ≡ size → size' ≡ size → c < w → k ≡ nat_abs (entry c x)
-    → (choice_of y ≡ below (choice_of z) i k) × (count_of y ≡ count_of z + counted k) → Looking t w c y rest' size' (i + 1)
-look_on {t} {rest} {w} {c} {size} {size'} {i} x rest' k v e l s h f b =
-    let wide : length x ≡ w = l ∙ v.wide in
-    let next : (i + 1) * w ≡ i * w + w = rw (add-one) (omega (arith, suc-mul i w)) in
-    let same : x ++ rest' ≡ drop (i * w) t = sym e ∙ v.is in
-    let row : x ≡ take w (drop (i * w) t) = sym (take_at x rest' w wide) ∙ ap (take w) same in
-    record {
-      wide = s ∙ v.wide;
-      is = rw next (sym (drop_at x rest' w wide) ∙ ap (drop w) same ∙ drop-drop w (i * w) t);
-      room = rw next (omega (arith, ap length same, length-append x rest', length-drop (i * w) t, wide, v.room));
-      chooses = next_row c w i t k h v.chooses (f ∙ ap (λ (r : List ℤ). nat_abs (entry c r)) row ∙ ap nat_abs (row_number w i c t h)) b;
-    }
-
-pub look_ends : {t rest : List ℤ} {w c size i : ℕ} {z : Option code.Choice} → Looking t w c z rest size i → c < w → length rest < size
-    → Chooses c (chop (length t / w) w t) z
-look_ends {t} {rest} {w} {c} {size} {i} {z} v h l =
-    let r : length rest ≡ length t - i * w = ap length v.is ∙ length-drop (i * w) t in
-    let p : 0 < w = omega arith in
-    let n : (i + 1) * w ≡ i * w + w = rw (add-one) (omega (arith, suc-mul i w)) in
-    let a : i ≤ length t / w = (le-div_iff_mul-le p).1 v.room in
-    let b : length t / w < i + 1 = (div-lt_iff_lt-mul p).1 (omega (arith, v.wide, v.room)) in
-    let e : i ≡ length t / w = omega arith in
-    subst (λ (n : ℕ). Chooses c (chop n w t) z) e v.chooses
-
-pub chosen_rows : {c w : ℕ} {z : Option code.Choice} (m : ℕ) (u : List ℤ) → length u ≡ m * w → c < w → Chooses c (chop (length u / w) w u) z
-    → Chooses c (chop m w u) z
-chosen_rows {c} {w} {z} m u l h v =
-    let p : 0 < w = omega arith in
-    subst (λ (n : ℕ). Chooses c (chop n w u) z) (ap (λ (n : ℕ). n / w) l ∙ mul-div_cancel m p) v

@@ -5,12 +5,12 @@
 --   next_picked          a choice in the next column
 --   next_skipped         a column with no choice is passed over
 --   next_over, next_few, next_passed   a column with a choice: where it leaves a number beyond ±M, and where it does not
---   columns_done         past the last column t is the form
+--   columns_done, rows_done   past the last column t is the form, and so it is past the last row
 -- Assumes nothing.
 use mathlib.Core.Path.{◌≡◌, refl, sym, ◌∙◌, ap, ap₂}
 use mathlib.Core.Bool.{false, true}
 use mathlib.Core.List.{List}
-use Prim.Native.Nat.{ℕ, zero, suc, ◌+◌, ◌-◌, ◌*◌, ◌<◌, ◌≤◌}
+use Prim.Native.Nat.{ℕ, ◌+◌, ◌-◌, ◌*◌, ◌<◌, ◌≤◌}
 use native.Mathlib.Omega.{arith}
 use lib.IntN.{ℤ}
 use lib.ListN.{length, drop}
@@ -21,8 +21,8 @@ use Rattle.tableau.specs.ColumnPass.{Standing, above_of, below_of, passed_of, pa
 use Rattle.tableau.specs.RoundCount.{rounds_from, rounds}
 use Rattle.tableau.specs.Within.{Within}
 use Rattle.tableau.proofs.Passing.{columns_over, columns_on, columns_skip, tail_of, passed_above, passed_below, passed_on}
-use Rattle.tableau.proofs.Passing.{skipped_on, starts, starts_all, picked_of, ends_columns}
-use Rattle.tableau.proofs.Counting.{rounds_on, rounds_skip, rounds_past, rounds_all, passed_few}
+use Rattle.tableau.proofs.Passing.{skipped_on, starts, starts_all, picked_of, ends_columns, ends_rows}
+use Rattle.tableau.proofs.Counting.{rounds_on, rounds_skip, rounds_past, rounds_done, rounds_all, passed_few}
 
 pub record Columns (t₀ : List ℤ) (n w : ℕ) (t : List ℤ) (count k c : ℕ) : Type 0 where
   pub same : length t ≡ length t₀
@@ -40,12 +40,6 @@ columns_start t₀ n w l s = record {
   few = omega arith;
 }
 
--- there is no choice where no row is left
-some_left : {j p : ℕ} (c m w : ℕ) (t : List ℤ) → at j p ≡ choose c (chop m w t) → 0 < m
-unfolding choose
-some_left c zero w t e = let z : ◌≡◌ {A = ℕ} 0 1 = cc in absurd (omega arith)
-some_left c (suc m) w t e = omega arith
-
 module _ {t₀ t : List ℤ} {n w count k c : ℕ} (v : Columns t₀ n w t count k c) (h : c < w) where
   -- one column less is left
   less : w - (c + 1) ≡ w - c - 1
@@ -60,8 +54,8 @@ module _ {t₀ t : List ℤ} {n w count k c : ℕ} (v : Columns t₀ n w t count
     few = omega (arith, v.few);
   }
 
-  pub next_picked : {j p : ℕ} → at j p ≡ choose c (below_of n w k t) → Picked (n - k) w c (drop (k * w) t) j
-  next_picked e = picked_of (tail_of v.stands h) (some_left c (n - k) w (drop (k * w) t) e) (sym e)
+  pub next_picked : {j p : ℕ} → (k ≡ n → ⊥) → at j p ≡ choose c (below_of n w k t) → Picked (n - k) w c (drop (k * w) t) j
+  next_picked r e = picked_of (tail_of v.stands h) (omega (arith, v.stands.most, r)) (sym e)
 
   pub next_over : (passed_of n w c k t).over ≡ true → (eliminate w (chop n w t₀)).over ≡ true
   next_over e = ap (λ (x : Run). x.over) (sym v.rest) ∙ columns_over (w - c) c (above_of w k t) (below_of n w k t) (omega arith) e
@@ -100,3 +94,9 @@ columns_done {t₀} {t} {n} {w} {count} {k} {c} v h =
     let z : w - c ≡ 0 = omega arith in
     let o = ends_columns (w - c) v.stands v.rest z in
     (o.0, o.1, omega (arith, v.sum, rounds_past (w - c) c (above_of w k t) (below_of n w k t) z))
+
+pub rows_done : {t₀ t : List ℤ} {n w count k c : ℕ} → Columns t₀ n w t count k c → k ≡ n
+    → ((eliminate w (chop n w t₀)).over ≡ false) × (t ≡ flat (eliminate w (chop n w t₀)).table) × (count ≡ rounds w (chop n w t₀))
+rows_done {t₀} {t} {n} {w} {count} {k} {c} v e =
+    let o = ends_rows (w - c) v.stands v.rest e in
+    (o.0, o.1, omega (arith, v.sum, rounds_done (w - c) c w (above_of w k t) t e))

@@ -1,12 +1,12 @@
 -- Laws of the rounds of a table's columns.
 --   rounds_on, -skip     those of several columns: the first one's and the others', or the others' alone where it has no choice
---   rounds_past          there are none where no column is left
+--   rounds_past, -done   there are none where no column is left, or no row
 --   rounds_all           all columns of a lent table
 --   passed_rounds_lem    those of a column with a choice are gathering's
 --   passed_few           of numbers within ±M a column has at most 31
 -- Assumes nothing.
-use mathlib.Core.Path.{◌≡◌, sym, ◌∙◌, ap}
-use mathlib.Core.List.{List, ◌∷◌}
+use mathlib.Core.Path.{◌≡◌, refl, sym, ◌∙◌, ap}
+use mathlib.Core.List.{List, [], ◌∷◌}
 use Prim.Native.Nat.{ℕ, zero, suc, ◌+◌, ◌*◌, ◌-◌, ◌<◌, ◌≤◌}
 use native.Mathlib.Nat.{zero-mul}
 use native.Mathlib.Numerals.{add-one}
@@ -20,7 +20,7 @@ use Rattle.tableau.specs.RoundCount.{column_rounds, rounds_from, rounds}
 use Rattle.tableau.specs.Tails.{Tail, Picked, gathering_rounds_of}
 use Rattle.tableau.specs.ColumnPass.{Standing, above_of, below_of, passed_rounds}
 use Rattle.tableau.proofs.RoundLaws.{gathering_rounds_first, column_bits}
-use Rattle.tableau.proofs.Passing.{tail_of}
+use Rattle.tableau.proofs.Passing.{tail_of, none_below}
 use Rattle.tableau.proofs.Staying.{all_flat}
 
 -- those of d columns, by the choice in the first
@@ -39,6 +39,14 @@ rounds_skip d c A B h e = rounds_on d c A B h ∙ ap (from d c A B) e ∙ omega 
 pub rounds_past : (d c : ℕ) (A B : List (List ℤ)) → d ≡ 0 → rounds_from d c A B ≡ 0
 unfolding rounds_from
 rounds_past d c A B e = rw e
+
+none_left : (d c : ℕ) (A : List (List ℤ)) → rounds_from d c A [] ≡ 0
+unfolding rounds_from pass_column_by column_rounds choose
+none_left zero c A = refl
+none_left (suc d) c A = omega (arith, none_left d (suc c) A)
+
+pub rounds_done : {n k : ℕ} (d c w : ℕ) (A : List (List ℤ)) (t : List ℤ) → k ≡ n → rounds_from d c A (below_of n w k t) ≡ 0
+rounds_done d c w A t e = rw (none_below w t e) (none_left d c A)
 
 pub rounds_all : (n w : ℕ) (t : List ℤ) → rounds_from (w - 0) 0 (above_of w 0 t) (below_of n w 0 t) ≡ rounds w (chop n w t)
 unfolding rounds

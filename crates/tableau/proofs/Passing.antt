@@ -7,7 +7,8 @@
 --   skipped_on     and so it does past a column with no choice
 --   starts, starts_all   the first column
 --   picked_of      a choice in the tail
---   ends_columns   no column left
+--   none_below     no row is left where all are done
+--   ends_columns, -rows   no column or no row left
 -- Assumes nothing.
 use mathlib.Core.Path.{◌≡◌, refl, sym, ◌∙◌, ap, ap₂, subst}
 use mathlib.Core.Bool.{Bool, true, false, ◌||◌}
@@ -74,6 +75,11 @@ module _ (d c : ℕ) (A B : List (List ℤ)) where
 columns_end : (d c : ℕ) (A B : List (List ℤ)) → d ≡ 0 → pass_columns d c A B ≡ record { table = A ++ B; over = false }
 unfolding pass_columns_by
 columns_end d c A B e = rw e
+
+columns_none : (d c : ℕ) (A : List (List ℤ)) → pass_columns d c A [] ≡ record { table = A ++ []; over = false }
+unfolding pass_columns_by pass_column_by choose
+columns_none zero c A = refl
+columns_none (suc d) c A = columns_none d (suc c) A
 
 -- ---- the rows that are not done
 split : (n k w : ℕ) → k ≤ n → n * w ≡ k * w + (n - k) * w
@@ -281,6 +287,9 @@ whole {n} {w} {c} {k} {t} h =
     let e : k + (n - k) ≡ n = omega (arith, h.most) in
     ap flat (sym (chop_split k (n - k) w t) ∙ ap (λ (m : ℕ). chop m w t) e) ∙ flat_chop n w t h.wide
 
+pub none_below : {n k : ℕ} (w : ℕ) (t : List ℤ) → k ≡ n → below_of n w k t ≡ []
+none_below {n} {k} w t e = let z : n - k ≡ 0 = omega arith in rw z
+
 -- where the columns left change nothing more
 module _ {n w c k : ℕ} {t : List ℤ} {E : Run} (d : ℕ) (h : Standing n w c k t) (r : pass_columns d c (above_of w k t) (below_of n w k t) ≡ E) where
   stop : pass_columns d c (above_of w k t) (below_of n w k t) ≡ record { table = above_of w k t ++ below_of n w k t; over = false }
@@ -289,3 +298,6 @@ module _ {n w c k : ℕ} {t : List ℤ} {E : Run} (d : ℕ) (h : Standing n w c 
 
   pub ends_columns : d ≡ 0 → (E.over ≡ false) × (t ≡ flat E.table)
   ends_columns e = stop (columns_end d c (above_of w k t) (below_of n w k t) e)
+
+  pub ends_rows : k ≡ n → (E.over ≡ false) × (t ≡ flat E.table)
+  ends_rows e = stop (rw (none_below w t e) (columns_none d c (above_of w k t)))

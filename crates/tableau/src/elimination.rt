@@ -34,7 +34,7 @@ fn pass(
     Ok(count)
 }
 
-// All columns, from left to right; past the last row there is none to choose. Stops at the first number beyond M.
+// All columns, from left to right, while a row is left. Stops at the first number beyond M.
 pub(crate) fn pass_all(t: &mut [i64], rows: usize, pivot: &mut [i64]) -> Result<u32, Beyond>
     requires t_len { (length t.old ≡ rows * length pivot.old) × (length pivot.old ≤ max_width) }
     requires within { Within t.old }
@@ -45,7 +45,11 @@ pub(crate) fn pass_all(t: &mut [i64], rows: usize, pivot: &mut [i64]) -> Result<
     let mut count = 0;
     let mut k = 0;
     for c in 0..w {
-        if let Some(z) = choose(&t[k * w..], w, c) {
+        // A problem of few columns and many rows gives a table of few rows and many columns, most of which come after the last row.
+        if k == rows {
+            return Ok(count);
+        }
+        if let Some(z) = choose(&t[k * w..], rows - k, w, c) {
             count += pass(t, rows, pivot, c, k, z)?;
             k += 1;
         }

@@ -1,4 +1,4 @@
-ghost use Rattle.std.specs.Prelude.{◌≡◌, ◌+◌, ◌*◌, ◌/◌, ◌-◌, ◌<◌, ◌≤◌, length, take, drop};
+ghost use Rattle.std.specs.Prelude.{◌≡◌, ◌+◌, ◌*◌, ◌-◌, ◌<◌, ◌≤◌, length, take, drop};
 ghost use Rattle.whole.specs.Lists.{entry};
 ghost use Rattle.lattice.specs.Rows.{ZeroTo, chop};
 ghost use Rattle.tableau.specs.Elimination as Elimination;
@@ -47,13 +47,17 @@ fn later(z: Option<Choice>, i: usize, size: u64) -> Option<Choice>
 }
 
 // The smallest magnitude other than 0 in column c; none where all are 0.
-pub(crate) fn choose(t: &[i64], w: usize, c: usize) -> Option<Choice>
-    requires { c < w }
-    ensures { Chooses c (chop (length t.now / w) w t.now) result }
+pub(crate) fn choose(t: &[i64], rows: usize, w: usize, c: usize) -> Option<Choice>
+    requires { (length t.now ≡ rows * w) × (c < w) }
+    ensures { Chooses c (chop rows w t.now) result }
 {
+    // By the place of each row, carried along, and not over `chunks_exact`, which divides to count them: so a row with 0 there costs no more
+    // than a load and a test.
     let mut z = None;
-    for (i, row) in t.chunks_exact(w).enumerate() {
-        z = later(z, i, row[c].unsigned_abs());
+    let mut at = c;
+    for i in 0..rows {
+        z = later(z, i, t[at].unsigned_abs());
+        at += w;
     }
     z
 }
@@ -125,7 +129,7 @@ fn rounds(t: &mut [i64], rows: usize, pivot: &mut [i64], c: usize, z: Choice) ->
         if count == most {
             return Ok(count);
         }
-        let Some(next) = choose(&t[w..], w, c) else {
+        let Some(next) = choose(&t[w..], rows - 1, w, c) else {
             return Ok(count);
         };
         j = next.row + 1;

@@ -1,16 +1,20 @@
 #![tactic(auto)]
 
+pub mod buffers;
+
 ghost use Rattle.std.specs.Prelude.{◌≡◌, ◌≤◌, pos, nat_abs, ◌<ℤ◌};
 ghost use Rattle.whole.specs.Quotient.{floor_quotient, nearest_quotient};
 ghost use Rattle.whole.specs.BitLength.{bit_length};
 ghost use Rattle.whole.specs.Divisor as Divisor;
 
-// The quotient of e by a positive pivot, rounded down.
+// The quotient of e by a positive pivot, rounded down: the machine's, which cuts towards 0, less 1 where the remainder is below 0.
 pub fn floor_quotient(e: i64, p: i64) -> i64
     requires { pos 0 <ℤ p }
     ensures { result ≡ floor_quotient e p }
 {
-    e.div_euclid(p)
+    let q = e / p;
+    let rest = e % p;
+    if rest < 0 { q - 1 } else { q }
 }
 
 // The quotient of e by a positive pivot to the nearest, a half upwards.

@@ -13,5 +13,5 @@ take_move-requires-clause-viewed c =
     ≡ Some (step c.in_ok-step.step.column c.in_ok-step.step.o) =
     sym (ap (λ (x : Turn). x.step) c.turn_at-turn.ensures) ∙ c.in_ok-step.was in (
       (taken_ready c.args.basis c.args.standing.now c.args.columns.now c.in_ok-step.step.column c.in_ok-step.step.o c.requires.0 e).0,
-      ap length c.copy_from_slice.ensures.after ∙ c.requires.0.values_long,
+      ap length c.copy.ensures ∙ c.requires.0.values_long,
     )

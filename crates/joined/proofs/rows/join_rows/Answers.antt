@@ -9,7 +9,7 @@ pub returns : goal.returns
 returns c =
     let a = c.args in
     rw flat_append
-    (both (a.first.sizes.rows * a.seats.columns) a.out.now c.lay_rows.new.out c.lay_rows-2.new.out (omega (arith, c.requires.out_len.0))
+    (both (a.first.sizes.rows * a.columns) a.out.now c.lay_rows.new.out c.lay_rows-2.new.out (omega (arith, c.requires.out_len.0))
     c.lay_rows.auto.out
-    (c.lay_rows.ensures (padded (a.seats.columns - a.first.sizes.columns)) (λ o r t h w e. rw (h, w) at e))
-    (c.lay_rows-2.ensures (spread a.seats.columns a.seats.places.now) (λ o r t h w e. search rules)))
+    (c.lay_rows.ensures (padded (a.columns - a.first.sizes.columns)) (λ o r t h w e. rw (h, w) at e))
+    (c.lay_rows-2.ensures (spread a.columns a.places.now) (λ o r t h w e. search rules)))

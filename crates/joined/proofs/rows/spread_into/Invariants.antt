@@ -5,5 +5,5 @@ use Rattle.joined.proofs.rows.spread_into.Given as goal
 
 abbrev pub invariant-loop-p : goal.invariant-loop-p
 invariant-loop-p l =
-    spread_from l.out (drop (length l.yielded) l.seats.places.now) (drop (length l.yielded) l.row)
-    ≡ spread_from l.initial.out l.seats.places.now l.row
+    spread_from l.out (drop (length l.yielded) l.places) (drop (length l.yielded) l.row)
+    ≡ spread_from l.initial.out l.places l.row

@@ -1,5 +1,7 @@
--- `settling::seating::add_row` meets its contract: from the lead on, each value gets its share of the row. Assumes nothing.
+-- `settling::seating::add_row` meets its contract: from the lead on, each value gets its share of the row; where the row is 0 there is none.
+-- Assumes nothing.
 use mathlib.Core.Path.{◌∙◌, ap}
+use Prim.Native.Nat.{◌+◌}
 use native.Mathlib.Omega.{arith}
 use lib.IntN.{ℤ, nat_abs}
 use mir.Syntax.{w64}
@@ -7,7 +9,7 @@ use mir.Val.{to_z, of_z}
 use mir.Facts.{to_z-of_z}
 use Rattle.lattice.specs.Rows.{plus}
 use Rattle.settling.specs.Seats.{within}
-use Rattle.settling.proofs.Adding.{added_from, small_from, turn_makes, added_turn, small_on, far_at, within_all}
+use Rattle.settling.proofs.Adding.{added_from, added_next, small_from, small_next, turn_makes, added_turn, small_on, far_at, within_all}
 use Rattle.settling.proofs.seating.add_row.Goals as goal
 
 pub loop-j-init : goal.loop-j-init
@@ -27,6 +29,9 @@ returns-then-unsigned_abs-gt-MAX_NUMBER c =
     far_at q c.args.row.now c.args.values.now a l.j (omega arith) (omega (arith, c.unsigned_abs.ensures.value, ap nat_abs e))
     ∙ ap (λ (q : ℤ). within (plus q c.args.row.now c.args.values.now)) (to_z-of_z c.ranges.q)
 
+pub loop-j-smaller : goal.loop-j-smaller
+loop-j-smaller c = omega (arith, c.lead_from-j.ensures)
+
 pub loop-j-preserved : goal.loop-j-preserved
 loop-j-preserved c =
     let q = to_z w64 (of_z w64 c.args.q) in
@@ -34,9 +39,11 @@ loop-j-preserved c =
     let a = c.requires.0 in
     let e = turn_makes q c.args.row.now c.args.values.now a.long l.values l.j l.invariant.0 c.args.q (to_z-of_z c.ranges.q) (omega arith)
     (omega (arith, c.requires.1)) (omega (arith, a.values_small l.j)) (a.row_small l.j) in (
-      added_turn q c.args.row.now c.args.values.now a.long l.values l.j l.invariant.0 c.args.q (to_z-of_z c.ranges.q) (omega arith)
-          (omega (arith, c.requires.1)) (omega (arith, a.values_small l.j)) (a.row_small l.j),
-      small_on q c.args.row.now c.args.values.now a l.j _ l.invariant.1 (omega arith) e (omega (arith, c.unsigned_abs.ensures.value)),
+      added_next q c.args.row.now c.args.values.now a.long _ (l.j + 1) c.lead_from-j.result (omega arith) c.lead_from-j.ensures
+          (added_turn q c.args.row.now c.args.values.now a.long l.values l.j l.invariant.0 c.args.q (to_z-of_z c.ranges.q) (omega arith)
+          (omega (arith, c.requires.1)) (omega (arith, a.values_small l.j)) (a.row_small l.j)),
+      small_next q c.args.row.now c.args.values.now a (l.j + 1) c.lead_from-j.result (omega arith) c.lead_from-j.ensures
+          (small_on q c.args.row.now c.args.values.now a l.j _ l.invariant.1 (omega arith) e (omega (arith, c.unsigned_abs.ensures.value))),
     )
 
 pub returns : goal.returns

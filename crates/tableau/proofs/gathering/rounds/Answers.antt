@@ -1,12 +1,11 @@
 -- `tableau::gathering::rounds` meets its contract: the loop goes on until nothing is left to choose. Assumes nothing.
 use mathlib.Core.Path.{sym, ◌∙◌, ap}
 use native.Mathlib.Omega.{arith}
-use Prim.Native.Nat.{◌-◌}
-use lib.ListN.{length, drop}
+use lib.ListN.{length}
 use Rattle.whole.specs.BitLength.{bit_length}
 use Rattle.lattice.proofs.LentParts.{tail_is}
 use Rattle.tableau.specs.Choices.{choice_of}
-use Rattle.tableau.proofs.Choosing.{chosen_size, chosen_rows}
+use Rattle.tableau.proofs.Choosing.{chosen_size}
 use Rattle.tableau.proofs.Walking.{refused}
 use Rattle.tableau.proofs.Turns.{turned, turned_over, turned_digit, turned_room, turned_done, turned_last, turned_low, turned_on, turned_smaller}
 use Rattle.tableau.proofs.gathering.rounds.Goals as goal
@@ -40,6 +39,11 @@ returns-then-count-most c =
     let d = turned_done v o c.round.auto.t (turned_last v o c.round.auto.t c.if-count-most.true) in
     record { gathers = d.0; rounds_value = d.1 }
 
+pub choose-requires : goal.choose-requires
+choose-requires c =
+    let o = rw c.loop-count.auto.pivot at c.in_ok-round.ensures in
+    (ap length (tail_is (length c.args.pivot.now) c.round.new.t) ∙ turned_room c.loop-count.invariant o c.round.auto.t, c.requires.tail.column)
+
 pub shape_of-t-in_default : goal.shape_of-t-in_default
 shape_of-t-in_default c = c.round.auto.t ∙ c.loop-count.invariant.same
 
@@ -47,35 +51,27 @@ pub returns-in_default : goal.returns-in_default
 returns-in_default c =
     let v = c.loop-count.invariant in
     let o = rw c.loop-count.auto.pivot at c.in_ok-round.ensures in
-    let q = rw (tail_is (length c.args.pivot.now) c.round.new.t) at c.choose.ensures in
-    let e = (chosen_rows (c.args.rows - 1) (drop (length c.args.pivot.now) c.round.new.t)
-    (turned_room v o c.round.auto.t) c.requires.tail.column q).is in
-    let d = turned_done v o c.round.auto.t (sym e ∙ ap choice_of c.in_default.is) in
+    let e = rw (tail_is (length c.args.pivot.now) c.round.new.t) at c.choose.ensures in
+    let d = turned_done v o c.round.auto.t (sym e.is ∙ ap choice_of c.in_default.is) in
     record { gathers = d.0; rounds_value = d.1 }
 
 pub overflow_add-j : goal.overflow_add-j
 overflow_add-j c =
     let v = c.loop-count.invariant in
     let o = rw c.loop-count.auto.pivot at c.in_ok-round.ensures in
-    let q = rw (tail_is (length c.args.pivot.now) c.round.new.t) at c.in-Some.ensures in
-    let e = (chosen_rows (c.args.rows - 1) (drop (length c.args.pivot.now) c.round.new.t)
-    (turned_room v o c.round.auto.t) c.requires.tail.column q).is in
-    omega (arith, turned_low v o c.round.auto.t e)
+    let e = rw (tail_is (length c.args.pivot.now) c.round.new.t) at c.in-Some.ensures in
+    omega (arith, turned_low v o c.round.auto.t e.is)
 
 pub loop-count-smaller : goal.loop-count-smaller
 loop-count-smaller c =
     let v = c.loop-count.invariant in
     let o = rw c.loop-count.auto.pivot at c.in_ok-round.ensures in
-    let q = rw (tail_is (length c.args.pivot.now) c.round.new.t) at c.in-Some.ensures in
-    let e = (chosen_rows (c.args.rows - 1) (drop (length c.args.pivot.now) c.round.new.t)
-    (turned_room v o c.round.auto.t) c.requires.tail.column q).is in
-    turned_smaller v o c.round.auto.t e
+    let e = rw (tail_is (length c.args.pivot.now) c.round.new.t) at c.in-Some.ensures in
+    turned_smaller v o c.round.auto.t e.is
 
 pub loop-count-preserved : goal.loop-count-preserved
 loop-count-preserved c =
     let v = c.loop-count.invariant in
     let o = rw c.loop-count.auto.pivot at c.in_ok-round.ensures in
-    let q = rw (tail_is (length c.args.pivot.now) c.round.new.t) at c.in-Some.ensures in
-    let e = (chosen_rows (c.args.rows - 1) (drop (length c.args.pivot.now) c.round.new.t)
-    (turned_room v o c.round.auto.t) c.requires.tail.column q).is in
-    turned_on v o c.round.auto.t e
+    let e = rw (tail_is (length c.args.pivot.now) c.round.new.t) at c.in-Some.ensures in
+    turned_on v o c.round.auto.t e.is
