@@ -1,5 +1,6 @@
 -- Lists of the joined columns, filled number by number.
---   SharedFields          each number of a shared column is what its list's rule makes of the two columns' numbers
+--   SharedFields          each number of a shared column is what its list's rule makes of the two columns' numbers; its ideal goes by
+--                         the first's mark
 --   shared_field          so it is
 --   unshared_alone, unshared_shared   the columns that are not shared, by the first partner
 --   map_set, map_behind   the numbers of columns with one of them changed, and with one more behind

@@ -20,7 +20,7 @@ use problem::{Answer, Lists, Problem, Refusal, Verdict, answer_counts, answer_nu
 // How many numbers a report has: the verdict's, the steps of the two parts, and the rounds.
 const REPORT: usize = 4;
 
-// `From` could stand only beside `Verdict`, in crate problem, which knows nothing of C's numbers.
+// `From` can't stand here, since an answer is a `Result`; nor in crate problem, which knows nothing of C's numbers.
 fn verdict_number(answer: Answer) -> u32
     ensures { result ≡ verdict_number answer }
 {

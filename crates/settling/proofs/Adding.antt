@@ -104,11 +104,11 @@ module _ (q : ℤ) (r v : List ℤ) (e : length r ≡ length v) where
   added_none = record { long = refl; done = λ x h. absurd (omega arith); rest = λ x h. refl }
 
   -- where the row is 0 nothing changes, and so nothing does before its lead
-  pub unchanged : (x : ℕ) → x < length r → entry x r ≡ pos 0 → entry x (plus q r v) ≡ entry x v
-  unchanged x h z = entry_plus x q r v (omega (arith, e)) ∙ add_none q (entry x v) (entry x r) z
+  kept_at_zero : (x : ℕ) → x < length r → entry x r ≡ pos 0 → entry x (plus q r v) ≡ entry x v
+  kept_at_zero x h z = entry_plus x q r v (omega (arith, e)) ∙ add_none q (entry x v) (entry x r) z
 
   pub unmoved : (x : ℕ) → x < lead r → entry x (plus q r v) ≡ entry x v
-  unmoved x h = unchanged x (omega (arith, lead_most r)) (zero_before r x h)
+  unmoved x h = kept_at_zero x (omega (arith, lead_most r)) (zero_before r x h)
 
   pub added_from : (c : ℕ) → c ≤ lead r → Added q r v v c
   added_from c h = record { long = refl; done = λ x m. sym (unmoved x (omega arith)); rest = λ x m. refl }
@@ -117,7 +117,7 @@ module _ (q : ℤ) (r v : List ℤ) (e : length r ≡ length v) where
   added_next w j k h n d = record {
     long = d.long;
     done = λ x m.
-        ⊎_elim (λ l. d.done x l) (λ l. d.rest x l ∙ sym (unchanged x (omega (arith, next_most r j k h n)) (zero_behind r j x l (omega arith))))
+        ⊎_elim (λ l. d.done x l) (λ l. d.rest x l ∙ sym (kept_at_zero x (omega (arith, next_most r j k h n)) (zero_behind r j x l (omega arith))))
         (lt_or_ge x j);
     rest = λ x m. d.rest x (omega arith);
   }
@@ -167,7 +167,8 @@ module _ (q : ℤ) (r v : List ℤ) (a : Addable v r) where
       → (x : ℕ) → x < k → nat_abs (entry x (plus q r v)) ≤ M
   small_next j k h n s x m =
       ⊎_elim (λ l. s x l)
-      (λ l. rw (unchanged q r v a.long x (omega (arith, next_most r j k h n)) (zero_behind r j x l (omega arith))) (a.values_small x)) (lt_or_ge x j)
+      (λ l. rw (kept_at_zero q r v a.long x (omega (arith, next_most r j k h n)) (zero_behind r j x l (omega arith))) (a.values_small x))
+      (lt_or_ge x j)
 
   pub far_at : (j : ℕ) → j < length r → M < nat_abs (entry j v +ℤ q *ℤ entry j r) → Err Seating ≡ within (plus q r v)
   far_at j h l =

@@ -7,7 +7,8 @@ ghost use Rattle.whole.specs.Quotient.{floor_quotient, nearest_quotient};
 ghost use Rattle.whole.specs.BitLength.{bit_length};
 ghost use Rattle.whole.specs.Divisor as Divisor;
 
-// The quotient of e by a positive pivot, rounded down: the machine's, which cuts towards 0, less 1 where the remainder is below 0.
+// The quotient of e by a positive pivot, rounded down: the machine's, which cuts towards 0, less 1 where the remainder is below 0. It is not
+// `div_euclid`, whose proof would not go through `floor_by_machine`.
 pub fn floor_quotient(e: i64, p: i64) -> i64
     requires { pos 0 <ℤ p }
     ensures { result ≡ floor_quotient e p }
