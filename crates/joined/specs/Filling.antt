@@ -1,4 +1,5 @@
 -- The joined problem's lists as they are filled, number by number: what the loops in src/ carry out.
+--   Gives P f                   what a call of two numbers may give by P is what f makes of them
 --   taken f q a x               the number at a column's place by its partner q: x of an unshared one; of a shared one f a x
 --   absorb_into f l R S C       the second's numbers C, with the partners R, taken at the places S into the list l
 --   taken_ideal q g a x         so of ideals, where g is the first's mark
@@ -8,10 +9,15 @@
 --   AllBelow n S                every place of S lies before n
 -- Assumes nothing.
 use denote.Ref.{Bor, MutBor}
-use Rattle.std.specs.Prelude.{◌≡◌, cond, List, [], ◌∷◌, ℕ, ◌<◌, ℤ, length, get_or, set, Option, Some, None}
+use Rattle.std.specs.Prelude.{◌≡◌, cond, List, [], ◌∷◌, ℕ, ◌<◌, ℤ, length, get_or, set, FitsSigned, Option, Some, None}
+use Rattle.std.specs.Int.{w64}
 use Rattle.whole.specs.Lists.{entry}
 use Rattle.whole.specs.Tests.{is_zero}
 use Rattle.joined.specs.Columns.{set_first}
+
+-- a call's arguments and its result are numbers of 64 bits
+abbrev pub Gives : (ℤ → ℤ → ℤ → Type 0) → (ℤ → ℤ → ℤ) → Type 0
+Gives P f = (a b r : ℤ) → FitsSigned w64 a → FitsSigned w64 b → P a b r → r ≡ f a b
 
 abbrev pub taken : (ℤ → ℤ → ℤ) → Option ℕ → ℤ → ℤ → ℤ
 taken f None a x = x

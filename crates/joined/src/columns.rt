@@ -3,7 +3,7 @@ ghost use Rattle.std.specs.Prelude.{◌≡◌, ◌++◌, ◌≤◌, ◌+◌, ℤ
 ghost use Rattle.pairing.specs.Pairs.{larger, smaller};
 ghost use Rattle.joined.specs.Columns.{goal_by, goal_of, set_first, places_from};
 ghost use Rattle.joined.specs.Columns as Columns;
-ghost use Rattle.joined.specs.Filling.{absorb_into, absorb_ideals, AllBelow};
+ghost use Rattle.joined.specs.Filling.{absorb_into, absorb_ideals, AllBelow, Gives};
 
 use whole::buffers::copy;
 
@@ -138,8 +138,8 @@ impl Rule for Given {
     }
 }
 
-// The second's numbers of one list, taken at their columns' places.
-fn absorb_list<R: Rule>(out: &mut [i64], list: &[i64], seats: Seats<'_>)
+// The second's numbers of one list, taken at their columns' places by a rule.
+fn absorb_by_rule<R: Rule>(out: &mut [i64], list: &[i64], seats: Seats<'_>)
     requires partners_len { length seats.partners.now ≡ length list.now }
     requires columns_in_bounds { seats.columns ≤ length out.old }
     ensures { out.new ≡ absorb_into R.of_two out.old seats.entry.partners.now seats.entry.places.now list.now }
@@ -156,7 +156,7 @@ fn absorb_list<R: Rule>(out: &mut [i64], list: &[i64], seats: Seats<'_>)
 
 // One list of the joined columns: the first's numbers, then the second's taken at their columns' places. A shared column takes what the rule makes
 // of its two numbers.
-pub fn join_list<R: Rule>(out: &mut [i64], first: &[i64], second: &[i64], seats: Seats<'_>)
+pub fn join_by_rule<R: Rule>(out: &mut [i64], first: &[i64], second: &[i64], seats: Seats<'_>)
     requires first_in_bounds { length first.now ≤ length out.old }
     requires partners_len { length seats.partners.now ≡ length second.now }
     requires columns_in_bounds { seats.columns ≤ length out.old }
@@ -164,7 +164,45 @@ pub fn join_list<R: Rule>(out: &mut [i64], first: &[i64], second: &[i64], seats:
         seats.entry.partners.now seats.entry.places.now second.now }
 {
     copy(&mut out[..first.len()], first);
-    absorb_list::<R>(out, second, seats);
+    absorb_by_rule::<R>(out, second, seats);
+}
+
+// The second's numbers of one list, taken at their columns' places by a function.
+fn absorb_list<F: Fn(i64, i64) -> i64>(combine: F, out: &mut [i64], list: &[i64], seats: Seats<'_>)
+    requires callable { F.IsAlwaysCallable combine }
+    requires partners_len { length seats.partners.now ≡ length list.now }
+    requires columns_in_bounds { seats.columns ≤ length out.old }
+    ensures { (g : ℤ → ℤ → ℤ) → Gives (F.post combine) g → out.new ≡ absorb_into g out.old seats.entry.partners.now seats.entry.places.now list.now }
+{
+    for (j, x) in list.iter().enumerate() {
+        let p = seats.places[j];
+        out[p] = if seats.partners[j].is_some() {
+            combine(out[p], *x)
+        } else {
+            *x
+        };
+    }
+}
+
+// One list as `join_by_rule` joins it, where a shared column takes what a function of the caller's makes of its two numbers. It is for rules that are
+// no type, as one that goes by a number which its caller holds; who has a type joins by that, and proves nothing of it. No call for C comes here, so
+// that the library copies.
+pub fn join_list<F: Fn(i64, i64) -> i64>(
+    combine: F,
+    out: &mut [i64],
+    first: &[i64],
+    second: &[i64],
+    seats: Seats<'_>,
+)
+    requires callable { F.IsAlwaysCallable combine }
+    requires first_in_bounds { length first.now ≤ length out.old }
+    requires partners_len { length seats.partners.now ≡ length second.now }
+    requires columns_in_bounds { seats.columns ≤ length out.old }
+    ensures { (g : ℤ → ℤ → ℤ) → Gives (F.post combine) g
+        → out.new ≡ absorb_into g (first.now ++ drop (length first.now) out.old) seats.entry.partners.now seats.entry.places.now second.now }
+{
+    out[..first.len()].copy_from_slice(first);
+    absorb_list(combine, out, second, seats);
 }
 
 // The second's ideals and their marks, taken at their columns' places.
@@ -215,4 +253,32 @@ pub fn join_ideals(
     copy(&mut given[..given1.len()], given1);
     copy(&mut ideals[..ideals1.len()], ideals1);
     absorb_ideals(given, ideals, given2, ideals2, seats);
+}
+
+#[cfg(test)]
+mod tests {
+    use super::*;
+
+    // A rule that goes by a number which is held here: where the first has that number, the second's is taken.
+    #[test]
+    fn joins_by_a_function(rt: HostRuntime) {
+        let seats = Seats {
+            partners: &[Some(0), None, Some(2)],
+            places: &[0, 3, 2],
+            columns: 4,
+        };
+        for (unset, want) in [(7, [40, 2, 3, 50]), (3, [7, 2, 60, 50])] {
+            let mut out = [9; 4];
+            let first = [7, 2, 3];
+            let second = [40, 50, 60];
+            join_list(
+                |a, b| if a == unset { b } else { a },
+                &mut out,
+                &first,
+                &second,
+                seats,
+            );
+            assert_eq!(rt; out, want, "at {unset}");
+        }
+    }
 }

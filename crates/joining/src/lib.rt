@@ -12,7 +12,7 @@ ghost use Rattle.joining.specs.Join.{left};
 ghost use Rattle.joining.specs.Join as Join;
 
 use joined::columns::{
-    High, Low, Lower, Seats, Upper, fill_places, join_ideals, join_list, unshared,
+    High, Low, Lower, Seats, Upper, fill_places, join_by_rule, join_ideals, unshared,
 };
 use joined::rows::{join_rights, join_rows};
 use pairing::pairs::pair_up;
@@ -67,10 +67,10 @@ fn fill(first: Part<'_>, second: Part<'_>, seats: Seats<'_>, out: &mut ListsMut<
     let b = second.lists;
     join_rows(out.coefficients, first, second, seats.places, seats.columns);
     join_rights(out.rights, a.rights, b.rights);
-    join_list::<Lower>(out.lower, a.lower, b.lower, seats);
-    join_list::<Upper>(out.upper, a.upper, b.upper, seats);
-    join_list::<Low>(out.low, a.low, b.low, seats);
-    join_list::<High>(out.high, a.high, b.high, seats);
+    join_by_rule::<Lower>(out.lower, a.lower, b.lower, seats);
+    join_by_rule::<Upper>(out.upper, a.upper, b.upper, seats);
+    join_by_rule::<Low>(out.low, a.low, b.low, seats);
+    join_by_rule::<High>(out.high, a.high, b.high, seats);
     join_ideals(
         out.given, out.ideals, a.given, a.ideals, b.given, b.ideals, seats,
     );

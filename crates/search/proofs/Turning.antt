@@ -7,7 +7,7 @@
 --   ready_turnable        ready columns can be ranked in the part that is reached
 --   ranked_few, -allowed, -order   a ranking of that part can be searched
 --   turned                the step along the ranking is the next step
---   arranged_none, -next   what is kept at first, and after a step
+--   arranged_bounds, -none, -next   what is kept of the bounds part, at first, and after a step
 --   arranged_listed       in the goals part that has its columns
 -- Assumes nothing.
 use mathlib.Core.Path.{◌≡◌, refl, sym, ◌∙◌, ap, ap₂, subst}
@@ -204,16 +204,19 @@ goals_stay C N v i o e g =
         subst (λ (p : Part). is_allowed p (cell C (moved N o v) j) ≡ true) g (taken_allowed (part_of C v) C N v i o (next_taken C N v i o e) j h)
 
 -- ---- what is kept
-pub arranged_none : (T : List Column) (v : List ℤ) (x : Ranking) → Unranked x → Arranged T v x
-arranged_none T v x u = record {
-  long = u.long;
+pub arranged_bounds : (T : List Column) (v : List ℤ) (x : Ranking) → x.part ≡ Bounds → length x.order ≡ max_columns → Arranged T v x
+arranged_bounds T v x b l = record {
+  long = l;
   part = λ e. absurd (apart e);
   few = λ e. absurd (apart e);
   columns = λ e. absurd (apart e);
 }
   where
     apart : x.part ≡ Goals → ⊥
-    apart e = let b : x.part ≡ Bounds = u.part in never (cc)
+    apart e = let p : x.part ≡ Bounds = b in never (cc)
+
+pub arranged_none : (T : List Column) (v : List ℤ) (x : Ranking) → Unranked x → Arranged T v x
+arranged_none T v x u = arranged_bounds T v x u.part u.long
 
 pub arranged_listed : (T : List Column) (v : List ℤ) (x : Ranking) → Arranged T v x → x.part ≡ Goals
     → (x.part ≡ part_of (columns_in (length v) T) v) × Gathered T v x

@@ -10,7 +10,7 @@
 use mathlib.Core.Path.{◌≡◌, refl, sym, ◌∙◌, ap, ap₂}
 use mathlib.Core.Bool.{false, true}
 use mathlib.Core.List.{List}
-use Prim.Native.Nat.{ℕ, ◌+◌, ◌-◌, ◌*◌, ◌<◌, ◌≤◌}
+use Prim.Native.Nat.{ℕ, zero, suc, ◌+◌, ◌-◌, ◌*◌, ◌<◌, ◌≤◌}
 use native.Mathlib.Omega.{arith}
 use lib.IntN.{ℤ}
 use lib.ListN.{length, drop}
@@ -40,6 +40,12 @@ columns_start t₀ n w l s = record {
   few = omega arith;
 }
 
+-- there is no choice where no row is left
+some_left : {j p : ℕ} (c m w : ℕ) (t : List ℤ) → at j p ≡ choose c (chop m w t) → 0 < m
+unfolding choose
+some_left c zero w t e = let z : ◌≡◌ {A = ℕ} 0 1 = cc in absurd (omega arith)
+some_left c (suc m) w t e = omega arith
+
 module _ {t₀ t : List ℤ} {n w count k c : ℕ} (v : Columns t₀ n w t count k c) (h : c < w) where
   -- one column less is left
   less : w - (c + 1) ≡ w - c - 1
@@ -54,8 +60,8 @@ module _ {t₀ t : List ℤ} {n w count k c : ℕ} (v : Columns t₀ n w t count
     few = omega (arith, v.few);
   }
 
-  pub next_picked : {j p : ℕ} → (k ≡ n → ⊥) → at j p ≡ choose c (below_of n w k t) → Picked (n - k) w c (drop (k * w) t) j
-  next_picked r e = picked_of (tail_of v.stands h) (omega (arith, v.stands.most, r)) (sym e)
+  pub next_picked : {j p : ℕ} → at j p ≡ choose c (below_of n w k t) → Picked (n - k) w c (drop (k * w) t) j
+  next_picked e = picked_of (tail_of v.stands h) (some_left c (n - k) w (drop (k * w) t) e) (sym e)
 
   pub next_over : (passed_of n w c k t).over ≡ true → (eliminate w (chop n w t₀)).over ≡ true
   next_over e = ap (λ (x : Run). x.over) (sym v.rest) ∙ columns_over (w - c) c (above_of w k t) (below_of n w k t) (omega arith) e

@@ -6,19 +6,17 @@ use Rattle.joined.proofs.columns.absorb_list.Goals.{then-is_some, else-is_some}
 use Rattle.joined.proofs.columns.absorb_list.Goals as goal
 
 pub loop-j-preserved : goal.loop-j-preserved
-loop-j-preserved g c =
+loop-j-preserved g c f k =
     let a = c.args in
-    let f = g.R.Rule.of_two in
     absorb_step f a.seats.partners.now a.seats.places.now a.list.now c.loop-j.out c.loop-j.j _ (omega arith) (omega arith) (omega arith)
     (elim c.if-is_some.branch [
-      | then-is_some w ↦ w.out-is ∙ back w.combine.result w.combine.type_inv ∙ w.combine.ensures
+      | then-is_some w ↦ w.out-is ∙ back w.combine.result w.combine.type_inv ∙ k _ _ _ (search rules) (search rules) w.combine.ensures
           ∙ ap₂ f (back _ (search rules)) (back _ (search rules)) ∙ taken_shared f _ _ _ (sym c.is_some.ensures ∙ w.if-is_some.true)
       | else-is_some w ↦ w.out-is ∙ back _ (search rules) ∙ taken_alone f _ _ _ (sym c.is_some.ensures ∙ w.if-is_some.false)
     ])
-    ∙ c.loop-j.invariant
+    ∙ c.loop-j.invariant f k
 
 pub returns : goal.returns
-returns g c =
-    let f = g.R.Rule.of_two in
+returns g c f k =
     sym (absorb_end f c.args.seats.partners.now c.args.seats.places.now c.args.list.now c.loop-j.out c.loop-j.j (omega arith))
-    ∙ c.loop-j.invariant
+    ∙ c.loop-j.invariant f k

@@ -44,7 +44,7 @@ pass-requires c =
     rw c.loop-c.auto.pivot record {
       standing = v.stands;
       c_in_bounds = c.loop-c-test.true;
-      picked = next_picked v c.loop-c-test.true c.if-k-rows.false e.is;
+      picked = next_picked v c.loop-c-test.true e.is;
       chooses = e;
     }
 
@@ -75,7 +75,7 @@ loop-c-preserved c =
           let e = rw (tail_is at c.loop-c.t) at w.in-Some.ensures in
           let o = rw c.loop-c.auto.pivot at w.in_ok-count.ensures in
           rw (w.t-is, w.count-is, w.k-is, o.rounds_value)
-          (next_passed v h (next_picked v h c.if-k-rows.false e.is) o.stops_run.0 o.stops_run.1 w.pass.auto.t)
+          (next_passed v h (next_picked v h e.is) o.stops_run.0 o.stops_run.1 w.pass.auto.t)
       | in_default w ↦
           let e = rw (tail_is at c.loop-c.t) at c.choose.ensures in
           rw (w.t-is, w.count-is, w.k-is) (next_skipped v h (sym e.is ∙ ap choice_of w.in_default.is))
